@@ -1,5 +1,6 @@
 -- Whether a text begins with some form is decided by trying all its values.
-use Rattle.std.proofs.Common.{◌≡◌, ℕ, zero, suc, ◌+◌, ◌<◌, ◌≤◌, ◌⊎◌, List, [], ◌∷◌, ◌++◌, length, get_or, take, Contains, subst, refl, sym, ap, ◌∙◌, arith, inl, inr}
+use Rattle.std.proofs.Common.{◌≡◌, ℕ, zero, suc, ◌+◌, ◌<◌, ◌≤◌, ◌⊎◌, List, [], ◌∷◌, ◌++◌, length, get_or, take}
+use Rattle.std.proofs.Common.{Contains, subst, refl, sym, ap, ◌∙◌, arith, inl, inr}
 use Rattle.std.proofs.lemmas.Bool.{cases_lt, cases_eq}
 use Rattle.std.proofs.lemmas.List.{nil_from_length, get_or_at, length_push, take_all, take_more}
 use Rattle.std.proofs.lemmas.List.Elements.{All-nil, All-cons, All-head, All-tail}
@@ -38,20 +39,28 @@ below (suc n) P each =
       ]
     ]
 
-no_list : (count bound : ℕ) (P : List ℕ → Type 0) → ((n : ℕ) × (n < bound) × ((ns : List ℕ) × AreNumbers count bound ns × P (n ∷ ns)) → ⊥) → (ns : List ℕ) → AreNumbers (suc count) bound ns → P ns → ⊥
+no_list : (count bound : ℕ) (P : List ℕ → Type 0)
+    → ((n : ℕ) × (n < bound) × ((ns : List ℕ) × AreNumbers count bound ns × P (n ∷ ns)) → ⊥) → (ns : List ℕ)
+    → AreNumbers (suc count) bound ns → P ns → ⊥
 no_list count bound P none [] are p = omega (arith, are.0)
 no_list count bound P none (n ∷ ns) are p =
-    none (n, All-head (λ k. k < bound) n ns are.1, (ns, (omega (arith, are.0), All-tail (λ k. k < bound) n ns are.1), p))
+    none (
+      n,
+      All-head (λ k. k < bound) n ns are.1,
+      (ns, (omega (arith, are.0), All-tail (λ k. k < bound) n ns are.1), p),
+    )
 
 -- whether some list of `count` numbers below a bound has a property
-pub lists : (count bound : ℕ) (P : List ℕ → Type 0) → ((ns : List ℕ) → Decided (P ns)) → Decided ((ns : List ℕ) × AreNumbers count bound ns × P ns)
+pub lists : (count bound : ℕ) (P : List ℕ → Type 0) → ((ns : List ℕ) → Decided (P ns))
+    → Decided ((ns : List ℕ) × AreNumbers count bound ns × P ns)
 lists zero bound P each =
     elim (each []) [
       | inl p ↦ inl ([], (refl, All-nil (λ k. k < bound)), p)
       | inr never ↦ inr (λ h. never (subst P (nil_from_length h.0 h.1.0) h.2))
     ]
 lists (suc count) bound P each =
-    elim (below bound (λ n. (ns : List ℕ) × AreNumbers count bound ns × P (n ∷ ns)) (λ n. lists count bound (λ ns. P (n ∷ ns)) (λ ns. each (n ∷ ns)))) [
+    elim (below bound (λ n. (ns : List ℕ) × AreNumbers count bound ns × P (n ∷ ns))
+    (λ n. lists count bound (λ ns. P (n ∷ ns)) (λ ns. each (n ∷ ns)))) [
       | inl h ↦ inl (h.0 ∷ h.2.0, (omega (arith, h.2.1.0), All-cons (λ k. k < bound) h.0 h.2.0 h.1 h.2.1.1), h.2.2)
       | inr none ↦ inr (λ h. no_list count bound P none h.0 h.1 h.2)
     ]
@@ -76,24 +85,32 @@ pub record Stands (X : Type 0) (P : X → Type 0) (form : X → List ℕ) (text 
   pub is : P value
   pub spelled : text ≡ form value ++ more
 
-pub number_stands : (low high : ℕ) (form : ℕ → List ℕ) (text : List ℕ) → Stands ℕ (InRange low high) form text ⊎ Lacks (InRange low high) form text
+pub number_stands : (low high : ℕ) (form : ℕ → List ℕ) (text : List ℕ)
+    → Stands ℕ (InRange low high) form text ⊎ Lacks (InRange low high) form text
 number_stands low high form text =
-    elim (below (high + 1) (λ n. (low ≤ n) × ((more : List ℕ) × (text ≡ form n ++ more))) (λ n. both (low ≤ n) ((more : List ℕ) × (text ≡ form n ++ more)) (at_most low n) (begins (form n) text))) [
+    elim (below (high + 1) (λ n. (low ≤ n) × ((more : List ℕ) × (text ≡ form n ++ more)))
+    (λ n. both (low ≤ n) ((more : List ℕ) × (text ≡ form n ++ more)) (at_most low n) (begins (form n) text))) [
       | inl h ↦ inl (record { value = h.0; more = h.2.1.0; is = (h.2.0, omega (arith, h.1)); spelled = h.2.1.1 })
       | inr none ↦ inr (λ n more is e. none (n, omega (arith, is.1), (is.0, (more, e))))
     ]
 
-pub start_stands : (version labels pebbles : ℕ) (text : List ℕ) → Stands (List ℕ) (IsStart version labels pebbles) (start_line labels) text ⊎ Lacks (IsStart version labels pebbles) (start_line labels) text
+pub start_stands : (version labels pebbles : ℕ) (text : List ℕ)
+    → Stands (List ℕ) (IsStart version labels pebbles) (start_line labels) text
+    ⊎ Lacks (IsStart version labels pebbles) (start_line labels) text
 start_stands version labels pebbles text =
-    elim (lists pebbles (labels + 1) (λ ns. (version_of labels ns ≡ version) × ((more : List ℕ) × (text ≡ start_line labels ns ++ more)))
-    (λ ns. both (version_of labels ns ≡ version) ((more : List ℕ) × (text ≡ start_line labels ns ++ more)) (cases_eq (version_of labels ns) version) (begins (start_line labels ns) text))) [
+    elim (lists pebbles (labels + 1)
+    (λ ns. (version_of labels ns ≡ version) × ((more : List ℕ) × (text ≡ start_line labels ns ++ more)))
+    (λ ns. both (version_of labels ns ≡ version) ((more : List ℕ) × (text ≡ start_line labels ns ++ more))
+    (cases_eq (version_of labels ns) version) (begins (start_line labels ns) text))) [
       | inl h ↦ inl (record { value = h.0; more = h.2.1.0; is = (h.1, h.2.0); spelled = h.2.1.1 })
       | inr none ↦ inr (λ ns more is e. none (ns, is.0, (is.1, (more, e))))
     ]
 
-pub pair_stands : (labels : ℕ) (form : ℕ × ℕ → List ℕ) (text : List ℕ) → Stands (ℕ × ℕ) (AreLabels labels) form text ⊎ Lacks (AreLabels labels) form text
+pub pair_stands : (labels : ℕ) (form : ℕ × ℕ → List ℕ) (text : List ℕ)
+    → Stands (ℕ × ℕ) (AreLabels labels) form text ⊎ Lacks (AreLabels labels) form text
 pair_stands labels form text =
-    elim (below labels (λ x. (y : ℕ) × (y < labels) × ((more : List ℕ) × (text ≡ form (x, y) ++ more))) (λ x. below labels (λ y. (more : List ℕ) × (text ≡ form (x, y) ++ more)) (λ y. begins (form (x, y)) text))) [
+    elim (below labels (λ x. (y : ℕ) × (y < labels) × ((more : List ℕ) × (text ≡ form (x, y) ++ more)))
+    (λ x. below labels (λ y. (more : List ℕ) × (text ≡ form (x, y) ++ more)) (λ y. begins (form (x, y)) text))) [
       | inl h ↦ inl (record { value = (h.0, h.2.0); more = h.2.2.0; is = (h.1, h.2.1); spelled = h.2.2.1 })
       | inr none ↦ inr (λ p more are e. none (p.0, are.0, (p.1, are.1, (more, e))))
     ]
@@ -133,10 +150,12 @@ precedes p q =
 same_last : (xs ys : List (ℕ × ℕ)) (p q : ℕ × ℕ) → xs ++ p ∷ [] ≡ ys ++ q ∷ [] → p ≡ q
 same_last xs ys p q e =
     let len : length ys ≡ length xs = omega (arith, ap length e, length_push xs p, length_push ys q) in
-    sym (get_or_at xs p [] p (length xs) refl) ∙ ap (λ (ps : List (ℕ × ℕ)). get_or ps (length xs) p) e ∙ get_or_at ys q [] p (length xs) len
+    sym (get_or_at xs p [] p (length xs) refl) ∙ ap (λ (ps : List (ℕ × ℕ)). get_or ps (length xs) p) e
+    ∙ get_or_at ys q [] p (length xs) len
 
 no_end : (before : List (ℕ × ℕ)) (last : ℕ × ℕ) → [] ≡ before ++ last ∷ [] → ⊥
-no_end before last e = let len : 0 ≡ length (before ++ last ∷ []) = ap length e in omega (arith, len, length_push before last)
+no_end before last e =
+    let len : 0 ≡ length (before ++ last ∷ []) = ap length e in omega (arith, len, length_push before last)
 
 -- whether a pair comes after these
 pub next : (pairs : List (ℕ × ℕ)) (p : ℕ × ℕ) → Decided (IsNext pairs p)
@@ -144,8 +163,10 @@ next [] p = inl (λ before last e. absurd (no_end before last e))
 next (q ∷ pairs) p =
     let n = length pairs in
     let all = q ∷ pairs in
-    let ends : all ≡ take n all ++ get_or all n q ∷ [] = sym (take_all (n + 1) all (omega arith)) ∙ take_more all n q (omega arith) in
+    let ends : all ≡ take n all ++ get_or all n q ∷ [] =
+    sym (take_all (n + 1) all (omega arith)) ∙ take_more all n q (omega arith) in
     elim (precedes (get_or all n q) p) [
-      | inl lt ↦ inl (λ before last e. subst (λ (r : ℕ × ℕ). Precedes r p) (same_last (take n all) before (get_or all n q) last (sym ends ∙ e)) lt)
+      | inl lt ↦ inl (λ before last e. subst (λ (r : ℕ × ℕ). Precedes r p)
+          (same_last (take n all) before (get_or all n q) last (sym ends ∙ e)) lt)
       | inr never ↦ inr (λ h. never (h (take n all) (get_or all n q) ends))
     ]

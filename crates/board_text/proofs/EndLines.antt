@@ -1,5 +1,6 @@
 -- After its pairs a text has the line `end` or a fault, and one reading.
-use Rattle.std.proofs.Common.{◌≡◌, ◌≢◌, ℕ, ◌+◌, ◌≤◌, List, [], ◌∷◌, ◌++◌, length, Contains, subst, refl, sym, ap, ◌∙◌, arith, inl, inr}
+use Rattle.std.proofs.Common.{◌≡◌, ◌≢◌, ℕ, ◌+◌, ◌≤◌, List, [], ◌∷◌, ◌++◌, length, Contains, subst, refl, sym, ap, ◌∙◌}
+use Rattle.std.proofs.Common.{arith, inl, inr}
 use Rattle.std.proofs.lemmas.List.{append_cancel_left}
 use Rattle.std.proofs.lemmas.List.Elements.{All-contains, Contains-append_left}
 use Rattle.board_text.specs.LineForms.{Lacks}
@@ -7,7 +8,8 @@ use Rattle.board_text.specs.PlainBoard.{PlainBoard, ArePairs, AreLabels, IsNext}
 use Rattle.board_text.specs.BoardText.{beats_line, end_line}
 use Rattle.board_text.specs.BoardFaults.{NotEnd, IsCut, PairFault}
 use Rattle.board_text.specs.declared.fault.BoardKind.{BoardKind}
-use Rattle.board_text.specs.declared.fault.BoardKind.TheVariants.{Version, Labels, Pebbles, Start, Beats, SelfBeat, TwoWay, Order, End, Trailing, Memory}
+use Rattle.board_text.specs.declared.fault.BoardKind.TheVariants.{Version, Labels, Pebbles, Start, Beats, SelfBeat}
+use Rattle.board_text.specs.declared.fault.BoardKind.TheVariants.{TwoWay, Order, End, Trailing, Memory}
 use Rattle.board_text.specs.declared.board.TheConstants.{MAX_LABELS}
 use Rattle.board_text.proofs.BeatsLines.{same_line, not_end, not_cut, not_nothing, next_contained, is_next}
 
@@ -31,8 +33,10 @@ Behind b (c ∷ more) found = found ≡ fault (6 + length b.pairs) Trailing
 pub data Ending (b : PlainBoard) (rest : List ℕ) (found : Finding) : Type 0 where
   at_end : (more : List ℕ) → rest ≡ end_line ++ more → Behind b more found → Ending b rest found
   at_cut : NotEnd rest → IsCut rest → found ≡ fault (5 + length b.pairs) End → Ending b rest found
-  at_other : (IsCut rest → ⊥) → NotEnd rest → Lacks (AreLabels b.labels) beats_line rest → found ≡ fault (5 + length b.pairs) Beats → Ending b rest found
-  at_pair : (p : ℕ × ℕ) (more : List ℕ) (kind : BoardKind) → AreLabels b.labels p → rest ≡ beats_line p ++ more → Unfit b.pairs p kind → found ≡ fault (5 + length b.pairs) kind → Ending b rest found
+  at_other : (IsCut rest → ⊥) → NotEnd rest → Lacks (AreLabels b.labels) beats_line rest
+      → found ≡ fault (5 + length b.pairs) Beats → Ending b rest found
+  at_pair : (p : ℕ × ℕ) (more : List ℕ) (kind : BoardKind) → AreLabels b.labels p → rest ≡ beats_line p ++ more
+      → Unfit b.pairs p kind → found ≡ fault (5 + length b.pairs) kind → Ending b rest found
 
 -- ---- one reading
 
@@ -47,7 +51,8 @@ same_unfit pairs p k j (low e h g f) (itself e' f') = absurd (e e')
 same_unfit pairs p k j (low e h g f) (back e' h' f') = absurd (h h')
 same_unfit pairs p k j (low e h g f) (low e' h' g' f') = f ∙ sym f'
 
-same_behind : (b : PlainBoard) (more other : List ℕ) (v w : Finding) → more ≡ other → Behind b more v → Behind b other w → v ≡ w
+same_behind : (b : PlainBoard) (more other : List ℕ) (v w : Finding) → more ≡ other → Behind b more v → Behind b other w
+    → v ≡ w
 same_behind b [] [] v w e p q = p ∙ sym q
 same_behind b [] (c ∷ more) v w e p q = cc
 same_behind b (c ∷ more) [] v w e p q = cc
@@ -57,8 +62,10 @@ pub is_cut_pair : (p : ℕ × ℕ) (rest more : List ℕ) → rest ≡ beats_lin
 is_cut_pair p rest more e (inl none) = not_nothing p more (sym e ∙ none)
 is_cut_pair p rest more e (inr letter) = not_cut p more letter.0 (sym e ∙ letter.1)
 
-pub one_ending : (b : PlainBoard) (rest : List ℕ) (v w : Finding) → b.labels ≤ MAX_LABELS → Ending b rest v → Ending b rest w → v ≡ w
-one_ending b rest v w few (at_end more e h) (at_end other f g) = same_behind b more other v w (append_cancel_left end_line more other (sym e ∙ f)) h g
+pub one_ending : (b : PlainBoard) (rest : List ℕ) (v w : Finding) → b.labels ≤ MAX_LABELS → Ending b rest v
+    → Ending b rest w → v ≡ w
+one_ending b rest v w few (at_end more e h) (at_end other f g) =
+    same_behind b more other v w (append_cancel_left end_line more other (sym e ∙ f)) h g
 one_ending b rest v w few (at_end more e h) (at_cut not c g) = absurd (not tt more tt e)
 one_ending b rest v w few (at_end more e h) (at_other whole not l g) = absurd (not tt more tt e)
 one_ending b rest v w few (at_end more e h) (at_pair p after k are f u g) = absurd (not_end p after more (sym f ∙ e))
@@ -79,24 +86,33 @@ one_ending b rest v w few (at_pair p after k are f u h) (at_pair q after' j are'
     h ∙ ap (λ (i : BoardKind). fault (5 + length b.pairs) i) same ∙ sym g
 
 -- a pair that can't follow these isn't the next pair of a board
-fits : (labels : ℕ) (pairs more : List (ℕ × ℕ)) (p : ℕ × ℕ) (kind : BoardKind) → ArePairs labels (pairs ++ p ∷ more) → Unfit pairs p kind → ⊥
+fits : (labels : ℕ) (pairs more : List (ℕ × ℕ)) (p : ℕ × ℕ) (kind : BoardKind) → ArePairs labels (pairs ++ p ∷ more)
+    → Unfit pairs p kind → ⊥
 fits labels pairs more p kind are (itself e f) =
     let here = next_contained pairs more p in
-    are.one_way p.0 p.0 (subst (λ (y : ℕ). Contains (pairs ++ p ∷ more) (p.0, y)) (sym e) here) (subst (λ (y : ℕ). Contains (pairs ++ p ∷ more) (p.0, y)) (sym e) here)
-fits labels pairs more p kind are (back e h f) = are.one_way p.0 p.1 (next_contained pairs more p) (Contains-append_left pairs (p ∷ more) (p.1, p.0) h)
+    are.one_way p.0 p.0 (subst (λ (y : ℕ). Contains (pairs ++ p ∷ more) (p.0, y)) (sym e) here)
+    (subst (λ (y : ℕ). Contains (pairs ++ p ∷ more) (p.0, y)) (sym e) here)
+fits labels pairs more p kind are (back e h f) =
+    are.one_way p.0 p.1 (next_contained pairs more p) (Contains-append_left pairs (p ∷ more) (p.1, p.0) h)
 fits labels pairs more p kind are (low e h g f) = g (is_next pairs more p are.ascending)
 
-pub no_more : (b : PlainBoard) (rest : List ℕ) (found : Finding) (p : ℕ × ℕ) (pairs : List (ℕ × ℕ)) (more : List ℕ) → b.labels ≤ MAX_LABELS → ArePairs b.labels (b.pairs ++ p ∷ pairs) → rest ≡ beats_line p ++ more → Ending b rest found → ⊥
+pub no_more : (b : PlainBoard) (rest : List ℕ) (found : Finding) (p : ℕ × ℕ) (pairs : List (ℕ × ℕ)) (more : List ℕ)
+    → b.labels ≤ MAX_LABELS → ArePairs b.labels (b.pairs ++ p ∷ pairs) → rest ≡ beats_line p ++ more
+    → Ending b rest found → ⊥
 no_more b rest found p pairs more few are e (at_end behind f h) = not_end p more behind (sym e ∙ f)
 no_more b rest found p pairs more few are e (at_cut not c h) = is_cut_pair p rest more e c
-no_more b rest found p pairs more few are e (at_other whole not l h) = l p more (All-contains (AreLabels b.labels) (b.pairs ++ p ∷ pairs) p are.of_labels (next_contained b.pairs pairs p)) e
+no_more b rest found p pairs more few are e (at_other whole not l h) =
+    l p more (All-contains (AreLabels b.labels) (b.pairs ++ p ∷ pairs) p are.of_labels
+    (next_contained b.pairs pairs p)) e
 no_more b rest found p pairs more few are e (at_pair q after k are_q f u h) =
-    let are_p : AreLabels b.labels p = All-contains (AreLabels b.labels) (b.pairs ++ p ∷ pairs) p are.of_labels (next_contained b.pairs pairs p) in
+    let are_p : AreLabels b.labels p =
+    All-contains (AreLabels b.labels) (b.pairs ++ p ∷ pairs) p are.of_labels (next_contained b.pairs pairs p) in
     let s = same_line b.labels q p after more (omega arith) are_q are_p (sym f ∙ e) in
     fits b.labels b.pairs pairs p k are (subst (λ (r : ℕ × ℕ). Unfit b.pairs r k) s.0 u)
 
 -- a fault of the pairs is such an ending
-pub pair_ending : (b : PlainBoard) (rest : List ℕ) (kind : BoardKind) → PairFault b.labels b.pairs rest kind → Ending b rest (fault (5 + length b.pairs) kind)
+pub pair_ending : (b : PlainBoard) (rest : List ℕ) (kind : BoardKind) → PairFault b.labels b.pairs rest kind
+    → Ending b rest (fault (5 + length b.pairs) kind)
 pair_ending b rest End h = at_cut h.0 h.1 refl
 pair_ending b rest Beats h = at_other h.1 h.0 h.2 refl
 pair_ending b rest SelfBeat h = at_pair (h.0, h.0) h.1.1 SelfBeat h.1.0 h.1.2 (itself refl refl) refl

@@ -1,5 +1,6 @@
 -- The digits of numbers, one by one.
-use Rattle.std.proofs.Common.{◌≡◌, ℕ, ◌+◌, ◌/◌, ◌%◌, ◌^◌, ◌<◌, ◌≤◌, ◌⊎◌, inl, inr, append_assoc, Result, Ok, Err, OnOk, List, [], ◌∷◌, ◌++◌, map, get_or, sym, ap, refl, ◌∙◌, arith}
+use Rattle.std.proofs.Common.{◌≡◌, ℕ, ◌+◌, ◌/◌, ◌%◌, ◌^◌, ◌<◌, ◌≤◌, ◌⊎◌, inl, inr, append_assoc, Result, Ok, Err, OnOk}
+use Rattle.std.proofs.Common.{List, [], ◌∷◌, ◌++◌, map, get_or, sym, ap, refl, ◌∙◌, arith}
 use Rattle.std.specs.Fmt.{decimal, digits}
 use Rattle.std.specs.List.{range_with_len}
 use Rattle.std.specs.Int.Digits.{digits_of}
@@ -38,24 +39,30 @@ digits_pushed n text spaced hundreds tens whole small space (inl (many, first)) 
     let digits : decimal n ≡ (48 + n / 100) ∷ (48 + n / 10 % 10) ∷ (48 + n % 10) ∷ [] =
     decimal_more n several (omega (arith, small))
     ∙ ap (λ (ds : List ℕ). ds ++ (48 + n % 10) ∷ []) (decimal_more (n / 10) (omega (arith, many)) (omega (arith, small))
-    ∙ ap (λ (ds : List ℕ). ds ++ (48 + n / 10 % 10) ∷ []) (ap decimal hundred ∙ decimal_one (n / 100) (omega (arith, small)))) in
-    last ∙ ap (λ (t : List ℕ). t ++ (48 + n % 10) ∷ []) (second ∙ ap (λ (t : List ℕ). t ++ (48 + n / 10 % 10) ∷ []) (first
+    ∙ ap (λ (ds : List ℕ). ds ++ (48 + n / 10 % 10) ∷ [])
+    (ap decimal hundred ∙ decimal_one (n / 100) (omega (arith, small)))) in
+    last ∙ ap (λ (t : List ℕ). t ++ (48 + n % 10) ∷ [])
+    (second ∙ ap (λ (t : List ℕ). t ++ (48 + n / 10 % 10) ∷ []) (first
     ∙ ap (λ (t : List ℕ). t ++ (48 + n / 100) ∷ []) space))
     ∙ append_assoc ((text ++ 32 ∷ []) ++ (48 + n / 100) ∷ []) ((48 + n / 10 % 10) ∷ []) ((48 + n % 10) ∷ [])
     ∙ append_assoc (text ++ 32 ∷ []) ((48 + n / 100) ∷ []) ((48 + n / 10 % 10) ∷ (48 + n % 10) ∷ [])
     ∙ append_assoc text (32 ∷ []) ((48 + n / 100) ∷ (48 + n / 10 % 10) ∷ (48 + n % 10) ∷ [])
     ∙ ap (λ (ds : List ℕ). text ++ 32 ∷ ds) (sym digits)
-digits_pushed n text spaced hundreds tens whole small space (inl (many, first)) (inr (few, second)) last = absurd (omega (arith, many, few))
+digits_pushed n text spaced hundreds tens whole small space (inl (many, first)) (inr (few, second)) last =
+    absurd (omega (arith, many, few))
 digits_pushed n text spaced hundreds tens whole small space (inr (less, first)) (inl (several, second)) last =
     let digits : decimal n ≡ (48 + n / 10 % 10) ∷ (48 + n % 10) ∷ [] =
     decimal_more n several (omega (arith, small))
-    ∙ ap (λ (ds : List ℕ). ds ++ (48 + n % 10) ∷ []) (ap decimal (omega (arith, less)) ∙ decimal_one (n / 10 % 10) (omega arith)) in
-    last ∙ ap (λ (t : List ℕ). t ++ (48 + n % 10) ∷ []) (second ∙ ap (λ (t : List ℕ). t ++ (48 + n / 10 % 10) ∷ []) (first ∙ space))
+    ∙ ap (λ (ds : List ℕ). ds ++ (48 + n % 10) ∷ [])
+    (ap decimal (omega (arith, less)) ∙ decimal_one (n / 10 % 10) (omega arith)) in
+    last ∙ ap (λ (t : List ℕ). t ++ (48 + n % 10) ∷ [])
+    (second ∙ ap (λ (t : List ℕ). t ++ (48 + n / 10 % 10) ∷ []) (first ∙ space))
     ∙ append_assoc (text ++ 32 ∷ []) ((48 + n / 10 % 10) ∷ []) ((48 + n % 10) ∷ [])
     ∙ append_assoc text (32 ∷ []) ((48 + n / 10 % 10) ∷ (48 + n % 10) ∷ [])
     ∙ ap (λ (ds : List ℕ). text ++ 32 ∷ ds) (sym digits)
 digits_pushed n text spaced hundreds tens whole small space (inr (less, first)) (inr (few, second)) last =
-    let digits : decimal n ≡ (48 + n % 10) ∷ [] = ap decimal (omega (arith, few)) ∙ decimal_one (n % 10) (omega arith) in
+    let digits : decimal n ≡ (48 + n % 10) ∷ [] =
+    ap decimal (omega (arith, few)) ∙ decimal_one (n % 10) (omega arith) in
     last ∙ ap (λ (t : List ℕ). t ++ (48 + n % 10) ∷ []) (second ∙ first ∙ space)
     ∙ append_assoc text (32 ∷ []) ((48 + n % 10) ∷ [])
     ∙ ap (λ (ds : List ℕ). text ++ 32 ∷ ds) (sym digits)

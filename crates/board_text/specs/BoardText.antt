@@ -27,7 +27,8 @@ end_line = with_line_feed (codes "end")
 abbrev pub board_text_before_end : PlainBoard → List ℕ
 board_text_before_end board =
     (version_line (version_of board.labels board.start) ++ (labels_line board.labels
-    ++ (pebbles_line board.pebbles ++ start_line board.labels board.start))) ++ flat_map beats_line board.pairs
+    ++ (pebbles_line board.pebbles ++ start_line board.labels board.start)))
+    ++ flat_map beats_line board.pairs
 
 -- the text of a board
 abbrev pub board_text : PlainBoard → List ℕ

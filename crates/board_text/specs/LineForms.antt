@@ -1,5 +1,5 @@
--- The forms of lines, words and numbers that a reader takes from the start of the bytes that are
--- left.
+-- The forms of lines, words and numbers that a reader takes
+-- from the start of the bytes that are left.
 use Rattle.std.specs.Prelude.{◌≡◌, ◌≢◌, ℕ, List, [], ◌∷◌, ◌++◌, Option, Some, None, slice_index}
 use Rattle.std.specs.Char.{IsAsciiDigit}
 use Rattle.std.specs.List.{flat_map}
@@ -37,5 +37,6 @@ NoDigit bytes = IsAsciiDigit (slice_index bytes 0) → ⊥
 
 -- A number was taken, with all digits that the bytes begin with: no digit comes after it.
 abbrev pub TakesNumber : ℕ → ℕ → Option ℕ → List ℕ → List ℕ → Type 0
-TakesNumber low high None old new = (n : ℕ) (more : List ℕ) → InRange low high n → NoDigit more → old ≢ decimal n ++ more
+TakesNumber low high None old new =
+    (n : ℕ) (more : List ℕ) → InRange low high n → NoDigit more → old ≢ decimal n ++ more
 TakesNumber low high (Some n) old new = InRange low high n × (old ≡ decimal n ++ new) × NoDigit new

@@ -19,7 +19,8 @@ IsNumberIn low high numeral n = (low ≤ n) × (n ≤ high) × (numeral ≡ Numb
 -- All the digits that the text begins with, one or more, were taken; nothing only if there is none.
 abbrev pub TakesNumeral : Option Numeral → List ℕ → List ℕ → Type 0
 TakesNumeral None old new = (digits more : List ℕ) → IsNumeral 10 digits → old ≢ digits ++ more
-TakesNumeral (Some numeral) old new = (digits : List ℕ) × IsNumeral 10 digits × (old ≡ digits ++ new) × NoDigit new × Says digits numeral
+TakesNumeral (Some numeral) old new = (digits : List ℕ) × IsNumeral 10 digits
+    × (old ≡ digits ++ new) × NoDigit new × Says digits numeral
 
 -- texts, each with a space before it
 abbrev pub spaced_texts : List (List ℕ) → List ℕ

@@ -1,6 +1,7 @@
--- Boards as plain data: labels, pebbles, the domination among labels, and the places where the
--- pebbles start.
-use Rattle.std.specs.Prelude.{◌≡◌, ℕ, ◌+◌, ◌<◌, ◌==◌, ◌⊎◌, if◌then◌else◌, Bool, List, [], ◌∷◌, ◌++◌, length, All, AllPairs, Contains}
+-- Boards as plain data: labels, pebbles, the domination among labels,
+-- and the places where the pebbles start.
+use Rattle.std.specs.Prelude.{◌≡◌, ℕ, ◌+◌, ◌<◌, ◌==◌, ◌⊎◌, if◌then◌else◌, Bool, List, [], ◌∷◌, ◌++◌}
+use Rattle.std.specs.Prelude.{length, All, AllPairs, Contains}
 use Rattle.std.specs.List.{list_any}
 use Rattle.board_text.specs.Ranges.{InRange, AreNumbers}
 use Rattle.board_text.specs.declared.board.TheConstants.{MAX_LABELS, MAX_PEBBLES}
@@ -15,7 +16,8 @@ pub record PlainBoard : Type 0 where
 
 -- the board of these parts
 abbrev pub plain_board : ℕ → ℕ → List ℕ → List (ℕ × ℕ) → PlainBoard
-plain_board labels pebbles start pairs = record { labels = labels; pebbles = pebbles; start = start; pairs = pairs }
+plain_board labels pebbles start pairs =
+    record { labels = labels; pebbles = pebbles; start = start; pairs = pairs }
 
 -- the label x dominates the label y
 abbrev pub Beats : PlainBoard → ℕ → ℕ → Type 0
@@ -29,8 +31,8 @@ some_blank labels configuration = list_any (λ place. place == labels) configura
 abbrev pub version_of : ℕ → List ℕ → ℕ
 version_of labels start = if some_blank labels start then 2 else 1
 
--- the number of values of a pebble's place: the labels, and in version 2 the number of labels,
--- which stands for none
+-- the number of values of a pebble's place: the labels,
+-- and in version 2 the number of labels, which stands for none
 unfoldable pub places : PlainBoard → ℕ
 places board = if some_blank board.labels board.start then board.labels + 1 else board.labels
 
@@ -53,9 +55,11 @@ Precedes first second = (first.0 < second.0) ⊎ ((first.0 ≡ second.0) × (fir
 
 -- the pair comes after the last, if there is one
 abbrev pub IsNext : List (ℕ × ℕ) → ℕ × ℕ → Type 0
-IsNext pairs pair = (before : List (ℕ × ℕ)) (last : ℕ × ℕ) → pairs ≡ before ++ last ∷ [] → Precedes last pair
+IsNext pairs pair =
+    (before : List (ℕ × ℕ)) (last : ℕ × ℕ) → pairs ≡ before ++ last ∷ [] → Precedes last pair
 
--- pairs of labels in ascending order, of which no two go both ways, so that none is of one label twice
+-- pairs of labels in ascending order, of which no two go both ways,
+-- so that none is of one label twice
 pub record ArePairs (labels : ℕ) (pairs : List (ℕ × ℕ)) : Type 0 where
   pub of_labels : All (λ pair. (pair.0 < labels) × (pair.1 < labels)) pairs
   pub ascending : AllPairs Precedes pairs
@@ -67,7 +71,8 @@ IsAntisymmetric board = (x y : ℕ) → Beats board x y → Beats board y x → 
 
 -- a place for each pebble, of which some hold no label in version 2, and none in version 1
 abbrev pub IsStart : ℕ → ℕ → ℕ → List ℕ → Type 0
-IsStart version labels pebbles start = AreNumbers pebbles (labels + 1) start × (version_of labels start ≡ version)
+IsStart version labels pebbles start =
+    AreNumbers pebbles (labels + 1) start × (version_of labels start ≡ version)
 
 -- a board within the limits
 pub record IsBoard (board : PlainBoard) : Type 0 where

@@ -6,6 +6,9 @@ use Rattle.board_text.specs.declared.read_write.ReadFault.TheVariants.{Memory, R
 
 -- the reason why `read_all` gave up, with the bytes that it took from the source
 abbrev pub ReadAllFails : Option (List ℕ) → Option (List ℕ) → Bool → ℕ → ReadFault → Type 0
-ReadAllFails old new has_failed limit Memory = (has_failed ≡ false) × ((bs : List ℕ) × Consumes old new bs)
-ReadAllFails old new has_failed limit Read = (has_failed ≡ true) × ((bs : List ℕ) × (length bs ≤ limit) × Consumes old new bs)
-ReadAllFails old new has_failed limit Limit = (has_failed ≡ false) × ((bs : List ℕ) × (limit < length bs) × Consumes old new bs)
+ReadAllFails old new has_failed limit Memory =
+    (has_failed ≡ false) × ((bs : List ℕ) × Consumes old new bs)
+ReadAllFails old new has_failed limit Read =
+    (has_failed ≡ true) × ((bs : List ℕ) × (length bs ≤ limit) × Consumes old new bs)
+ReadAllFails old new has_failed limit Limit =
+    (has_failed ≡ false) × ((bs : List ℕ) × (limit < length bs) × Consumes old new bs)

@@ -15,7 +15,8 @@ use crate::pair_fault::pair_fault;
 use std::alloc::Global;
 
 impl Board {
-    /// The board of these parts, or the fault that the text of the same content has: at line 2, 3 or 4, or at line
+    /// The board of these parts, or the fault that the text of the same content has: at line 2, 3
+    /// or 4, or at line
     /// 5 + i for the pair number i, counted from 0. Memory is taken after the third line.
     pub fn build(
         alloc: Global,
@@ -25,12 +26,15 @@ impl Board {
         pairs: &[(u16, u16)],
     ) -> Result<Board, BoardFault>
         // A result is a board, and of these parts.
-        ensures found { IfOk result (λ board. IsBoard board × (board ≡ plain_board labels pebbles start.now pairs.now)) }
+        ensures found { IfOk result (λ board. IsBoard board
+            × (board ≡ plain_board labels pebbles start.now pairs.now)) }
         // The parts of a board are built, unless memory runs out.
         ensures only { IsBoard (plain_board labels pebbles start.now pairs.now)
-            → MatchResult result (λ board. board ≡ plain_board labels pebbles start.now pairs.now) (λ fault. fault.kind ≡ OutOfMemory) }
+            → MatchResult result (λ board. board ≡ plain_board labels pebbles start.now pairs.now)
+            (λ fault. fault.kind ≡ OutOfMemory) }
         // A fault is the one that the text of these parts has.
-        ensures fault { IfErr result (λ fault. HasBoardFault (board_text (plain_board labels pebbles start.now pairs.now))
+        ensures fault { IfErr result (λ fault. HasBoardFault
+            (board_text (plain_board labels pebbles start.now pairs.now))
             fault.line fault.kind) }
     {
         build_parts(alloc, labels, pebbles, start, pairs)
@@ -45,9 +49,11 @@ fn build_parts(
     start: &[u16],
     pairs: &[(u16, u16)],
 ) -> Result<Board, BoardFault>
-    ensures found { IfOk result (λ board. IsBoard board × (board ≡ plain_board labels pebbles start.now pairs.now)) }
+    ensures found { IfOk result (λ board. IsBoard board
+        × (board ≡ plain_board labels pebbles start.now pairs.now)) }
     ensures fault { IfErr result (λ fault.
-        HasBoardFault (board_text (plain_board labels pebbles start.now pairs.now)) fault.line fault.kind) }
+        HasBoardFault
+        (board_text (plain_board labels pebbles start.now pairs.now)) fault.line fault.kind) }
 {
     if labels == 0 || labels as usize > MAX_LABELS {
         return Err(BoardFault::at(2, BoardKind::Labels));
@@ -81,7 +87,8 @@ fn is_start(labels: u16, pebbles: u8, start: &[u16]) -> bool
 fn push_pairs(beats: &mut Domination, pairs: &[(u16, u16)]) -> Result<(), BoardFault>
     requires { beats.old.pairs ≡ [] }
     ensures labels { beats.new.labels ≡ beats.old.labels }
-    ensures pushed { OnOk result (ArePairs beats.old.labels pairs.now × (beats.new.pairs ≡ pairs.now)) }
+    ensures pushed { OnOk result (ArePairs beats.old.labels pairs.now
+        × (beats.new.pairs ≡ pairs.now)) }
     ensures fault { IfErr result (λ fault. HasPairFault beats.old.labels pairs.now fault) }
 {
     let labels = beats.labels();

@@ -1,6 +1,7 @@
 //! Which labels dominate which, as bits.
 
-ghost use Rattle.std.specs.Prelude.{◌≡◌, ℕ, ◌+◌, ◌*◌, ◌/◌, ◌≤◌, ◌<◌, ◌++◌, ◌∷◌, [], length, true, IfOk, OnOk, string_bytes};
+ghost use Rattle.std.specs.Prelude.{◌≡◌, ℕ, ◌+◌, ◌*◌, ◌/◌, ◌≤◌, ◌<◌, ◌++◌, ◌∷◌, [], length, true};
+ghost use Rattle.std.specs.Prelude.{IfOk, OnOk, string_bytes};
 ghost use Rattle.std.specs.Prelude.{IsTrue, ◌↔◌, Contains};
 ghost use Rattle.board_text.specs.Ranges.{InRange};
 ghost use Rattle.board_text.specs.PlainBoard.{AreLabels};
@@ -76,7 +77,8 @@ impl Domination {
     pub fn row(&self, label: u16) -> &[u64]
         requires { label < self.now.labels }
         ensures words { length result.now ≡ ROW_WORDS }
-        ensures bits { (x : ℕ) → x < MAX_LABELS → (has_bit result.now x ≡ true) ↔ Contains self.now.pairs (x, label) }
+        ensures bits { (x : ℕ) → x < MAX_LABELS
+            → (has_bit result.now x ≡ true) ↔ Contains self.now.pairs (x, label) }
     {
         let from = ROW_WORDS * label as usize;
         &self.rows[from..from + ROW_WORDS]
@@ -105,7 +107,8 @@ impl Domination {
 
     /// Appends a line for each pair to `text`, ascending.
     pub(crate) fn write_lines(&self, text: &mut String) -> Result<(), AllocError>
-        ensures { OnOk result (string_bytes text.new ≡ string_bytes text.old ++ flat_map beats_line self.now.pairs) }
+        ensures { OnOk result (string_bytes text.new ≡ string_bytes text.old
+            ++ flat_map beats_line self.now.pairs) }
     {
         write_pairs(self.labels, &self.rows, text)
     }
@@ -129,7 +132,8 @@ impl Domination {
 fn write_pairs(labels: u16, rows: &[u64], text: &mut String) -> Result<(), AllocError>
     requires in_range { InRange 1 MAX_LABELS labels }
     requires sized { length rows.now ≡ 4 * labels }
-    ensures { OnOk result (string_bytes text.new ≡ string_bytes text.old ++ flat_map beats_line (pairs_of labels rows.now)) }
+    ensures { OnOk result (string_bytes text.new ≡ string_bytes text.old
+        ++ flat_map beats_line (pairs_of labels rows.now)) }
 {
     let labels = u32::from(labels);
     for number in 0..labels * labels {

@@ -12,15 +12,18 @@ use crate::board::{MAX_LABELS, MAX_PEBBLES};
 
 /// A text is that of one board at most.
 pub fn one_board()
-    ensures { (first : PlainBoard) → (second : PlainBoard) → IsBoard first → IsBoard second → board_text first ≡ board_text second
+    ensures { (first : PlainBoard) → (second : PlainBoard) → IsBoard first → IsBoard second
+        → board_text first ≡ board_text second
         → first ≡ second }
 {}
 
 /// A text has at most one fault other than out of memory.
 pub fn one_fault()
-    ensures { (text : List ℕ) → (line : ℕ) → (kind : Kind) → (other_line : ℕ) → (other_kind : Kind) → kind ≢ OutOfMemory
+    ensures { (text : List ℕ) → (line : ℕ) → (kind : Kind) → (other_line : ℕ) → (other_kind : Kind)
+        → kind ≢ OutOfMemory
         → other_kind ≢ OutOfMemory
-        → HasBoardFault text line kind → HasBoardFault text other_line other_kind → (line ≡ other_line) × (kind ≡ other_kind) }
+        → HasBoardFault text line kind → HasBoardFault text other_line other_kind
+        → (line ≡ other_line) × (kind ≡ other_kind) }
 {}
 
 /// A text is that of a board or has a fault other than out of memory, and not both.

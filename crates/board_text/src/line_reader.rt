@@ -1,12 +1,14 @@
 //! Reading lines, words and numbers from the start of a text.
 
-ghost use Rattle.std.specs.Prelude.{◌≡◌, ◌≢◌, ℕ, ◌+◌, ◌≤◌, ◌<◌, ◌^◌, ◌++◌, ◌∷◌, [], List, length, IsTrue, ◌↔◌};
+ghost use Rattle.std.specs.Prelude.{◌≡◌, ◌≢◌, ℕ, ◌+◌, ◌≤◌, ◌<◌, ◌^◌, ◌++◌, ◌∷◌, [], List, length};
+ghost use Rattle.std.specs.Prelude.{IsTrue, ◌↔◌};
 ghost use Rattle.std.specs.Prelude.{MatchOption, option_map};
 ghost use Rattle.std.specs.Char.{is_ascii_digit};
 ghost use Rattle.std.specs.Str.Parse.{AllDigits, digits_value};
 ghost use Rattle.std.specs.Fmt.{decimal};
 ghost use Rattle.std.specs.List.{prefix_len};
-ghost use Rattle.board_text.specs.LineForms.{Takes, TakesNumber, NoDigit, number_line, numbers_line};
+ghost use Rattle.board_text.specs.LineForms.{Takes, TakesNumber, NoDigit, number_line};
+ghost use Rattle.board_text.specs.LineForms.{numbers_line};
 ghost use Rattle.board_text.specs.Inside.LineForms.{TakesNumbers};
 ghost use Rattle.board_text.specs.Ranges.{InRange, AreNumbers};
 ghost use Rattle.board_text.specs.declared.line_reader.Numeral.TheVariants.{Number};
@@ -28,7 +30,8 @@ impl Numeral {
 
     /// The number, if it lies in the range from `low` to `high`, both included.
     pub fn within(self, low: u32, high: u32) -> Option<u32>
-        ensures { MatchOption result ((n : ℕ) → IsNumberIn low high self n → ⊥) (IsNumberIn low high self) }
+        ensures { MatchOption result ((n : ℕ) → IsNumberIn low high self n → ⊥)
+            (IsNumberIn low high self) }
     {
         match self {
             Numeral::Number(n) if low <= n && n <= high => Some(n),
@@ -38,7 +41,8 @@ impl Numeral {
 
     /// The number, if it is below `bound`.
     pub fn below(self, bound: u16) -> Option<u16>
-        ensures { MatchOption result ((n : ℕ) → n < bound → self ≢ Number n) (λ n. (n < bound) × (self ≡ Number n)) }
+        ensures { MatchOption result ((n : ℕ) → n < bound → self ≢ Number n)
+            (λ n. (n < bound) × (self ≡ Number n)) }
     {
         match self {
             Numeral::Number(n) if n < bound as u32 => Some(n as u16),
@@ -98,7 +102,8 @@ impl<'a> LineReader<'a> {
 
     /// Takes `text`, if the rest begins with it; else takes nothing.
     pub fn take(&mut self, text: &[u8]) -> Option<()>
-        ensures taken { MatchOption result ((more : List ℕ) → self.old ≢ text.now ++ more) (λ _. self.old ≡ text.now ++ self.new) }
+        ensures taken { MatchOption result ((more : List ℕ) → self.old ≢ text.now ++ more)
+            (λ _. self.old ≡ text.now ++ self.new) }
         ensures none { MatchOption result (self.new ≡ self.old) (λ _. Unit {0}) }
     {
         self.rest = self.rest.strip_prefix(text)?;
@@ -124,8 +129,8 @@ impl<'a> LineReader<'a> {
         if low <= n && n <= high { Some(n) } else { None }
     }
 
-    /// Takes the digits that the rest begins with, one or more, and returns the number that they
-    /// spell.
+    /// Takes the digits that the rest begins with, one or more,
+    /// and returns the number that they spell.
     pub fn numeral(&mut self) -> Option<Numeral>
         ensures { TakesNumeral result self.old self.new }
     {
@@ -139,12 +144,13 @@ impl<'a> LineReader<'a> {
         }
     }
 
-    /// Reads `places.len()` space-led words into `places`. `Some(false)`: a word is no place below
-    /// `bound`.
+    /// Reads `places.len()` space-led words into `places`.
+    /// `Some(false)`: a word is no place below `bound`.
     pub fn places(&mut self, places: &mut [u16], labels: u16, bound: u16) -> Option<bool>
         requires some { 0 < length places.old }
         requires bound { (labels ≤ bound) × (bound ≤ labels + 1) }
-        ensures { TakesPlaces (length places.old) labels bound (option_map (λ are. (are, places.new)) result) self.old self.new }
+        ensures { TakesPlaces (length places.old) labels bound
+            (option_map (λ are. (are, places.new)) result) self.old self.new }
     {
         let mut are_places = true;
         for place in places.iter_mut() {
@@ -183,8 +189,8 @@ impl<'a> LineReader<'a> {
         Some(n)
     }
 
-    /// Takes a line of `word` and `numbers.len()` space-led numbers below `bound`, and reads these
-    /// into `numbers`.
+    /// Takes a line of `word` and `numbers.len()` space-led numbers
+    /// below `bound`, and reads these into `numbers`.
     pub fn numbers_line(&mut self, word: &[u8], numbers: &mut [u16], bound: u16) -> Option<()>
         requires some { 0 < length numbers.old }
         requires bound { 0 < bound }
@@ -215,7 +221,8 @@ impl<'a> LineReader<'a> {
     fn numbers(&mut self, numbers: &mut [u16], bound: u16) -> Option<()>
         requires some { 0 < length numbers.old }
         requires bound { 0 < bound }
-        ensures { TakesNumbers (length numbers.old) bound (option_map (λ _. numbers.new) result) self.old self.new }
+        ensures { TakesNumbers (length numbers.old) bound
+            (option_map (λ _. numbers.new) result) self.old self.new }
     {
         for number in numbers.iter_mut() {
             self.take(b" ")?;
@@ -245,7 +252,8 @@ fn count_digits(bytes: &[u8]) -> usize
 /// The number that `digits` spell, if it has no leading zero and fits.
 fn value(digits: &[u8]) -> Option<u32>
     requires { AllDigits 10 digits.now }
-    ensures { MatchOption result ((n : ℕ) → n < 2 ^ 32 → digits.now ≢ decimal n) (λ n. digits.now ≡ decimal n) }
+    ensures { MatchOption result ((n : ℕ) → n < 2 ^ 32 → digits.now ≢ decimal n)
+        (λ n. digits.now ≡ decimal n) }
 {
     if digits.is_empty() {
         return None;
@@ -259,7 +267,8 @@ fn value(digits: &[u8]) -> Option<u32>
 /// The value of `digits` in base ten, leading zeros included, if it fits.
 fn number_of(digits: &[u8]) -> Option<u32>
     requires { AllDigits 10 digits.now }
-    ensures { MatchOption result (2 ^ 32 ≤ digits_value 10 digits.now) (λ n. (n < 2 ^ 32) × (n ≡ digits_value 10 digits.now)) }
+    ensures { MatchOption result (2 ^ 32 ≤ digits_value 10 digits.now)
+        (λ n. (n < 2 ^ 32) × (n ≡ digits_value 10 digits.now)) }
 {
     let mut number: u32 = 0;
     for digit in digits {

@@ -49,7 +49,8 @@ fn next_pair(text: &mut LineReader<'_>, beats: &Domination) -> Result<Option<(u1
 fn read_pairs(text: &mut LineReader<'_>, beats: &mut Domination) -> Result<u32, BoardFault>
     requires { beats.old.pairs ≡ [] }
     ensures labels { beats.new.labels ≡ beats.old.labels }
-    ensures read { IfOk result (λ line. PairsRead beats.old.labels beats.new.pairs line text.old text.new) }
+    ensures read { IfOk result
+        (λ line. PairsRead beats.old.labels beats.new.pairs line text.old text.new) }
     ensures fault { IfErr result (λ fault. PairsFault beats.old.labels text.old fault) }
     ensures few { IfOk result (λ line. line ≤ 65541) }
 {
@@ -84,7 +85,8 @@ fn read_head(text: &mut LineReader<'_>) -> Result<(u8, u16, u8), BoardFault>
 fn take_start(text: &mut LineReader<'_>, version: u8, labels: u16, start: &mut [u16]) -> Option<()>
     requires some { 0 < length start.old }
     requires few { labels ≤ MAX_LABELS }
-    ensures { Takes (IsStart version labels (length start.old)) (start_line labels) (option_map (λ _. start.new) result) text.old text.new }
+    ensures { Takes (IsStart version labels (length start.old)) (start_line labels)
+        (option_map (λ _. start.new) result) text.old text.new }
 {
     text.places_line(b"start", start, labels)?;
     if version_of(labels, start) == version {

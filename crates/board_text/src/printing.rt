@@ -27,7 +27,8 @@ pub fn print(alloc: Global, board: &Board) -> Result<String, Memory>
 
 /// Appends the first four lines of the text of `board` to `text`.
 fn write_head(text: &mut String, board: &Board) -> Result<(), AllocError>
-    ensures { OnOk result (string_bytes text.new ≡ string_bytes text.old ++ board_head board.now.labels board.now.pebbles board.now.start) }
+    ensures { OnOk result (string_bytes text.new ≡ string_bytes text.old
+        ++ board_head board.now.labels board.now.pebbles board.now.start) }
 {
     let version = board.version();
     let labels = board.labels();

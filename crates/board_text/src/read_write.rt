@@ -32,8 +32,8 @@ impl From<AllocError> for ReadFault {
 
 const FIRST_READ: usize = 8192;
 
-/// Reads all remaining bytes, at most `limit`. The source must not have failed before, nor reported
-/// its end.
+/// Reads all remaining bytes, at most `limit`. The source must
+/// not have failed before, nor reported its end.
 pub fn read_all<A: Allocator, S: Source>(
     alloc: A,
     source: &mut S,
@@ -42,12 +42,14 @@ pub fn read_all<A: Allocator, S: Source>(
     requires ready { S.has_failed source.old ≡ false }
     requires unended { S.has_ended source.old ≡ false }
     requires countable { limit < usize.MAX }
-    ensures ok { IfOk result (λ bytes. GaveAll (S.remaining source.old) (S.remaining source.new) bytes.items) }
+    ensures ok { IfOk result (λ bytes. GaveAll (S.remaining source.old)
+        (S.remaining source.new) bytes.items) }
     ensures within { IfOk result (λ bytes. length bytes.items ≤ limit) }
     ensures unfailed { OnOk result (S.has_failed source.new ≡ false) }
     ensures ended { MatchResult result (λ _. S.has_ended source.new ≡ true)
         (λ _. S.has_ended source.new ≡ false) }
-    ensures fault { IfErr result (ReadAllFails (S.remaining source.old) (S.remaining source.new) (S.has_failed source.new) limit) }
+    ensures fault { IfErr result (ReadAllFails (S.remaining source.old) (S.remaining source.new)
+        (S.has_failed source.new) limit) }
 {
     let mut bytes = Vec::new(alloc);
     let mut filled = 0;
@@ -94,7 +96,8 @@ fn read_at<S: Source>(source: &mut S, bytes: &mut [u8], at: usize) -> Result<usi
     requires unended { S.has_ended source.old ≡ false }
     ensures front { take at bytes.new ≡ take at bytes.old }
     ensures fits { IfOk result (λ n. at + n ≤ length bytes.new) }
-    ensures given { IfOk result (λ n. Consumes (S.remaining source.old) (S.remaining source.new) (take n (drop at bytes.new))) }
+    ensures given { IfOk result (λ n. Consumes (S.remaining source.old) (S.remaining source.new)
+        (take n (drop at bytes.new))) }
     ensures end { IfOk result (λ n. n ≡ 0 → IsAtEnd (S.remaining source.new)) }
     ensures kept { OnErr result (Keeps (S.remaining source.old) (S.remaining source.new)) }
     ensures failed { ReadFails (S.has_failed source.old) (S.has_failed source.new) result }
@@ -110,7 +113,8 @@ pub fn write_all<S: Sink>(sink: &mut S, bytes: &[u8]) -> Result<(), Failed>
     requires { S.has_failed sink.old ≡ false }
     ensures ok { OnOk result (Appends (S.contents sink.old) (S.contents sink.new) bytes.now) }
     ensures unfailed { OnOk result (S.has_failed sink.new ≡ false) }
-    ensures front { OnErr result (AppendsPrefix (S.contents sink.old) (S.contents sink.new) bytes.now) }
+    ensures front { OnErr result (AppendsPrefix (S.contents sink.old)
+        (S.contents sink.new) bytes.now) }
     ensures failed { OnErr result (S.has_failed sink.new ≡ true) }
 {
     let mut rest = bytes;

@@ -9,7 +9,8 @@ use std::fmt::Write;
 
 /// Appends `places` to `text`, each with a space before it.
 pub fn write_places(text: &mut String, labels: u16, places: &[u16]) -> Result<(), AllocError>
-    ensures { OnOk result (string_bytes text.new ≡ string_bytes text.old ++ spaced_places labels places.now) }
+    ensures { OnOk result (string_bytes text.new ≡ string_bytes text.old
+        ++ spaced_places labels places.now) }
 {
     for place in places {
         write_place(text, labels, *place)?;
@@ -17,10 +18,11 @@ pub fn write_places(text: &mut String, labels: u16, places: &[u16]) -> Result<()
     Ok(())
 }
 
-/// Appends `place` with a space before it: its label, or a hyphen if it is `labels`, which stands
-/// for none.
+/// Appends `place` with a space before it: its label,
+/// or a hyphen if it is `labels`, which stands for none.
 pub fn write_place(text: &mut String, labels: u16, place: u16) -> Result<(), AllocError>
-    ensures { OnOk result (string_bytes text.new ≡ string_bytes text.old ++ 32 ∷ place_word labels place) }
+    ensures { OnOk result (string_bytes text.new ≡ string_bytes text.old
+        ++ 32 ∷ place_word labels place) }
 {
     if place == labels {
         text.push_str(" -")

@@ -1,5 +1,6 @@
 -- The answers and the effects of a round's calls.
-use Rattle.std.specs.Prelude.{◌≡◌, ℕ, suc, ◌<◌, ◌≤◌, ◌==◌, Bool, cond, [], ◌∷◌, ◌++◌, Option, Some, None}
+use Rattle.std.specs.Prelude.{◌≡◌, ℕ, suc, ◌<◌, ◌≤◌, ◌==◌, Bool, cond, [], ◌∷◌, ◌++◌, Option, Some}
+use Rattle.std.specs.Prelude.{None}
 use Rattle.graphs.specs.Numbered.{graph_of}
 use Rattle.solver.specs.Solving.{Solving, to_strike}
 use Rattle.retro_core.specs.declared.step.Seen.{Seen}
@@ -18,8 +19,8 @@ pub record Opens (s : Solving) (width : ℕ) (round : RoundId) (seat : SeatId) :
   pub wide : seat.view.has.width ≡ width
   pub none_made : seat.view.made ≡ []
 
--- the answer stands in the history at one more index of the seat, which is not before its earlier
--- ones
+-- the answer stands in the history at one more index of the seat,
+-- which is not before its earlier ones
 pub record IsNextAnswer (before : View) (answer : Seen) (after : View) : Type 0 where
   pub index : ℕ
   pub not_before : before.since ≤ index

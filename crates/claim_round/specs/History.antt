@@ -1,6 +1,7 @@
--- The history of a shared round: the steps of one run of the machine, in which each call of each
--- seat has its index.
-use Rattle.std.specs.Prelude.{◌≡◌, ℕ, ◌<◌, ◌≤◌, false, true, List, map, length, slice_index, Option, Some, None}
+-- The history of a shared round: the steps of one run of the machine,
+-- in which each call of each seat has its index.
+use Rattle.std.specs.Prelude.{◌≡◌, ℕ, ◌<◌, ◌≤◌, false, true, List, map, length, slice_index, Option}
+use Rattle.std.specs.Prelude.{Some, None}
 use Rattle.graphs.specs.Numbered.{graph_of}
 use Rattle.std.specs.List.{All, Contains, sum_by}
 use Rattle.index_lists.specs.Lists.{times}
@@ -50,7 +51,8 @@ pub record IsHistory (k : Key) (words : List ℕ) (views : List View) : Type 0 w
   pub counted : AreFirstCounts k.solving first.counts
   pub leads : LeadTo first steps (round_of_words k.solving k.width words (seats_of views))
   pub told : All (λ view. AreTold steps view.made × (view.since ≤ length steps)) views
-  pub once : (index : ℕ) → sum_by (λ view. times index (indexes_of view.made)) views ≡ calls_at steps index
+  pub once : (index : ℕ)
+      → sum_by (λ view. times index (indexes_of view.made)) views ≡ calls_at steps index
 
 -- steps of the machine lead from an opening, whose counts are those of the solver, to an end at
 -- which no seat has work left. The end has these counts, values and won configurations. The
@@ -69,17 +71,21 @@ pub record HasHistory (k : Key) (made : List (ℕ × Seen)) (end : Ended) : Type
   pub told : AreTold steps made
   pub once : (index : ℕ) → times index (indexes_of made) ≡ calls_at steps index
 
--- each claim told as lost was told as won at an earlier index, and its configuration is in the
--- won list
+-- each claim told as lost was told as won at an earlier index,
+-- and its configuration is in the won list
 abbrev pub LostWereWon : List (ℕ × Seen) → List ℕ → Type 0
 LostWereWon made won = (index config : ℕ) → Contains made (index, seen.Tried config false)
-    → (earlier : ℕ) × (earlier < index) × Contains made (earlier, seen.Tried config true) × (0 < times config won)
+    → (earlier : ℕ) × (earlier < index) × Contains made (earlier, seen.Tried config true)
+    × (0 < times config won)
 
--- each gap was told closed at most once, only if its count is 0, and always then if it had a live
--- answer at the opening
+-- each gap was told closed at most once, only if its count is 0,
+-- and always then if it had a live answer at the opening
 pub record TellsClosedGaps (s : Solving) (made : List (ℕ × Seen)) (counts : List ℕ) : Type 0 where
-  pub once : (gap index other config another : ℕ) → Contains made (index, seen.Struck config (Some gap))
+  pub once : (gap index other config another : ℕ)
+      → Contains made (index, seen.Struck config (Some gap))
       → Contains made (other, seen.Struck another (Some gap)) → index ≡ other
-  pub only : (gap index config : ℕ) → Contains made (index, seen.Struck config (Some gap)) → slice_index counts gap ≡ 0
-  pub always : (gap label : ℕ) → gap < (graph_of s.game).gaps → AnswerLasts s.game gap s.rounds label → slice_index counts gap ≡ 0
+  pub only : (gap index config : ℕ) → Contains made (index, seen.Struck config (Some gap))
+      → slice_index counts gap ≡ 0
+  pub always : (gap label : ℕ) → gap < (graph_of s.game).gaps
+      → AnswerLasts s.game gap s.rounds label → slice_index counts gap ≡ 0
       → (index : ℕ) × (config : ℕ) × Contains made (index, seen.Struck config (Some gap))

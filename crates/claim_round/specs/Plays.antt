@@ -1,5 +1,6 @@
 -- The contract of each kind of step on a round's table.
-use Rattle.std.specs.Prelude.{◌≡◌, ℕ, suc, ◌*◌, ◌<◌, ◌≤◌, ◌==◌, cond, [], ◌∷◌, ◌++◌, length, Some, None}
+use Rattle.std.specs.Prelude.{◌≡◌, ℕ, suc, ◌*◌, ◌<◌, ◌≤◌, ◌==◌, cond, [], ◌∷◌, ◌++◌, length, Some}
+use Rattle.std.specs.Prelude.{None}
 use Rattle.atomic_table.specs.Table.{Me, Step}
 use Rattle.index_lists.specs.Lists.{times}
 use Rattle.retro_core.specs.declared.step.Seen.TheVariants as seen
@@ -26,10 +27,11 @@ view_tried v n index = record {
   since = suc index;
 }
 
--- a strike returns the count that it found, and stands at an index that is not before the seat's
--- earlier ones
+-- a strike returns the count that it found, and stands at an
+-- index that is not before the seat's earlier ones
 abbrev pub TableStrikes : Step Unit0 → Me Unit0 View → ℕ → Me Unit0 View → Type 0
-TableStrikes s m n m' = (index : ℕ) × (m.0.since ≤ index) × (m'.0 ≡ view_struck m.0 s.word n index) × (m'.1 ≡ m.1) × (0 < n)
+TableStrikes s m n m' = (index : ℕ) × (m.0.since ≤ index) × (m'.0 ≡ view_struck m.0 s.word n index)
+    × (m'.1 ≡ m.1) × (0 < n)
 
 -- a try returns the word that it found, and stands at such an index
 abbrev pub TableTries : Step Unit0 → Me Unit0 View → ℕ → Me Unit0 View → Type 0

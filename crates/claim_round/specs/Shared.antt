@@ -43,7 +43,13 @@ new_part v = record { key = v.key; has = seat_new v.has; made = []; since = v.si
 
 -- the seat after a join: it was told the answers of both, and goes on after both
 abbrev pub view_joined : View → View → View
-view_joined v u = record { key = v.key; has = seat_joined v.has u.has; made = v.made ++ u.made; since = max v.since u.since }
+view_joined v u =
+    record {
+      key = v.key;
+      has = seat_joined v.has u.has;
+      made = v.made ++ u.made;
+      since = max v.since u.since;
+    }
 
 -- ---- relations of clauses
 
@@ -73,11 +79,14 @@ pub record Ended : Type 0 where
 
 -- the seat has the round's whole width and nothing left to do, and the round's won list is its own
 abbrev pub IsClosedBy : RoundId → SeatId → Ended → Type 0
-IsClosedBy r p e = (p.view.has.width ≡ r.key.width) × (p.view.has.todo ≡ []) × (p.view.has.owed ≡ []) × (e.won ≡ p.view.has.won)
+IsClosedBy r p e = (p.view.has.width ≡ r.key.width) × (p.view.has.todo ≡ [])
+    × (p.view.has.owed ≡ []) × (e.won ≡ p.view.has.won)
 
 -- the round of this solver is finished
 pub record Finishes (s : Solving) (e : Ended) : Type 0 where
   pub end : IsRoundEnd s e.won e.counts
   pub wide : length e.values ≡ (graph_of s.game).configurations
-  pub values : (rank value : ℕ) → rank < (graph_of s.game).configurations → (slice_index_or e.values rank None ≡ Some value)
-      ↔ ((value ≤ suc s.rounds) × HasValue s.game.board (configuration_of s.game rank) (Finite value))
+  pub values : (rank value : ℕ) → rank < (graph_of s.game).configurations
+      → (slice_index_or e.values rank None ≡ Some value)
+      ↔ ((value ≤ suc s.rounds)
+      × HasValue s.game.board (configuration_of s.game rank) (Finite value))

@@ -47,7 +47,9 @@ impl<'a, S: ListStore> Model for SharedRound<'a, S> {
 
     ghost view = { λ s. round_id s.table.shared.table_id s.table.shared.key };
 
-    ghost invariant = { λ s. IsRound (record { solving = s.solver.now; width = s.width }) s.table.shared.key s.table.shared.table_id };
+    ghost invariant = { λ s. IsRound
+        (record { solving = s.solver.now; width = s.width }) s.table.shared.key
+        s.table.shared.table_id };
 }
 
 /// The result of a strike.
@@ -160,8 +162,8 @@ impl<'a, S: ListStore> SharedRound<'a, S> {
         }
     }
 
-    /// Claims the first configuration that `seat` owes: one step on its value word, and that single
-    /// try decides.
+    /// Claims the first configuration that `seat` owes:
+    /// one step on its value word, and that single try decides.
     pub fn claim(&self, seat: &mut RoundSeat) -> Claim
         requires mine { IsOf self.now seat.old }
         requires owed { 0 < length seat.old.view.has.owed }
@@ -188,8 +190,8 @@ impl<'a, S: ListStore> SharedRound<'a, S> {
     /// won configurations stay with the first seat. A refusal comes before the step, and gives
     /// `seat` back as it was.
     ///
-    /// It takes the room that `open` takes for a seat, for the half that moves. The first seat
-    /// keeps its room.
+    /// It takes the room that `open` takes for a seat,
+    /// for the half that moves. The first seat keeps its room.
     pub fn split(&self, mut seat: RoundSeat) -> Result<(RoundSeat, RoundSeat), (RoundSeat, Memory)>
         requires mine { IsOf self.now seat }
         requires width { 2 ≤ seat.view.has.width }
@@ -286,8 +288,10 @@ impl<'a, S: ListStore> SharedRound<'a, S> {
         ensures finished { IfOk result (λ c. Finishes self.entry.key.solving c) }
         ensures history { IfOk result (λ c. HasHistory self.entry.key seat.view.made c) }
         ensures lost { IfOk result (λ c. LostWereWon seat.view.made c.won) }
-        ensures closed { IfOk result (λ c. TellsClosedGaps self.entry.key.solving seat.view.made c.counts) }
-        ensures err { IfErr result (λ n. (n.round ≡ self.entry) × (n.seat ≡ seat) × IsReason n.why self.entry seat) }
+        ensures closed { IfOk result
+            (λ c. TellsClosedGaps self.entry.key.solving seat.view.made c.counts) }
+        ensures err { IfErr result (λ n. (n.round ≡ self.entry) × (n.seat ≡ seat)
+            × IsReason n.why self.entry seat) }
     {
         if seat.width < self.width {
             return Err(NotClosed {

@@ -1,6 +1,7 @@
 -- The invariant of the matches that each use of an argument keeps: each entry is an argument's, and
 -- has values that passed its parser.
-use Rattle.std.proofs.Common.{◌≡◌, ◌∙◌, ◌<◌, ◌≤◌, ◌⊎◌, ◌++◌, ◌&&◌, ◌||◌, Bool, true, false, true≢false, List, [], ◌∷◌, length, Option, Some, refl, sym, ap, subst, arith, inl, inr, cond}
+use Rattle.std.proofs.Common.{◌≡◌, ◌∙◌, ◌<◌, ◌≤◌, ◌⊎◌, ◌++◌, ◌&&◌, ◌||◌, Bool, true, false, true≢false, List, [], ◌∷◌}
+use Rattle.std.proofs.Common.{length, Option, Some, refl, sym, ap, subst, arith, inl, inr, cond}
 use Rattle.std.specs.Prelude.{⊤, find, nat_le}
 use Rattle.std.specs.List.{list_all}
 use Rattle.std.specs.Str.{bytes_eq}
@@ -8,10 +9,12 @@ use Rattle.std.proofs.lemmas.Slice.Eq.{bytes_eq-Decides}
 use Rattle.std.proofs.lemmas.Bool.{leb-true}
 use Rattle.clap.specs.Facts.{unwrap_or_range}
 use Rattle.clap.specs.Values.{is_request}
-use Rattle.clap.specs.Walk.{Row, Rule, Text, action_of, arg_by_id, at_row, more_values, most_values, reading_by, used, values_or_missing, with_values, without}
+use Rattle.clap.specs.Walk.{Row, Rule, Text, action_of, arg_by_id, at_row, more_values, most_values, reading_by, used}
+use Rattle.clap.specs.Walk.{values_or_missing, with_values, without}
 use Rattle.clap.specs.Takes.{action_passes, use_passes, value_passes, values_pass}
 use Rattle.clap.specs.declared.builder.action.ArgAction.{ArgAction}
-use Rattle.clap.specs.declared.builder.action.ArgAction.TheVariants.{Set, Append, SetTrue, SetFalse, Count, Help, HelpShort, HelpLong, Version}
+use Rattle.clap.specs.declared.builder.action.ArgAction.TheVariants.{Set, Append, SetTrue, SetFalse, Count, Help}
+use Rattle.clap.specs.declared.builder.action.ArgAction.TheVariants.{HelpShort, HelpLong, Version}
 use Rattle.clap.specs.declared.parser.matches.ValueSource.{ValueSource}
 use Rattle.clap.specs.declared.parser.matches.ValueSource.TheVariants.{CommandLine}
 use Rattle.clap.proofs.WalkLemmas.{both}
@@ -20,11 +23,13 @@ abbrev pub Each : {X : Type 0} → (X → Type 0) → List X → Type 0
 Each P [] = ⊤
 Each P (x ∷ xs) = P x × Each P xs
 
-pub found_each : {X : Type 0} (P : X → Type 0) (p : X → Bool) (xs : List X) (x : X) → Each P xs → find p xs ≡ Some x → P x × (p x ≡ true)
+pub found_each : {X : Type 0} (P : X → Type 0) (p : X → Bool) (xs : List X) (x : X) → Each P xs → find p xs ≡ Some x
+    → P x × (p x ≡ true)
 found_each P p [] x each e = cc
 found_each P p (y ∷ ys) x each e = go (λ h. found_each P p ys x each.1 h) (p y) refl e
   where
-    go : (find p ys ≡ Some x → P x × (p x ≡ true)) → (b : Bool) → p y ≡ b → cond b (Some y) (find p ys) ≡ Some x → P x × (p x ≡ true)
+    go : (find p ys ≡ Some x → P x × (p x ≡ true)) → (b : Bool) → p y ≡ b → cond b (Some y) (find p ys) ≡ Some x
+        → P x × (p x ≡ true)
     go later true t h =
         let same : y ≡ x = cc in
         (subst P same each.0, subst (λ z. p z ≡ true) same t)
@@ -35,7 +40,8 @@ some_first x y e = cc
 
 -- the entry is that of an argument with values that passed
 abbrev pub Fits : List Rule → Row → Type 0
-Fits c r = (a : Rule) × (arg_by_id c r.id ≡ Some a) × (0 < length r.values) × (values_pass a r.values ≡ true) × (r.reading ≡ reading_by a)
+Fits c r = (a : Rule) × (arg_by_id c r.id ≡ Some a) × (0 < length r.values) × (values_pass a r.values ≡ true)
+    × (r.reading ≡ reading_by a)
 
 -- the argument is the first of its id, and takes a value, is given or not, or asks for a text
 abbrev pub GoodRule : List Rule → Rule → Type 0
@@ -47,7 +53,8 @@ pub either : (a b : Bool) → (a || b) ≡ true → (a ≡ true) ⊎ (b ≡ true
 either true b e = inl refl
 either false b e = inr e
 
-pub all_more : {X : Type 0} (p : X → Bool) (xs ys : List X) → list_all p xs ≡ true → list_all p ys ≡ true → list_all p (xs ++ ys) ≡ true
+pub all_more : {X : Type 0} (p : X → Bool) (xs ys : List X) → list_all p xs ≡ true → list_all p ys ≡ true
+    → list_all p (xs ++ ys) ≡ true
 all_more p [] ys a b = b
 all_more p (x ∷ xs) ys a b =
     let parts = both (p x) (list_all p xs) a in
@@ -65,10 +72,13 @@ without_fits c id (r ∷ rs) each = go (without_fits c id rs each.1) (bytes_eq r
     go later true = each.1
     go later false = (each.0, later)
 
-pub with_fits : (c : List Rule) (a : Rule) (s : ValueSource) (values : List Text) (rows : List Row) → arg_by_id c a.id ≡ Some a
-    → 0 < length values → values_pass a values ≡ true → Each (Fits c) rows → Each (Fits c) (with_values a.id (reading_by a) s values rows)
+pub with_fits : (c : List Rule) (a : Rule) (s : ValueSource) (values : List Text) (rows : List Row)
+    → arg_by_id c a.id ≡ Some a
+    → 0 < length values → values_pass a values ≡ true → Each (Fits c) rows
+    → Each (Fits c) (with_values a.id (reading_by a) s values rows)
 with_fits c a s values [] found some pass each = ((a, found, some, pass, refl), tt)
-with_fits c a s values (r ∷ rs) found some pass each = go (with_fits c a s values rs found some pass each.1) (bytes_eq r.id a.id) refl
+with_fits c a s values (r ∷ rs) found some pass each =
+    go (with_fits c a s values rs found some pass each.1) (bytes_eq r.id a.id) refl
   where
     more : bytes_eq r.id a.id ≡ true → (f : Fits c r) → (values_pass f.0 (r.values ++ values) ≡ true)
     more e f =
@@ -81,8 +91,10 @@ with_fits c a s values (r ∷ rs) found some pass each = go (with_fits c a s val
     go later true e = ((each.0.0, each.0.1, longer r.values values each.0.2, more e each.0, each.0.4), each.1)
     go later false e = (each.0, later)
 
-used_set : (c : List Rule) (a : Rule) (values : List Text) (rows : List Row) → arg_by_id c a.id ≡ Some a → action_of a ≡ Set
-    → 0 < length values → values_pass a (values_or_missing a values) ≡ true → Each (Fits c) rows → Each (Fits c) (used a values rows)
+used_set : (c : List Rule) (a : Rule) (values : List Text) (rows : List Row) → arg_by_id c a.id ≡ Some a
+    → action_of a ≡ Set
+    → 0 < length values → values_pass a (values_or_missing a values) ≡ true → Each (Fits c) rows
+    → Each (Fits c) (used a values rows)
 used_set c a [] rows found set some pass each = absurd (omega arith)
 used_set c a (v ∷ vs) rows found set some pass each =
     rw set (with_fits c a CommandLine (v ∷ vs) (without a.id rows) found some pass (without_fits c a.id rows each))
@@ -113,8 +125,10 @@ pub used_fits : (c : List Rule) (again : Bool) (a : Rule) (values : List Text) (
     → use_passes again a values rows ≡ true → Each (Fits c) rows → Each (Fits c) (used a values rows)
 used_fits c again a values rows good pass each =
     let parts = both (nat_le (unwrap_or_range a.range).start_inclusive (length values))
-    (nat_le (length values) (most_values a) && action_passes (action_of a) again a (values_or_missing a values) rows) pass in
-    let rest = both (nat_le (length values) (most_values a)) (action_passes (action_of a) again a (values_or_missing a values) rows) parts.1 in
+    (nat_le (length values) (most_values a) && action_passes (action_of a) again a
+    (values_or_missing a values) rows) pass in
+    let rest = both (nat_le (length values) (most_values a))
+    (action_passes (action_of a) again a (values_or_missing a values) rows) parts.1 in
     elim good.1 [
       | inl set ↦
           let passed : action_passes Set again a (values_or_missing a values) rows ≡ true =

@@ -91,7 +91,8 @@ below shapes = map built_leaf (map (inherited program.top) shapes ++ help_shape 
 
 below_moved : (shapes : List Shape) → below (map moved_shape shapes) ≡ map moved_shape (below shapes)
 below_moved [] = refl
-below_moved (s ∷ shapes) = ap₂ (λ (t : Shape) (ts : List Shape). t ∷ ts) (leaf_moved (inherited program.top s)) (below_moved shapes)
+below_moved (s ∷ shapes) =
+    ap₂ (λ (t : Shape) (ts : List Shape). t ∷ ts) (leaf_moved (inherited program.top s)) (below_moved shapes)
 
 found_moved : (q : Shape → Bool) (shapes : List Shape) → ((s : Shape) → q (moved_shape s) ≡ q s)
     → find q (map moved_shape shapes) ≡ option_map moved_shape (find q shapes)
@@ -101,7 +102,8 @@ found_moved q (s ∷ shapes) same =
     ∙ go (found_moved q shapes same) (q s)
   where
     go : find q (map moved_shape shapes) ≡ option_map moved_shape (find q shapes) → (b : Bool)
-        → cond b (Some (moved_shape s)) (find q (map moved_shape shapes)) ≡ option_map moved_shape (cond b (Some s) (find q shapes))
+        → cond b (Some (moved_shape s)) (find q (map moved_shape shapes))
+        ≡ option_map moved_shape (cond b (Some s) (find q shapes))
     go later true = refl
     go later false = later
 
@@ -126,7 +128,8 @@ abbrev named : Text → List Shape → Option Shape
 named name shapes = find (λ s. answers_to name (label_of s)) shapes
 
 named_away : (sides : Sides) (name : Text)
-    → named name (below (commands_among (away sides))) ≡ option_map moved_shape (named name (below (commands_among sides)))
+    → named name (below (commands_among (away sides)))
+    ≡ option_map moved_shape (named name (below (commands_among sides)))
 named_away sides name =
     ap (named name) (below_moved (commands_among sides))
     ∙ found_moved (λ s. answers_to name (label_of s)) (below (commands_among sides)) (λ s. refl)
@@ -152,14 +155,16 @@ passes_same : (sides : Sides) (stop : Option (Text × List Text))
     → entered_passes (built (program_among (away sides))) stop ≡ entered_passes (built (program_among sides)) stop
 passes_same sides None = refl
 passes_same sides (Some p) =
-    ap (λ (o : Option Shape). option_map_or (λ s. level_passes s [] nothing_held p.1 false) o true) (named_away sides p.0)
+    ap (λ (o : Option Shape). option_map_or (λ s. level_passes s [] nothing_held p.1 false) o true)
+    (named_away sides p.0)
     ∙ passes_moved (named p.0 (below (commands_among sides))) p.1
 
 below_same : (sides : Sides) (stop : Option (Text × List Text))
     → entered_fault (built (program_among (away sides))) stop ≡ entered_fault (built (program_among sides)) stop
 below_same sides None = refl
 below_same sides (Some p) =
-    ap (λ (o : Option Shape). option_map_or (λ s. level_fault s [] nothing_held p.1 false []) o []) (named_away sides p.0)
+    ap (λ (o : Option Shape). option_map_or (λ s. level_fault s [] nothing_held p.1 false []) o [])
+    (named_away sides p.0)
     ∙ fault_moved (named p.0 (below (commands_among sides))) p.1
 
 enters_same : (sides : Sides) (stop : Option (Text × List Text))
@@ -169,32 +174,45 @@ enters_same sides (Some p) =
     ap (λ (o : Option Shape). option_map (λ s. rows_at s p.1) o) (named_away sides p.0)
     ∙ rows_moved (named p.0 (below (commands_among sides))) p.1
 
-takes_same : (sides : Sides) (words : List Text) → takes (program_among (away sides)) words ≡ takes (program_among sides) words
+takes_same : (sides : Sides) (words : List Text)
+    → takes (program_among (away sides)) words ≡ takes (program_among sides) words
 takes_same sides words =
     let top = (built program).top in
     let names = names_of (built program) in
     let rest = drop 1 words in
     let stop = (walk top.rules names nothing_held rest).stopped in
-    ap (λ (b : Bool). b && level_passes top names nothing_held rest (is_some (entered (built (program_among (away sides))) stop))) (passes_same sides stop)
-    ∙ ap (λ (o : Option (Text × List Row)). entered_passes (built (program_among sides)) stop && level_passes top names nothing_held rest (is_some o)) (enters_same sides stop)
+    ap (λ (b : Bool). b && level_passes top names nothing_held rest
+    (is_some (entered (built (program_among (away sides))) stop))) (passes_same sides stop)
+    ∙ ap (λ (o : Option (Text × List Row)). entered_passes
+    (built (program_among sides)) stop && level_passes top names nothing_held rest (is_some o))
+    (enters_same sides stop)
 
-reads_same : (sides : Sides) (words : List Text) → subcommand_of (program_among (away sides)) words ≡ subcommand_of (program_among sides) words
-reads_same sides words = enters_same sides (walk (built program).top.rules (names_of (built program)) nothing_held (drop 1 words)).stopped
+reads_same : (sides : Sides) (words : List Text)
+    → subcommand_of (program_among (away sides)) words ≡ subcommand_of (program_among sides) words
+reads_same sides words =
+    enters_same sides (walk (built program).top.rules (names_of (built program)) nothing_held (drop 1 words)).stopped
 
-faults_same : (sides : Sides) (words : List Text) → fault_of (program_among (away sides)) words ≡ fault_of (program_among sides) words
+faults_same : (sides : Sides) (words : List Text)
+    → fault_of (program_among (away sides)) words ≡ fault_of (program_among sides) words
 faults_same sides words =
     let top = (built program).top in
     let names = names_of (built program) in
     let rest = drop 1 words in
     let stop = (walk top.rules names nothing_held rest).stopped in
-    ap (λ (below : Kinds). level_fault top names nothing_held rest (is_some (entered (built (program_among (away sides))) stop)) below) (below_same sides stop)
-    ∙ ap (λ (o : Option (Text × List Row)). level_fault top names nothing_held rest (is_some o) (entered_fault (built (program_among sides)) stop)) (enters_same sides stop)
+    ap (λ (below : Kinds). level_fault top names nothing_held rest
+    (is_some (entered (built (program_among (away sides))) stop)) below) (below_same sides stop)
+    ∙ ap (λ (o : Option (Text × List Row)). level_fault top names nothing_held rest (is_some o)
+    (entered_fault (built (program_among sides)) stop)) (enters_same sides stop)
 
-pub takes_as_program : (sides : Sides) (words : List Text) → texts sides.now ≡ side_words → takes (program_among sides) words ≡ takes program words
+pub takes_as_program : (sides : Sides) (words : List Text) → texts sides.now ≡ side_words
+    → takes (program_among sides) words ≡ takes program words
 takes_as_program sides words e = sym (takes_same sides words) ∙ ap (λ (a : App). takes a words) (away_is sides e)
 
-pub reads_as_program : (sides : Sides) (words : List Text) → texts sides.now ≡ side_words → subcommand_of (program_among sides) words ≡ subcommand_of program words
-reads_as_program sides words e = sym (reads_same sides words) ∙ ap (λ (a : App). subcommand_of a words) (away_is sides e)
+pub reads_as_program : (sides : Sides) (words : List Text) → texts sides.now ≡ side_words
+    → subcommand_of (program_among sides) words ≡ subcommand_of program words
+reads_as_program sides words e =
+    sym (reads_same sides words) ∙ ap (λ (a : App). subcommand_of a words) (away_is sides e)
 
-pub faults_as_program : (sides : Sides) (words : List Text) → texts sides.now ≡ side_words → fault_of (program_among sides) words ≡ fault_of program words
+pub faults_as_program : (sides : Sides) (words : List Text) → texts sides.now ≡ side_words
+    → fault_of (program_among sides) words ≡ fault_of program words
 faults_as_program sides words e = sym (faults_same sides words) ∙ ap (λ (a : App). fault_of a words) (away_is sides e)

@@ -1,6 +1,8 @@
 -- If `clap` takes the words, the job can be read from its matches.
-use Rattle.std.proofs.Common.{◌≡◌, ◌∙◌, ◌<◌, ◌⊎◌, ◌++◌, ◌&&◌, ◌||◌, not, Bool, ℕ, List, [], ◌∷◌, length, Option, Some, None}
-use Rattle.std.proofs.Common.{is_some, true, false, true≢false, refl, sym, ap, subst, inl, inr, cond, codes, drop, arith}
+use Rattle.std.proofs.Common.{◌≡◌, ◌∙◌, ◌<◌, ◌⊎◌, ◌++◌, ◌&&◌, ◌||◌, not, Bool, ℕ, List, [], ◌∷◌, length, Option, Some}
+use Rattle.std.proofs.Common.{None}
+use Rattle.std.proofs.Common.{is_some, true, false, true≢false, refl, sym, ap, subst, inl, inr, cond, codes, drop}
+use Rattle.std.proofs.Common.{arith}
 use Rattle.std.specs.Prelude.{⊤, find, fold, option_map, pos, unwrap_or}
 use Rattle.std.specs.Borrow.{Bor}
 use Rattle.std.specs.List.{list_all, list_any}
@@ -10,16 +12,19 @@ use Rattle.std.proofs.lemmas.Slice.Eq.{bytes_eq-Decides}
 use Rattle.clap.specs.Facts.{parser_of_value}
 use Rattle.clap.specs.Values.{reading_of}
 use Rattle.clap.specs.ValueTests.{accepts}
-use Rattle.clap.specs.Walk.{Held, Names, Row, Rule, Step, Text, Waiting, Walk, action_of, after_step, answers_to, arg_by_id}
+use Rattle.clap.specs.Walk.{Held, Names, Row, Rule, Step, Text, Waiting, Walk, action_of, after_step, answers_to}
+use Rattle.clap.specs.Walk.{arg_by_id}
 use Rattle.clap.specs.Walk.{arg_by_index, finished, long_or_other, next, nothing_held, rows_after, settled, subcommand}
-use Rattle.clap.specs.Walk.{subcommand_met, subcommand_or_other, to_positional, trailing, value, walk, walk_from, walked}
+use Rattle.clap.specs.Walk.{subcommand_met, subcommand_or_other, to_positional, trailing, value, walk, walk_from}
+use Rattle.clap.specs.Walk.{walked}
 use Rattle.clap.specs.Walk.{walked_from, with_default, word_met}
 use Rattle.clap.specs.Lexer.{long_of}
 use Rattle.clap.specs.Simple.{Shape, built, built_leaf, entered, filled, filled_from, help_rule, help_shape}
 use Rattle.clap.specs.Simple.{index_after, inherited, is_simple, label_of, names_of, parser_for, rows_at, subcommand_of}
 use Rattle.clap.specs.Simple.{with_action, with_index}
 use Rattle.clap.specs.Faults.{is_simple_and_free}
-use Rattle.clap.specs.Takes.{built_takes, default_passes, entered_passes, is_given, is_valid, level_passes, other_passes}
+use Rattle.clap.specs.Takes.{built_takes, default_passes, entered_passes, is_given, is_valid, level_passes}
+use Rattle.clap.specs.Takes.{other_passes}
 use Rattle.clap.specs.Takes.{settle_passes, step_passes, takes, turn_passes, walk_passes, word_passes}
 use Rattle.clap.specs.declared.builder.action.ArgAction.TheVariants.{SetTrue}
 use Rattle.clap.specs.declared.builder.value_parser.ValueParser.{ValueParser}
@@ -69,7 +74,8 @@ pub record IsCommand (s : Shape) : Type 0 where
   pub good : Good (made_from 1 s.rules)
   pub arguments : Each IsArgument s.rules
 
-one_has_row : (a : Rule) (i : ℕ) (rest : List Rule) (rows end : List Row) → fold with_default rows (with_index i (filled a) ∷ rest) ≡ end
+one_has_row : (a : Rule) (i : ℕ) (rest : List Rule) (rows end : List Row)
+    → fold with_default rows (with_index i (filled a) ∷ rest) ≡ end
     → IsArgument a → (not a.required || is_given a.id end) ≡ true → HasRow a.id end
 one_has_row a i rest rows end is argument given =
     elim argument.0 [
@@ -83,7 +89,8 @@ have_rows : (rules : List Rule) (i : ℕ) (rows end : List Row) → fold with_de
 have_rows [] i rows end is arguments given = tt
 have_rows (a ∷ rules) i rows end is arguments given =
     let rest = made_from (index_after i a) rules in
-    let parts = both (not a.required || is_given a.id end) (list_all (λ a. not a.required || is_given a.id end) rest) given in (
+    let parts = both (not a.required || is_given a.id end)
+    (list_all (λ a. not a.required || is_given a.id end) rest) given in (
       one_has_row a i rest rows end is arguments.0 parts.0,
       have_rows rules (index_after i a) (with_default rows (with_index i (filled a))) end is arguments.1 parts.1,
     )
@@ -98,7 +105,8 @@ kind_there c a i rows each known exact kind there =
       | inr (inl (most, number)) ↦
           let parser : made.parser ≡ Some (vp.Signed (pos 1) (pos most))
           = ap (λ (o : Option ValueParser). Some (unwrap_or o (parser_for (action_of (with_action a))))) number in
-          rw number (number_there c made a.id most rows each known (ap (λ (o : Option ValueParser). reading_of (parser_of_value o)) parser)
+          rw number (number_there c made a.id most rows each known
+          (ap (λ (o : Option ValueParser). reading_of (parser_of_value o)) parser)
           (λ t e. subst (λ (o : Option ValueParser). accepts false (parser_of_value o) t ≡ true) parser
           (subst (λ (b : Bool). accepts b (parser_of_value made.parser) t ≡ true) exact e)) there)
       | inr (inr words) ↦
@@ -146,11 +154,14 @@ plain_read name rules words good arguments pass =
     let s = built_below (command name rules) in
     let rows = rows_after (made_from 1 rules) [] words in
     let level = level_fits s words good pass in
-    let given = (both (list_all (λ a. a.is_free) (made_from 1 rules)) (list_all (λ a. not a.required || is_given a.id rows) (made_from 1 rules)) level.1).1 in
-    let there = have_rows rules 1 (settled (made_from 1 rules) (walk (made_from 1 rules) [] nothing_held words).held).rows rows refl arguments given in
+    let given = (both (list_all (λ a. a.is_free) (made_from 1 rules))
+    (list_all (λ a. not a.required || is_given a.id rows) (made_from 1 rules)) level.1).1 in
+    let there = have_rows rules 1 (settled (made_from 1 rules)
+    (walk (made_from 1 rules) [] nothing_held words).held).rows rows refl arguments given in
     kinds_there (made_from 1 rules) rules 1 rows level.0 good arguments there
 
-command_read : (s : Shape) (words : List Text) → IsCommand s → level_passes (built_below s) [] nothing_held words false ≡ true
+command_read : (s : Shape) (words : List Text) → IsCommand s
+    → level_passes (built_below s) [] nothing_held words false ≡ true
     → has_values (rows_at (built_below s) words).1 s ≡ true
 command_read s words is pass =
     subst (λ (t : Shape). has_values (rows_at (built_below t) words).1 t ≡ true) (sym is.plain)
@@ -262,38 +273,47 @@ past (trailing position) fine = tt
 past (subcommand name) fine = absurd fine
 past value fine = tt
 
-no_help : (name : Text) (disabled : Bool) → disabled ≡ false → (not (bytes_eq name (codes "help")) || disabled) ≡ true → bytes_eq name (codes "help") ≡ false
+no_help : (name : Text) (disabled : Bool) → disabled ≡ false → (not (bytes_eq name (codes "help")) || disabled) ≡ true
+    → bytes_eq name (codes "help") ≡ false
 no_help name disabled off pass = go (bytes_eq name (codes "help")) disabled off pass
   where
     go : (b d : Bool) → d ≡ false → (not b || d) ≡ true → b ≡ false
     go true d off e = absurd (true≢false (sym e ∙ off))
     go false d off e = refl
 
-other_past : (s : Shape) (o : Option Text) (waiting : Waiting) (position : ℕ) (word : Text) (h : Held) → s.disable_help_subcommand ≡ false
+other_past : (s : Shape) (o : Option Text) (waiting : Waiting) (position : ℕ) (word : Text) (h : Held)
+    → s.disable_help_subcommand ≡ false
     → other_passes s o word h ≡ true → StepsPastHelp (subcommand_or_other s.rules o waiting position word h).1
 other_past s (Some name) waiting position word h off pass = no_help name s.disable_help_subcommand off pass
 other_past s None waiting position word h off pass = go (bytes_eq word (45 ∷ 45 ∷ []))
   where
-    go : (b : Bool) → StepsPastHelp (cond b (h, trailing position) (long_or_other s.rules waiting word (long_of word) h)).1
+    go : (b : Bool)
+        → StepsPastHelp (cond b (h, trailing position) (long_or_other s.rules waiting word (long_of word) h)).1
     go true = tt
     go false = past _ (long_no_command s.rules waiting word (long_of word) h)
 
-met_past : (s : Shape) (names : Names) (is_trailing : Bool) (waiting : Waiting) (position : ℕ) (word : Text) (h : Held) → s.disable_help_subcommand ≡ false
-    → word_passes s names is_trailing waiting word h ≡ true → StepsPastHelp (word_met s.rules names is_trailing waiting position word h).1
+met_past : (s : Shape) (names : Names) (is_trailing : Bool) (waiting : Waiting) (position : ℕ) (word : Text) (h : Held)
+    → s.disable_help_subcommand ≡ false
+    → word_passes s names is_trailing waiting word h ≡ true
+    → StepsPastHelp (word_met s.rules names is_trailing waiting position word h).1
 met_past s names true waiting position word h off pass = tt
-met_past s names false waiting position word h off pass = other_past s (subcommand_met names waiting word) waiting position word h off pass
+met_past s names false waiting position word h off pass =
+    other_past s (subcommand_met names waiting word) waiting position word h off pass
 
-value_past : (c : List Rule) (o : Option Rule) (word : Text) (w : Walk) (h : Held) → IsNoHelp w.stopped → IsNoHelp (to_positional c o word w h).stopped
+value_past : (c : List Rule) (o : Option Rule) (word : Text) (w : Walk) (h : Held) → IsNoHelp w.stopped
+    → IsNoHelp (to_positional c o word w h).stopped
 value_past c None word w h none = none
 value_past c (Some a) word w h none = tt
 
-step_past : (c : List Rule) (word : Text) (w : Walk) (h : Held) (step : Step) → StepsPastHelp step → IsNoHelp w.stopped → IsNoHelp (after_step c word w h step).stopped
+step_past : (c : List Rule) (word : Text) (w : Walk) (h : Held) (step : Step) → StepsPastHelp step → IsNoHelp w.stopped
+    → IsNoHelp (after_step c word w h step).stopped
 step_past c word w h (next waiting) fine none = none
 step_past c word w h (trailing position) fine none = none
 step_past c word w h (subcommand name) fine none = fine
 step_past c word w h value fine none = value_past c (arg_by_index c w.position) word w h none
 
-turn_past : (s : Shape) (names : Names) (w : Walk) (word : Text) (o : Option (Text × List Text)) → s.disable_help_subcommand ≡ false → IsNoHelp o → IsNoHelp w.stopped
+turn_past : (s : Shape) (names : Names) (w : Walk) (word : Text) (o : Option (Text × List Text))
+    → s.disable_help_subcommand ≡ false → IsNoHelp o → IsNoHelp w.stopped
     → (is_some o || (word_passes s names w.is_trailing w.waiting word w.held
     && step_passes s w.position (word_met s.rules names w.is_trailing w.waiting w.position word w.held).0
     (word_met s.rules names w.is_trailing w.waiting w.position word w.held).1)) ≡ true
@@ -301,16 +321,20 @@ turn_past : (s : Shape) (names : Names) (w : Walk) (word : Text) (o : Option (Te
 turn_past s names w word (Some p) off fine none pass = fine
 turn_past s names w word None off fine none pass =
     let met = word_met s.rules names w.is_trailing w.waiting w.position word w.held in
-    let parts = both (word_passes s names w.is_trailing w.waiting word w.held) (step_passes s w.position met.0 met.1) pass in
-    step_past s.rules word w met.0 met.1 (met_past s names w.is_trailing w.waiting w.position word w.held off parts.0) none
+    let parts = both (word_passes s names w.is_trailing w.waiting word w.held)
+    (step_passes s w.position met.0 met.1) pass in
+    step_past s.rules word w met.0 met.1
+    (met_past s names w.is_trailing w.waiting w.position word w.held off parts.0) none
 
-walk_past : (s : Shape) (names : Names) (w : Walk) (words : List Text) → s.disable_help_subcommand ≡ false → IsNoHelp w.stopped
+walk_past : (s : Shape) (names : Names) (w : Walk) (words : List Text) → s.disable_help_subcommand ≡ false
+    → IsNoHelp w.stopped
     → walk_passes s names w words ≡ true → IsNoHelp (fold (walked s.rules names) w words).stopped
 unfolding walk_passes walked
 walk_past s names w [] off none pass = none
 walk_past s names w (word ∷ rest) off none pass =
     let parts = both (turn_passes s names w word) (walk_passes s names (walked s.rules names w word) rest) pass in
-    walk_past s names (walked s.rules names w word) rest off (turn_past s names w word w.stopped off none none parts.0) parts.1
+    walk_past s names (walked s.rules names w word) rest off
+    (turn_past s names w word w.stopped off none none parts.0) parts.1
 
 -- ---- the whole command line
 
@@ -322,10 +346,13 @@ first_there : (a b c : Bool) → a ≡ true → b ≡ true → ((a && b) || c) �
 first_there a b c e f = rw (e, f) refl
 
 -- the command that a walk stopped at can be read, if it is not the one for help
-named_read : (shapes : List Shape) (name : Text) (words : List Text) → Each IsCommand shapes → bytes_eq name (codes "help") ≡ false
-    → option_map_or (λ s. level_passes s [] nothing_held words false) (find (λ s. answers_to name (label_of s)) (below shapes)) true ≡ true
+named_read : (shapes : List Shape) (name : Text) (words : List Text) → Each IsCommand shapes
+    → bytes_eq name (codes "help") ≡ false
+    → option_map_or (λ s. level_passes s [] nothing_held words false)
+    (find (λ s. answers_to name (label_of s)) (below shapes)) true ≡ true
     → is_some (option_map (λ s. rows_at s words) (find (λ s. answers_to name (label_of s)) (below shapes))) ≡ true
-    → is_among shapes (option_map (λ s. rows_at s words) (find (λ s. answers_to name (label_of s)) (below shapes))) ≡ true
+    → is_among shapes (option_map (λ s. rows_at s words) (find (λ s. answers_to name (label_of s)) (below shapes)))
+    ≡ true
 named_read [] name words are fine pass some = go (answers_to name (codes "help", [])) refl some
   where
     go : (b : Bool) → answers_to name (codes "help", []) ≡ b
@@ -352,13 +379,17 @@ named_read (s ∷ shapes) name words are fine pass some =
 
     go : (b : Bool)
         → (option_map_or (λ s. level_passes s [] nothing_held words false) found true ≡ true
-        → is_some (option_map (λ s. rows_at s words) found) ≡ true → is_among shapes (option_map (λ s. rows_at s words) found) ≡ true)
-        → option_map_or (λ s. level_passes s [] nothing_held words false) (cond b (Some (built_below s)) found) true ≡ true
+        → is_some (option_map (λ s. rows_at s words) found) ≡ true
+        → is_among shapes (option_map (λ s. rows_at s words) found) ≡ true)
+        → option_map_or (λ s. level_passes s [] nothing_held words false) (cond b (Some (built_below s)) found) true
+        ≡ true
         → is_some (option_map (λ s. rows_at s words) (cond b (Some (built_below s)) found)) ≡ true
         → is_among (s ∷ shapes) (option_map (λ s. rows_at s words) (cond b (Some (built_below s)) found)) ≡ true
     go true more pass some =
-        let named : s.name ≡ (built_below s).name = subst (λ (t : Shape). t.name ≡ (built_below t).name) (sym are.0.plain) refl in
-        first_there (bytes_eq (built_below s).name s.name) _ _ ((bytes_eq-Decides (built_below s).name s.name).1 (sym named)) (command_read s words are.0 pass)
+        let named : s.name ≡ (built_below s).name =
+        subst (λ (t : Shape). t.name ≡ (built_below t).name) (sym are.0.plain) refl in
+        first_there (bytes_eq (built_below s).name s.name) _ _
+        ((bytes_eq-Decides (built_below s).name s.name).1 (sym named)) (command_read s words are.0 pass)
     go false more pass some = later _ (more pass some)
 
 stop_read : (stop : Option (Text × List Text)) → IsNoHelp stop → entered_passes (built program) stop ≡ true
@@ -375,11 +406,15 @@ taken words e =
     let rows = finished top.rules end.held in
     let has = is_some (entered (built program) end.stopped) in
     let whole = (both (is_simple program) (built_takes (built program) nothing_held rest) e).1 in
-    let parts = both (entered_passes (built program) end.stopped) (level_passes top names nothing_held rest has) whole in
+    let parts = both (entered_passes (built program) end.stopped)
+    (level_passes top names nothing_held rest has) whole in
     let level = both (walk_passes top names (walk_from nothing_held) rest)
-    (settle_passes top.rules top.args_override_self end.held && (list_all default_passes top.rules && is_valid top rows has)) parts.1 in
-    let last = both (settle_passes top.rules top.args_override_self end.held) (list_all default_passes top.rules && is_valid top rows has) level.1 in
+    (settle_passes top.rules top.args_override_self end.held &&
+    (list_all default_passes top.rules && is_valid top rows has)) parts.1 in
+    let last = both (settle_passes top.rules top.args_override_self end.held)
+    (list_all default_passes top.rules && is_valid top rows has) level.1 in
     let valid = both (list_all default_passes top.rules) (is_valid top rows has) last.1 in
     let some = both has (list_all (λ a. a.is_free) top.rules
-    && ((top.subcommand_negates_reqs && has) || list_all (λ a. not a.required || is_given a.id rows) top.rules)) valid.1 in
+    && ((top.subcommand_negates_reqs && has) || list_all
+    (λ a. not a.required || is_given a.id rows) top.rules)) valid.1 in
     stop_read end.stopped (walk_past top names (walk_from nothing_held) rest refl tt level.0) parts.0 some.0

@@ -47,7 +47,9 @@ abbrev pub report : Shape
 report = command (codes "report") (workers ∷ large ∷ path (codes "board") ∷ [])
 
 abbrev pub nested : Shape
-nested = command (codes "nested") (number (codes "levels") MAX_BOARD_LEVELS ∷ number (codes "pebbles") MAX_PEBBLES ∷ [])
+nested =
+    command (codes "nested")
+    (number (codes "levels") MAX_BOARD_LEVELS ∷ number (codes "pebbles") MAX_PEBBLES ∷ [])
 
 -- the words for the two sides of a play
 abbrev pub side_words : List Text
@@ -82,7 +84,11 @@ commands_among words =
 -- the program with these commands, one of which must be named
 abbrev pub program_of : List Shape → App
 program_of commands = record {
-  top = record (new_shape (codes "pebbles")) { is_leaf = false; has_version = true; subcommand_required = true };
+  top = record (new_shape (codes "pebbles")) {
+    is_leaf = false;
+    has_version = true;
+    subcommand_required = true;
+  };
   subs = commands;
 }
 

@@ -35,8 +35,8 @@ abbrev pub side_word : Side → Text
 side_word Labeller = codes "labeller"
 side_word Adversary = codes "adversary"
 
--- the word for the id was given exactly if this is true: the matches have `true` for it if it was,
--- and else `false`
+-- the word for the id was given exactly if this is true:
+-- the matches have `true` for it if it was, and else `false`
 abbrev pub HasFlag : List Row → Text → Bool → Type 0
 HasFlag rows id is_given = one_of id rows ≡ Some (bool_text is_given)
 
@@ -47,7 +47,8 @@ AsksFor name rows (jobs.Check board proof) = (name ≡ codes "check")
     × (first_of (codes "board") rows ≡ Some board.now)
     × (first_of (codes "proof") rows ≡ Some proof.now)
 AsksFor name rows (jobs.Nested levels pebbles) = (name ≡ codes "nested")
-    × HasNumber rows (codes "levels") MAX_BOARD_LEVELS levels × HasNumber rows (codes "pebbles") MAX_PEBBLES pebbles
+    × HasNumber rows (codes "levels") MAX_BOARD_LEVELS levels
+    × HasNumber rows (codes "pebbles") MAX_PEBBLES pebbles
 AsksFor name rows (jobs.Solve workers board) = (name ≡ codes "solve")
     × HasNumber rows (codes "workers") MAX_WORKERS workers
     × (first_of (codes "board") rows ≡ Some board.now)
@@ -59,19 +60,21 @@ AsksFor name rows (jobs.Play side large board) = (name ≡ codes "play")
     × (first_of (codes "side") rows ≡ Some (side_word side))
     × HasFlag rows (codes "large") large
     × (first_of (codes "board") rows ≡ Some board.now)
-AsksFor name rows (jobs.Climb levels) = (name ≡ codes "climb") × HasNumber rows (codes "levels") MAX_LEVELS levels
+AsksFor name rows (jobs.Climb levels) =
+    (name ≡ codes "climb") × HasNumber rows (codes "levels") MAX_LEVELS levels
 
 -- the command that `clap` finds on the words asks for the job
 abbrev pub IsReadAs : Option (Text × List Row) → Job → Type 0
 IsReadAs None job = ⊥
 IsReadAs (Some found) job = AsksFor found.0 found.1 job
 
--- the numbers of the job are those of boards that can be made or played on unmade, and of workers
--- that can be started
+-- the numbers of the job are those of boards that can be made or
+-- played on unmade, and of workers that can be started
 abbrev pub IsInRange : Job → Type 0
 IsInRange jobs.Joined = Unit {0}
 IsInRange (jobs.Check board proof) = Unit {0}
-IsInRange (jobs.Nested levels pebbles) = (1 ≤ levels) × (levels ≤ MAX_BOARD_LEVELS) × (1 ≤ pebbles) × (pebbles ≤ MAX_PEBBLES)
+IsInRange (jobs.Nested levels pebbles) =
+    (1 ≤ levels) × (levels ≤ MAX_BOARD_LEVELS) × (1 ≤ pebbles) × (pebbles ≤ MAX_PEBBLES)
 IsInRange (jobs.Solve workers board) = (1 ≤ workers) × (workers ≤ MAX_WORKERS)
 IsInRange (jobs.Report workers large board) = (1 ≤ workers) × (workers ≤ MAX_WORKERS)
 IsInRange (jobs.Play side large board) = Unit {0}
@@ -95,7 +98,8 @@ has_topic words = false
 -- the text that says the version
 abbrev pub version_text : List ℕ
 version_text = with_line_feed (codes "pebbles 1.1.0")
-    ++ with_line_feed (codes "reads `board 1`, `board 2` and `proof 1`, writes these and `report 1`")
+    ++ with_line_feed
+    (codes "reads `board 1`, `board 2` and `proof 1`, writes these and `report 1`")
 
 -- the name stands in the text
 abbrev pub Names : List ℕ → Text → Type 0

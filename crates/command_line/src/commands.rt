@@ -1,7 +1,8 @@
 //! The program's commands, with the texts of their help.
 
 ghost use Rattle.std.specs.Prelude.{◌≡◌, IfOk, List, false, true};
-ghost use Rattle.clap.specs.Words.{Text, app_of, fault_of, is_simple, is_simple_and_free, rule_of, shape_of, subcommand_of, takes};
+ghost use Rattle.clap.specs.Words.{Text, app_of, fault_of, is_simple, is_simple_and_free, rule_of};
+ghost use Rattle.clap.specs.Words.{shape_of, subcommand_of, takes};
 ghost use Rattle.clap.specs.declared.builder.command.Command.TheViews.{out-Command};
 ghost use Rattle.command_line.specs.Commands as commands;
 

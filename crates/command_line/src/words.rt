@@ -1,8 +1,10 @@
 //! The job that the words of the command line ask for.
 
-ghost use Rattle.std.specs.Prelude.{◌≡◌, ◌≤◌, ◌↔◌, ◌⊎◌, [], IfOk, OnOk, IfErr, IfSome, MatchOption, Ok, None, Some, true, false};
+ghost use Rattle.std.specs.Prelude.{◌≡◌, ◌≤◌, ◌↔◌, ◌⊎◌, [], IfOk, OnOk, IfErr, IfSome, MatchOption};
+ghost use Rattle.std.specs.Prelude.{Ok, None, Some, true, false};
 ghost use Rattle.std.specs.Prelude.{length, codes, option_map};
-ghost use Rattle.clap.specs.Words.{fault_of, first_of, found_of, kind_of, rows_of, subcommand_of, subcommand_rows_of, takes};
+ghost use Rattle.clap.specs.Words.{fault_of, first_of, found_of, kind_of, rows_of, subcommand_of};
+ghost use Rattle.clap.specs.Words.{subcommand_rows_of, takes};
 ghost use Rattle.clap.specs.Walk.{texts};
 ghost use Rattle.command_line.specs.Commands as commands;
 ghost use Rattle.command_line.specs.Reading.{HasFlag, HasNumber, IsInRange, IsReadAs, ShowsWords};
@@ -234,7 +236,8 @@ fn nested_job<'a>(values: &ArgMatches<'a>) -> Option<Job<'a>>
 }
 
 fn play_job<'a>(values: &ArgMatches<'a>) -> Option<Job<'a>>
-    ensures asked { Reads (commands.play_among commands.sides) (rows_of (found_of values.now)) result }
+    ensures asked { Reads (commands.play_among commands.sides)
+        (rows_of (found_of values.now)) result }
     ensures numbers { IfSome result IsInRange }
 {
     let side = side(values)?;

@@ -25,7 +25,8 @@ module _ (b : PlainBoard) (is : IsBoard b) (x : ℕ) (i : x < configurations b) 
   some-dominator : struck < gaps b → IsDominator b conf (pebble_of b struck)
   some-dominator low =
       let f = struck-found b conf (gap_of b conf) (gaps b) b.pebbles low in
-      let pebble : f.pebble ≡ pebble_of b struck = sym (ap (pebble_of b) f.is ∙ pebble_of-gap_of b conf f.pebble ok f.below) in
+      let pebble : f.pebble ≡ pebble_of b struck =
+      sym (ap (pebble_of b) f.is ∙ pebble_of-gap_of b conf f.pebble ok f.below) in
       subst (IsDominator b conf) pebble ((is_dominator_is b conf f.pebble ok.each_pebble f.below).0 f.test)
 
   no-dominator : gaps b ≤ struck → (p : ℕ) → IsDominator b conf p → ⊥
@@ -50,7 +51,8 @@ gaps-by Classes b e = absurd (not-ordered e)
 pub ordered-gaps : (n : Numbered) → n.numbering ≡ Ordered → (graph_of n).gaps ≡ gaps n.board
 ordered-gaps n e = gaps-by n.numbering n.board e
 
-some-by : (k : Numbering) (b : PlainBoard) → k ≡ Ordered → IsBoard b → (x : ℕ) → x < (graph_by k b).configurations → (graph_by k b).struck x < (graph_by k b).gaps
+some-by : (k : Numbering) (b : PlainBoard) → k ≡ Ordered → IsBoard b → (x : ℕ) → x < (graph_by k b).configurations
+    → (graph_by k b).struck x < (graph_by k b).gaps
     → IsSmallest (IsDominator b (configuration_by k b x)) (Some (pebble_of b ((graph_by k b).struck x)))
 unfolding graph_by configuration_by
 some-by Ordered b e is x i low =
@@ -59,18 +61,22 @@ some-by Ordered b e is x i low =
 some-by Classes b e is x i low = absurd (not-ordered e)
 
 -- a gap that is struck is that of the smallest dominating pebble
-pub dominator-some : (n : Numbered) → n.numbering ≡ Ordered → IsBoard n.board → (x gap : ℕ) → x < (graph_of n).configurations
-    → gap ≡ (graph_of n).struck x → gap < (graph_of n).gaps → IsSmallest (IsDominator n.board (configuration_of n x)) (Some (pebble_of n.board gap))
+pub dominator-some : (n : Numbered) → n.numbering ≡ Ordered → IsBoard n.board → (x gap : ℕ)
+    → x < (graph_of n).configurations
+    → gap ≡ (graph_of n).struck x → gap < (graph_of n).gaps
+    → IsSmallest (IsDominator n.board (configuration_of n x)) (Some (pebble_of n.board gap))
 dominator-some n e is x gap i same low =
     subst (λ g. IsSmallest (IsDominator n.board (configuration_of n x)) (Some (pebble_of n.board g))) (sym same)
     (some-by n.numbering n.board e is x i (subst (λ g. g < (graph_of n).gaps) same low))
 
-none-by : (k : Numbering) (b : PlainBoard) → k ≡ Ordered → IsBoard b → (x : ℕ) → x < (graph_by k b).configurations → (graph_by k b).gaps ≤ (graph_by k b).struck x
+none-by : (k : Numbering) (b : PlainBoard) → k ≡ Ordered → IsBoard b → (x : ℕ) → x < (graph_by k b).configurations
+    → (graph_by k b).gaps ≤ (graph_by k b).struck x
     → IsSmallest (IsDominator b (configuration_by k b x)) None
 unfolding graph_by configuration_by
 none-by Ordered b e is x i none = no-dominator b is x i none
 none-by Classes b e is x i none = absurd (not-ordered e)
 
-pub dominator-none : (n : Numbered) → n.numbering ≡ Ordered → IsBoard n.board → (x : ℕ) → x < (graph_of n).configurations
+pub dominator-none : (n : Numbered) → n.numbering ≡ Ordered → IsBoard n.board → (x : ℕ)
+    → x < (graph_of n).configurations
     → (graph_of n).gaps ≤ (graph_of n).struck x → IsSmallest (IsDominator n.board (configuration_of n x)) None
 dominator-none n e is x i none = none-by n.numbering n.board e is x i none

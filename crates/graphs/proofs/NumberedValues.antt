@@ -23,16 +23,19 @@ module _ (n : Numbered) (board : IsBoard n.board) where
   shows : ShowsGame n.board a (configuration_of n)
   shows = numbered-shows n board
 
-  pub tree_of_lasts : (depth x : ℕ) → x < a.configurations → lasts a depth x ≡ true → LabellerTree n.board depth (configuration_of n x)
+  pub tree_of_lasts : (depth x : ℕ) → x < a.configurations → lasts a depth x ≡ true
+      → LabellerTree n.board depth (configuration_of n x)
   tree_of_lasts depth x i e = tree-of-lasts n.board a (configuration_of n) is shows depth x i e
 
-  pub lasts_of_tree : (depth x : ℕ) → x < a.configurations → LabellerTree n.board depth (configuration_of n x) → lasts a depth x ≡ true
+  pub lasts_of_tree : (depth x : ℕ) → x < a.configurations → LabellerTree n.board depth (configuration_of n x)
+      → lasts a depth x ≡ true
   lasts_of_tree depth x i tree = lasts-of-tree n.board a (configuration_of n) is shows depth x i tree
 
   pub value_of_lasts : (value x : ℕ) → x < a.configurations → lasts a value x ≡ true → lasts a (suc value) x ≡ false
       → HasValue n.board (configuration_of n x) (Finite value)
   value_of_lasts value x i e stops =
-      (worth-is n.board a (configuration_of n) is shows x value i).0 (record { is_rank = i; lasting = e; stopping = stops })
+      (worth-is n.board a (configuration_of n) is shows x value i).0
+      (record { is_rank = i; lasting = e; stopping = stops })
 
   pub lasts_of_value : (value x : ℕ) → x < a.configurations → HasValue n.board (configuration_of n x) (Finite value)
       → (lasts a value x ≡ true) × (lasts a (suc value) x ≡ false)
@@ -40,10 +43,12 @@ module _ (n : Numbered) (board : IsBoard n.board) where
       let exact = (worth-is n.board a (configuration_of n) is shows x value i).1 has in
       (exact.lasting, exact.stopping)
 
-  pub forever_of_lasts : (x : ℕ) → x < a.configurations → LastsForever a x → HasValue n.board (configuration_of n x) Forever
+  pub forever_of_lasts : (x : ℕ) → x < a.configurations → LastsForever a x
+      → HasValue n.board (configuration_of n x) Forever
   forever_of_lasts x i e = (forever-is n.board a (configuration_of n) is shows x i).0 e
 
-  pub lasts_of_forever : (x : ℕ) → x < a.configurations → HasValue n.board (configuration_of n x) Forever → LastsForever a x
+  pub lasts_of_forever : (x : ℕ) → x < a.configurations → HasValue n.board (configuration_of n x) Forever
+      → LastsForever a x
   lasts_of_forever x i has = (forever-is n.board a (configuration_of n) is shows x i).1 has
 
 places-by : (k : Numbering) (b : PlainBoard) → (graph_by k b).places ≡ places b

@@ -28,8 +28,8 @@ use std::thread::Threads;
 pub enum Numbering {
     /// A configuration, by its rank, and a pebble with the places of the others.
     Ordered,
-    /// A class of configurations: the places of all pebbles, or of all but one, whichever pebble
-    /// holds which.
+    /// A class of configurations: the places of all pebbles,
+    /// or of all but one, whichever pebble holds which.
     Classes,
 }
 
@@ -44,7 +44,8 @@ pub fn has_few(board: &Board, numbering: Numbering) -> bool
     }
 }
 
-/// What finds the numbers of a board's configurations and of their gaps, and the members and answers
+/// What finds the numbers of a board's configurations and of their gaps, and the members and
+/// answers
 /// of a gap.
 #[derive(Drop)]
 pub(crate) enum Finder {
@@ -114,8 +115,8 @@ impl Graph {
     }
 
     /// The graph of the classes of `board`, made by at most this number of `workers`. One is this
-    /// thread, and starts none. The graph is the same for every number of them. The error is that
-    /// memory ran out.
+    /// thread, and starts none. The graph is the same for every number of them.
+    /// The error is that memory ran out.
     pub fn of_classes_by(
         rt: &(impl Threads + Sync),
         alloc: Global,
@@ -182,8 +183,8 @@ impl Graph {
         }
     }
 
-    /// The members of `gap`, by place, which is in ascending order. The entries after them say
-    /// nothing.
+    /// The members of `gap`, by place, which is in ascending order.
+    /// The entries after them say nothing.
     pub fn members(&self, gap: u32) -> [u32; MAX_PLACES]
         requires { gap < (graph_of self.now).gaps }
         ensures members { AreMembers (graph_of self.now) gap (graph_of self.now).places result }

@@ -44,7 +44,8 @@ pub(crate) trait Numbers {
     /// The members of `gap`, by place. The entries after them say nothing.
     fn members(&self, gap: u32) -> [u32; MAX_PLACES]
         requires { gap < (graph_of (game self.now)).gaps }
-        ensures { AreMembers (graph_of (game self.now)) gap (graph_of (game self.now)).places result };
+        ensures { AreMembers (graph_of (game self.now)) gap
+            (graph_of (game self.now)).places result };
 
     /// The answers of `gap`.
     fn answers(&self, gap: u32) -> LabelSet

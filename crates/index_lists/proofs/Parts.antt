@@ -1,15 +1,20 @@
 -- Lists as parts of one list.
-use Rattle.std.proofs.Common.{◌≡◌, ◌≢◌, ℕ, ◌+◌, ◌-◌, ◌<◌, ◌≤◌, ◌==◌, inl, inr, cond, if◌then◌else◌, zero, suc, List, [], ◌∷◌, ◌++◌, length, map, take, drop, replicate, refl, sym, ap, ◌∙◌, arith, add-one, length-append, slice_get, slice_set, get_or, Some}
+use Rattle.std.proofs.Common.{◌≡◌, ◌≢◌, ℕ, ◌+◌, ◌-◌, ◌<◌, ◌≤◌, ◌==◌, inl, inr, cond, if◌then◌else◌, zero, suc, List, []}
+use Rattle.std.proofs.Common.{◌∷◌, ◌++◌, length, map, take, drop, replicate, refl, sym, ap, ◌∙◌, arith, add-one}
+use Rattle.std.proofs.Common.{length-append, slice_get, slice_set, get_or, Some}
 use Rattle.std.specs.Prelude.{sum}
 use Rattle.std.specs.List.{concat, insert, remove}
 use Rattle.std.proofs.lemmas.Bool.{cases_eq, cases_lt}
-use Rattle.std.proofs.lemmas.List.{take_at, drop_at, drop-drop, append_assoc, take-append-drop, get_or-set_same, get_or-set_other, get_or-map, take_rest, map-set, length-map, length-set, length-replicate}
+use Rattle.std.proofs.lemmas.List.{take_at, drop_at, drop-drop, append_assoc, take-append-drop, get_or-set_same}
+use Rattle.std.proofs.lemmas.List.{get_or-set_other, get_or-map, take_rest, map-set, length-map, length-set}
+use Rattle.std.proofs.lemmas.List.{length-replicate}
 use Rattle.std.proofs.lemmas.List.Sums.{sum_by-cons, sum_by-take-drop}
 use Rattle.std.proofs.lemmas.List.Edits.{insert-append_right, length-insert}
 use Rattle.index_lists.specs.Lists.{times, without_node, IsFree, AreLists}
 use Rattle.index_lists.specs.Parts.{PlainParts}
 use Rattle.index_lists.specs.Inside.Parts.{parts_of, part, lists_of_parts, ArePlain, AreCut}
-use Rattle.index_lists.proofs.Times.{same_is, differ_is, cond_same, cond_other, times-append, times-without_same, times-without_other, without-absent, length-without, distinct-length}
+use Rattle.index_lists.proofs.Times.{same_is, differ_is, cond_same, cond_other, times-append, times-without_same}
+use Rattle.index_lists.proofs.Times.{times-without_other, without-absent, length-without, distinct-length}
 use Rattle.index_lists.proofs.Places.{some_is, stands-at}
 
 -- ---- cutting
@@ -20,10 +25,12 @@ parts-concat (xs ∷ xss) = rw (take_at xs (concat xss) (length xs) refl, drop_a
     (ap (λ yss. xs ∷ yss) (parts-concat xss))
 
 -- parts of these lengths are cut out of their list again
-pub cut : (lens nodes : List ℕ) (xss : List (List ℕ)) → lens ≡ map length xss → nodes ≡ concat xss → parts_of lens nodes ≡ xss
+pub cut : (lens nodes : List ℕ) (xss : List (List ℕ)) → lens ≡ map length xss → nodes ≡ concat xss
+    → parts_of lens nodes ≡ xss
 cut lens nodes xss e f = rw (e, f) (parts-concat xss)
 
-pub cut-are : (n l room slots : ℕ) (lens nodes : List ℕ) (xss : List (List ℕ)) → lens ≡ map length xss → nodes ≡ concat xss → n ≤ room
+pub cut-are : (n l room slots : ℕ) (lens nodes : List ℕ) (xss : List (List ℕ)) → lens ≡ map length xss
+    → nodes ≡ concat xss → n ≤ room
     → l ≤ slots → AreCut n l room slots lens nodes
 cut-are n l room slots lens nodes xss e f g h = record {
   lens_are = ap (map length) (cut lens nodes xss e f) ∙ sym e;
@@ -41,7 +48,8 @@ sum-lens (xs ∷ xss) =
     omega (arith, rest, whole, here)
 
 -- the parts up to a place and the lengths of those after it add up to the whole
-after-lens : (k : ℕ) (xss : List (List ℕ)) → length (concat (take k xss)) + sum (drop k (map length xss)) ≡ length (concat xss)
+after-lens : (k : ℕ) (xss : List (List ℕ))
+    → length (concat (take k xss)) + sum (drop k (map length xss)) ≡ length (concat xss)
 after-lens zero xss = (let e = sum-lens xss in omega (arith, e))
 after-lens (suc k) [] = refl
 after-lens (suc k) (xs ∷ xss) =
@@ -56,7 +64,8 @@ part-at : (l : ℕ) (xss : List (List ℕ)) → l < length xss
 part-at l [] h = absurd (omega arith)
 part-at zero (xs ∷ xss) h = take_at xs (concat xss) (length xs) refl
 part-at (suc l) (xs ∷ xss) h =
-    let front : drop (length xs + length (concat (take l xss))) (xs ++ concat xss) ≡ drop (length (concat (take l xss))) (concat xss) =
+    let front : drop (length xs + length (concat (take l xss))) (xs ++ concat xss)
+    ≡ drop (length (concat (take l xss))) (concat xss) =
     sym (drop-drop (length (concat (take l xss))) (length xs) (xs ++ concat xss))
     ∙ ap (drop (length (concat (take l xss)))) (drop_at xs (concat xss) (length xs) refl) in
     rw (length-append xs (concat (take l xss)), front) (part-at l xss (omega arith))
@@ -87,7 +96,8 @@ module _ {n l room slots : ℕ} {lens nodes : List ℕ} (c : AreCut n l room slo
 
   -- the length of a part
   pub cut-len : (of d : ℕ) → of < length lens → get_or lens of d ≡ length (part (parts_of lens nodes) of)
-  cut-len of d h = sym (ap (λ ns. get_or ns of d) c.lens_are) ∙ get_or-map length (parts_of lens nodes) of [] d (let e = cut-count in omega (arith, e, h))
+  cut-len of d h = sym (ap (λ ns. get_or ns of d) c.lens_are)
+      ∙ get_or-map length (parts_of lens nodes) of [] d (let e = cut-count in omega (arith, e, h))
 
   -- a part ends at the number of nodes less the lengths of the parts after it
   pub cut-end : (of end : ℕ) → of < length lens → end + sum (drop (of + 1) lens) ≡ length nodes
@@ -95,14 +105,18 @@ module _ {n l room slots : ℕ} {lens nodes : List ℕ} (c : AreCut n l room slo
   cut-end of end h e =
       let parts = parts_of lens nodes in
       let a = after-lens (of + 1) parts in
-      let b : sum (drop (of + 1) (map length parts)) ≡ sum (drop (of + 1) lens) = ap (λ ns. sum (drop (of + 1) ns)) c.lens_are in
+      let b : sum (drop (of + 1) (map length parts)) ≡ sum (drop (of + 1) lens) =
+      ap (λ ns. sum (drop (of + 1) ns)) c.lens_are in
       let w = ap length c.nodes_are in
-      let s : length (concat (take (of + 1) parts)) ≡ length (concat (take (suc of) parts)) = ap (λ k. length (concat (take k parts))) (add-one of) in
+      let s : length (concat (take (of + 1) parts)) ≡ length (concat (take (suc of) parts)) =
+      ap (λ k. length (concat (take k parts))) (add-one of) in
       omega (arith, a, b, w, s, e)
 
   -- a part is the nodes before its end, as many as its length
-  pub cut-part : (of end len d : ℕ) → of < length lens → end + sum (drop (of + 1) lens) ≡ length nodes → len ≡ get_or lens of d
-      → (len ≤ end) × (end ≤ length nodes) × (take (end - (end - len)) (drop (end - len) nodes) ≡ part (parts_of lens nodes) of)
+  pub cut-part : (of end len d : ℕ) → of < length lens → end + sum (drop (of + 1) lens) ≡ length nodes
+      → len ≡ get_or lens of d
+      → (len ≤ end) × (end ≤ length nodes)
+      × (take (end - (end - len)) (drop (end - len) nodes) ≡ part (parts_of lens nodes) of)
   cut-part of end len d h e f =
       let parts = parts_of lens nodes in
       let inside : of < length parts = (let k = cut-count in omega (arith, k, h)) in
@@ -114,7 +128,8 @@ module _ {n l room slots : ℕ} {lens nodes : List ℕ} (c : AreCut n l room slo
       let long : end - (end - len) ≡ length (part parts of) = omega (arith, size, low) in (
         low,
         omega (arith, e),
-        rw (long, begin) (ap (λ ns. take (length (part parts of)) (drop (length (concat (take of parts))) ns)) (sym c.nodes_are)
+        rw (long, begin) (ap (λ ns. take (length (part parts of)) (drop (length (concat (take of parts))) ns))
+            (sym c.nodes_are)
             ∙ part-at of parts inside),
       )
 
@@ -123,18 +138,22 @@ module _ {n l room slots : ℕ} {lens nodes : List ℕ} (c : AreCut n l room slo
 pub fewer : (x l : ℕ) (xss : List (List ℕ)) → times x (part xss l) ≤ times x (concat xss)
 fewer x l [] = omega arith
 fewer x zero (xs ∷ xss) = let t = times-append x xs (concat xss) in omega (arith, t)
-fewer x (suc l) (xs ∷ xss) = let t = times-append x xs (concat xss) in let rest = fewer x l xss in omega (arith, t, rest)
+fewer x (suc l) (xs ∷ xss) =
+    let t = times-append x xs (concat xss) in let rest = fewer x l xss in omega (arith, t, rest)
 
 pub part-le : (l : ℕ) (xss : List (List ℕ)) → length (part xss l) ≤ length (concat xss)
 part-le l [] = omega arith
 part-le zero (xs ∷ xss) = (let e = length-append xs (concat xss) in omega (arith, e))
-part-le (suc l) (xs ∷ xss) = (let e = length-append xs (concat xss) in let rest = part-le l xss in omega (arith, e, rest))
+part-le (suc l) (xs ∷ xss) =
+    (let e = length-append xs (concat xss) in let rest = part-le l xss in omega (arith, e, rest))
 
 two : (x l m : ℕ) (xss : List (List ℕ)) → l ≢ m → times x (part xss l) + times x (part xss m) ≤ times x (concat xss)
 two x l m [] d = omega arith
 two x zero zero (xs ∷ xss) d = absurd (d refl)
-two x zero (suc m) (xs ∷ xss) d = let t = times-append x xs (concat xss) in let rest = fewer x m xss in omega (arith, t, rest)
-two x (suc l) zero (xs ∷ xss) d = let t = times-append x xs (concat xss) in let rest = fewer x l xss in omega (arith, t, rest)
+two x zero (suc m) (xs ∷ xss) d =
+    let t = times-append x xs (concat xss) in let rest = fewer x m xss in omega (arith, t, rest)
+two x (suc l) zero (xs ∷ xss) d =
+    let t = times-append x xs (concat xss) in let rest = fewer x l xss in omega (arith, t, rest)
 two x (suc l) (suc m) (xs ∷ xss) d =
     let t = times-append x xs (concat xss) in
     let rest = two x l m xss (λ e. d (ap suc e)) in
@@ -199,7 +218,8 @@ put-concat (xs ∷ xss) zero node h =
     let whole = length-append xs [] in
     let end : length (xs ++ []) ≡ length xs = omega (arith, whole) in
     let none : length xs - length xs ≡ 0 = omega arith in
-    rw end (insert-append_right xs (concat xss) (length xs) (length xs) node refl (omega arith) ∙ rw none (sym (append_assoc xs (node ∷ []) (concat xss))))
+    rw end (insert-append_right xs (concat xss) (length xs) (length xs) node refl (omega arith)
+    ∙ rw none (sym (append_assoc xs (node ∷ []) (concat xss))))
 put-concat (xs ∷ xss) (suc to) node h =
     let at = length (concat (take (suc to) xss)) in
     let rest : length xs + at - length xs ≡ at = omega arith in
@@ -227,7 +247,8 @@ pushed-part xss to node l h = elim (cases_eq l to) [
 abbrev pub without_all : ℕ → List (List ℕ) → List (List ℕ)
 without_all node xss = map (without_node node) xss
 
-without-append : (node : ℕ) (xs ys : List ℕ) → without_node node (xs ++ ys) ≡ without_node node xs ++ without_node node ys
+without-append : (node : ℕ) (xs ys : List ℕ)
+    → without_node node (xs ++ ys) ≡ without_node node xs ++ without_node node ys
 without-append node [] ys = refl
 without-append node (x ∷ xs) ys = elim (cases_eq x node) [
   | inl e ↦ rw (same_is x node e) (without-append node xs ys)
@@ -236,7 +257,8 @@ without-append node (x ∷ xs) ys = elim (cases_eq x node) [
 
 without-concat : (node : ℕ) (xss : List (List ℕ)) → without_node node (concat xss) ≡ concat (without_all node xss)
 without-concat node [] = refl
-without-concat node (xs ∷ xss) = without-append node xs (concat xss) ∙ ap (λ ys. without_node node xs ++ ys) (without-concat node xss)
+without-concat node (xs ∷ xss) =
+    without-append node xs (concat xss) ∙ ap (λ ys. without_node node xs ++ ys) (without-concat node xss)
 
 pub without-part : (node l : ℕ) (xss : List (List ℕ)) → part (without_all node xss) l ≡ without_node node (part xss l)
 without-part node l [] = refl
@@ -265,10 +287,12 @@ without-lens node (suc home) (xs ∷ xss) once some =
     let t = times-append node xs (concat xss) in
     let f = fewer node home xss in
     let here : times node xs ≡ 0 = omega (arith, t, once, some, f) in
-    rw (without-absent node xs here) (ap (λ ns. length xs ∷ ns) (without-lens node home xss (omega (arith, t, once)) some))
+    rw (without-absent node xs here)
+    (ap (λ ns. length xs ∷ ns) (without-lens node home xss (omega (arith, t, once)) some))
 
 -- taking out the place of a node takes out the node
-remove-without : (node place : ℕ) (xs : List ℕ) → slice_get xs place ≡ Some node → times node xs ≤ 1 → remove xs place ≡ without_node node xs
+remove-without : (node place : ℕ) (xs : List ℕ) → slice_get xs place ≡ Some node → times node xs ≤ 1
+    → remove xs place ≡ without_node node xs
 remove-without node place [] stands once = absurd (cc stands)
 remove-without node zero (x ∷ xs) stands once =
     let here : x ≡ node = some_is x node stands in
@@ -280,7 +304,8 @@ remove-without node (suc place) (x ∷ xs) stands once =
     omega (arith, one, once, later)) in
     rw (differ_is x node other) (ap (λ ys. x ∷ ys) (remove-without node place xs stands (omega (arith, once))))
 
-pub remove-concat : (node place : ℕ) (xss : List (List ℕ)) → slice_get (concat xss) place ≡ Some node → times node (concat xss) ≤ 1
+pub remove-concat : (node place : ℕ) (xss : List (List ℕ)) → slice_get (concat xss) place ≡ Some node
+    → times node (concat xss) ≤ 1
     → remove (concat xss) place ≡ concat (without_all node xss)
 remove-concat node place xss stands once = remove-without node place (concat xss) stands once ∙ without-concat node xss
 
@@ -318,9 +343,11 @@ module _ (p : PlainParts) (s : ArePlain p) where
   pub plain-few : length (concat p.parts) ≤ p.nodes
   plain-few = distinct-length p.nodes (concat p.parts) s.once s.below
 
-  pub plain-nodes : {l room slots : ℕ} {lens nodes : List ℕ} → p.parts ≡ parts_of lens nodes → AreCut p.nodes l room slots lens nodes
+  pub plain-nodes : {l room slots : ℕ} {lens nodes : List ℕ} → p.parts ≡ parts_of lens nodes
+      → AreCut p.nodes l room slots lens nodes
       → length nodes ≤ p.nodes
-  plain-nodes e c = (let f = plain-few in let w = ap length c.nodes_are in let g = ap (λ xss. length (concat xss)) e in omega (arith, f, w, g))
+  plain-nodes e c = (let f = plain-few in let w = ap length c.nodes_are in let g = ap (λ xss. length (concat xss)) e in
+      omega (arith, f, w, g))
 
   -- empty parts may be added at the end
   pub plain-begun : (k : ℕ) → length p.parts + k ≤ p.lists → ArePlain (record p { parts = p.parts ++ replicate k [] })
@@ -328,7 +355,8 @@ module _ (p : PlainParts) (s : ArePlain p) where
     few = s.few;
     once = λ x. rw (begun-concat k p.parts) (s.once x);
     below = λ x g. rw (begun-concat k p.parts) (s.below x g);
-    short = (let a = length-append p.parts (replicate k []) in let none : List ℕ = [] in let b = length-replicate k none in omega (arith, a, b, h));
+    short = (let a = length-append p.parts (replicate k []) in let none : List ℕ = [] in let b =
+        length-replicate k none in omega (arith, a, b, h));
   }
 
   pub plain-push : (to node : ℕ) → to < length p.parts → node < p.nodes → IsFree (lists_of_parts p) node
@@ -356,7 +384,8 @@ module _ (p : PlainParts) (s : ArePlain p) where
 
 -- ---- a push, whole
 
-module _ (n l : ℕ) {room slots : ℕ} {lens nodes : List ℕ} (s : ArePlain (record { nodes = n; lists = l; parts = parts_of lens nodes }))
+module _ (n l : ℕ) {room slots : ℕ} {lens nodes : List ℕ}
+    (s : ArePlain (record { nodes = n; lists = l; parts = parts_of lens nodes }))
     (c : AreCut n l room slots lens nodes) (to node : ℕ) (to_in : to < l) (node_in : node < n)
     (free : IsFree (lists_of_parts (record { nodes = n; lists = l; parts = parts_of lens nodes })) node)
     (lens' : List ℕ)
@@ -394,10 +423,12 @@ module _ (n l : ℕ) {room slots : ℕ} {lens nodes : List ℕ} (s : ArePlain (r
 
   list-plain : ArePlain (record { nodes = n; lists = l; parts = with_list })
   list-plain = plain-begun _ s (to + 1 - length lens)
-      (let e = sym (length-map (parts_of lens nodes) length) ∙ ap length c.lens_are in let short = s.short in omega (arith, e, short, to_in))
+      (let e = sym (length-map (parts_of lens nodes) length) ∙ ap length c.lens_are in let short = s.short in
+      omega (arith, e, short, to_in))
 
   list-free : IsFree (lists_of_parts (record { nodes = n; lists = l; parts = with_list })) node
-  list-free = record { free = λ m. ap (times node) (begun-part (to + 1 - length lens) m (parts_of lens nodes)) ∙ free.free m }
+  list-free =
+      record { free = λ m. ap (times node) (begun-part (to + 1 - length lens) m (parts_of lens nodes)) ∙ free.free m }
 
   pub list-room : length nodes < n
   list-room = (let low = plain-room _ s node node_in free in let w = ap length c.nodes_are in omega (arith, low, w))
@@ -411,12 +442,15 @@ module _ (n l : ℕ) {room slots : ℕ} {lens nodes : List ℕ} (s : ArePlain (r
       let room = list-room in
       omega (arith, size, whole, le, room)
 
-  module _ (end len : ℕ) (nodes' : List ℕ) (ends : end + sum (drop (to + 1) lens') ≡ length nodes) (is_len : len ≡ get_or lens' to len)
+  module _ (end len : ℕ) (nodes' : List ℕ) (ends : end + sum (drop (to + 1) lens') ≡ length nodes)
+      (is_len : len ≡ get_or lens' to len)
       (put : nodes' ≡ insert nodes end node) where
     pushed-lens : slice_set lens' to (len + 1) ≡ map length (with_node with_list to node)
     pushed-lens =
-        let size : len ≡ length (part with_list to) = is_len ∙ cut-len list-cut to len list-begun ∙ ap (λ xss. length (part xss to)) list-parts in
-        let more : len + 1 ≡ length (part with_list to ++ node ∷ []) = ap (λ m. m + 1) size ∙ sym (length-append (part with_list to) (node ∷ [])) in
+        let size : len ≡ length (part with_list to) =
+        is_len ∙ cut-len list-cut to len list-begun ∙ ap (λ xss. length (part xss to)) list-parts in
+        let more : len + 1 ≡ length (part with_list to ++ node ∷ []) =
+        ap (λ m. m + 1) size ∙ sym (length-append (part with_list to) (node ∷ [])) in
         ap (λ ns. slice_set ns to (len + 1)) list-lens ∙ ap (slice_set (map length with_list) to) more
         ∙ sym (map-set length with_list to (part with_list to ++ node ∷ []))
 
@@ -424,16 +458,20 @@ module _ (n l : ℕ) {room slots : ℕ} {lens nodes : List ℕ} (s : ArePlain (r
     pushed-nodes =
         let at : end ≡ length (concat (take (suc to) with_list)) = cut-end list-cut to end list-begun ends
         ∙ ap (λ xss. length (concat (take (suc to) xss))) list-parts in
-        put ∙ ap (λ m. insert nodes m node) at ∙ ap (λ ns. insert ns (length (concat (take (suc to) with_list))) node) list-nodes
+        put ∙ ap (λ m. insert nodes m node) at
+        ∙ ap (λ ns. insert ns (length (concat (take (suc to) with_list))) node) list-nodes
         ∙ put-concat with_list to node list-in
 
     pub pushed-parts : parts_of (slice_set lens' to (len + 1)) nodes' ≡ with_node with_list to node
     pushed-parts = cut _ nodes' (with_node with_list to node) pushed-lens pushed-nodes
 
-    pub pushed-cut : (room' slots' : ℕ) → n ≤ room' → l ≤ slots' → AreCut n l room' slots' (slice_set lens' to (len + 1)) nodes'
-    pushed-cut room' slots' g h = cut-are n l room' slots' _ nodes' (with_node with_list to node) pushed-lens pushed-nodes g h
+    pub pushed-cut : (room' slots' : ℕ) → n ≤ room' → l ≤ slots'
+        → AreCut n l room' slots' (slice_set lens' to (len + 1)) nodes'
+    pushed-cut room' slots' g h =
+        cut-are n l room' slots' _ nodes' (with_node with_list to node) pushed-lens pushed-nodes g h
 
-    pub pushed-plain : ArePlain (record { nodes = n; lists = l; parts = parts_of (slice_set lens' to (len + 1)) nodes' })
+    pub pushed-plain : ArePlain
+        (record { nodes = n; lists = l; parts = parts_of (slice_set lens' to (len + 1)) nodes' })
     pushed-plain = rw pushed-parts (plain-push _ list-plain to node list-in node_in list-free)
 
     pub pushed-list : (m : ℕ) → part (parts_of (slice_set lens' to (len + 1)) nodes') m
@@ -443,13 +481,16 @@ module _ (n l : ℕ) {room slots : ℕ} {lens nodes : List ℕ} (s : ArePlain (r
 
 -- ---- an unlink, whole
 
-module _ (n l : ℕ) {room slots : ℕ} {lens nodes : List ℕ} (s : ArePlain (record { nodes = n; lists = l; parts = parts_of lens nodes }))
-    (c : AreCut n l room slots lens nodes) (node home place len : ℕ) (some : 0 < times node (part (parts_of lens nodes) home))
+module _ (n l : ℕ) {room slots : ℕ} {lens nodes : List ℕ}
+    (s : ArePlain (record { nodes = n; lists = l; parts = parts_of lens nodes }))
+    (c : AreCut n l room slots lens nodes) (node home place len : ℕ)
+    (some : 0 < times node (part (parts_of lens nodes) home))
     (stands : slice_get nodes place ≡ Some node) (is_len : len ≡ get_or lens home len) where
   home-in : home < length lens
   home-in = elim (cases_lt home (length lens)) [
     | inl lt ↦ lt
-    | inr ge ↦ absurd (let e = ap (times node) (past home (parts_of lens nodes) (let k = cut-count c in omega (arith, k, ge))) in
+    | inr ge ↦ absurd (let e = ap (times node)
+        (past home (parts_of lens nodes) (let k = cut-count c in omega (arith, k, ge))) in
         omega (arith, e, some))
   ]
 
@@ -457,7 +498,8 @@ module _ (n l : ℕ) {room slots : ℕ} {lens nodes : List ℕ} (s : ArePlain (r
   size = is_len ∙ cut-len c home len home-in
 
   pub unlinked-some : 0 < len
-  unlinked-some = (let e = size in let k = length-without node (part (parts_of lens nodes) home) in omega (arith, e, k, some))
+  unlinked-some =
+      (let e = size in let k = length-without node (part (parts_of lens nodes) home) in omega (arith, e, k, some))
 
   all-once : times node (concat (parts_of lens nodes)) ≤ 1
   all-once = s.once node
@@ -471,13 +513,17 @@ module _ (n l : ℕ) {room slots : ℕ} {lens nodes : List ℕ} (s : ArePlain (r
   unlinked-nodes = sym (ap (λ ns. remove ns place) c.nodes_are)
       ∙ remove-concat node place (parts_of lens nodes) (ap (λ ns. slice_get ns place) c.nodes_are ∙ stands) all-once
 
-  pub unlinked-parts : parts_of (slice_set lens home (len - 1)) (remove nodes place) ≡ without_all node (parts_of lens nodes)
+  pub unlinked-parts : parts_of (slice_set lens home (len - 1)) (remove nodes place)
+      ≡ without_all node (parts_of lens nodes)
   unlinked-parts = cut _ _ (without_all node (parts_of lens nodes)) unlinked-lens unlinked-nodes
 
-  pub unlinked-cut : (room' slots' : ℕ) → n ≤ room' → l ≤ slots' → AreCut n l room' slots' (slice_set lens home (len - 1)) (remove nodes place)
-  unlinked-cut room' slots' g h = cut-are n l room' slots' _ _ (without_all node (parts_of lens nodes)) unlinked-lens unlinked-nodes g h
+  pub unlinked-cut : (room' slots' : ℕ) → n ≤ room' → l ≤ slots'
+      → AreCut n l room' slots' (slice_set lens home (len - 1)) (remove nodes place)
+  unlinked-cut room' slots' g h =
+      cut-are n l room' slots' _ _ (without_all node (parts_of lens nodes)) unlinked-lens unlinked-nodes g h
 
-  pub unlinked-plain : ArePlain (record { nodes = n; lists = l; parts = parts_of (slice_set lens home (len - 1)) (remove nodes place) })
+  pub unlinked-plain : ArePlain
+      (record { nodes = n; lists = l; parts = parts_of (slice_set lens home (len - 1)) (remove nodes place) })
   unlinked-plain = rw unlinked-parts (plain-unlink _ s node)
 
   pub unlinked-list : (m : ℕ) → part (parts_of (slice_set lens home (len - 1)) (remove nodes place)) m

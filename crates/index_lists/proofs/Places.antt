@@ -1,5 +1,7 @@
 -- Nodes at places of a list.
-use Rattle.std.proofs.Common.{◌≡◌, ℕ, ◌+◌, ◌<◌, ◌≤◌, inl, inr, zero, suc, List, [], ◌∷◌, length, refl, sym, ap, subst, ◌∙◌, arith, Option, Some, None, IfSome, slice_get, slice_index, drop, Bool, true, false, cond, ◌==◌}
+use Rattle.std.proofs.Common.{◌≡◌, ℕ, ◌+◌, ◌<◌, ◌≤◌, inl, inr, zero, suc, List, [], ◌∷◌, length, refl, sym, ap, subst}
+use Rattle.std.proofs.Common.{◌∙◌, arith, Option, Some, None, IfSome, slice_get, slice_index, drop, Bool, true, false}
+use Rattle.std.proofs.Common.{cond, ◌==◌}
 use Rattle.std.proofs.lemmas.Bool.{cases_eq}
 use Rattle.std.specs.List.{count_by, list_any}
 use Rattle.std.proofs.lemmas.List.Recursion.{is_count_by}
@@ -36,11 +38,14 @@ place-of node (x ∷ xs) h = elim (cases_eq x node) [
 ]
 
 -- a node that is in a list once is at one place
-pub one-place : (place other node : ℕ) (xs : List ℕ) → times node xs ≤ 1 → slice_get xs place ≡ Some node → slice_get xs other ≡ Some node → place ≡ other
+pub one-place : (place other node : ℕ) (xs : List ℕ) → times node xs ≤ 1 → slice_get xs place ≡ Some node
+    → slice_get xs other ≡ Some node → place ≡ other
 one-place place other node [] once e f = absurd (cc e)
 one-place zero zero node (x ∷ xs) once e f = refl
-one-place zero (suc other) node (x ∷ xs) once e f = absurd (let here = one_more x node xs (some_is x node e) in let later = stands-at other node xs f in omega arith)
-one-place (suc place) zero node (x ∷ xs) once e f = absurd (let here = one_more x node xs (some_is x node f) in let later = stands-at place node xs e in omega arith)
+one-place zero (suc other) node (x ∷ xs) once e f =
+    absurd (let here = one_more x node xs (some_is x node e) in let later = stands-at other node xs f in omega arith)
+one-place (suc place) zero node (x ∷ xs) once e f =
+    absurd (let here = one_more x node xs (some_is x node f) in let later = stands-at place node xs e in omega arith)
 one-place (suc place) (suc other) node (x ∷ xs) once e f = ap suc (one-place place other node xs (omega arith) e f)
 
 -- the place of a node is below the length
@@ -50,7 +55,8 @@ place-below zero node (x ∷ xs) e = omega arith
 place-below (suc place) node (x ∷ xs) e = let rest = place-below place node xs e in omega arith
 
 -- a node read from a list is below the number of nodes
-pub read-below : (s : Lists) (l place : ℕ) (o : Option ℕ) → AreLists s → o ≡ slice_get (s.list l) place → IfSome o (λ node. node < s.nodes)
+pub read-below : (s : Lists) (l place : ℕ) (o : Option ℕ) → AreLists s → o ≡ slice_get (s.list l) place
+    → IfSome o (λ node. node < s.nodes)
 read-below s l place None are e = tt
 read-below s l place (Some node) are e = are.below l node (stands-at place node (s.list l) (sym e))
 
@@ -62,25 +68,32 @@ get-inside node (x ∷ xs) zero h e = ap Some e
 get-inside node (x ∷ xs) (suc place) h e = get-inside node xs place h e
 
 -- a node is at one place of one list
-pub same-place : (s : Lists) (h l node at place : ℕ) → AreLists s → slice_get (s.list h) at ≡ Some node → slice_get (s.list l) place ≡ Some node
+pub same-place : (s : Lists) (h l node at place : ℕ) → AreLists s → slice_get (s.list h) at ≡ Some node
+    → slice_get (s.list l) place ≡ Some node
     → (l ≡ h) × (place ≡ at)
 same-place s h l node at place are e f =
-    let same : l ≡ h = are.apart l h node (stands-at place node (s.list l) f) (stands-at at node (s.list h) e) in
-    (same, one-place place at node (s.list h) (are.once h node) (subst (λ m. slice_get (s.list m) place ≡ Some node) same f) e)
+    let same : l ≡ h = are.apart l h node (stands-at place node (s.list l) f) (stands-at at node (s.list h) e) in (
+      same,
+      one-place place at node (s.list h) (are.once h node)
+          (subst (λ m. slice_get (s.list m) place ≡ Some node) same f) e,
+    )
 
 -- a list in which the search finds a node has it
 pub any-in : (node : ℕ) (xs : List ℕ) → list_any (λ y. y == node) xs ≡ true → 0 < times node xs
 any-in node [] e = absurd (cc e)
 any-in node (x ∷ xs) e = elim (cases_eq x node) [
   | inl d ↦ times-here x node xs d
-  | inr d ↦ times-more x node xs (any-in node xs (let f : list_any (λ y. y == node) (x ∷ xs) ≡ list_any (λ y. y == node) xs =
+  | inr d ↦ times-more x node xs
+      (any-in node xs (let f : list_any (λ y. y == node) (x ∷ xs) ≡ list_any (λ y. y == node) xs =
       rw (differ_is x node d) refl in sym f ∙ e))
 ]
 
 pub any-out : (node : ℕ) (xs : List ℕ) → list_any (λ y. y == node) xs ≡ false → times node xs ≡ 0
 any-out node [] e = refl
 any-out node (x ∷ xs) e = elim (cases_eq x node) [
-  | inl d ↦ absurd (let f : list_any (λ y. y == node) (x ∷ xs) ≡ true = rw (same_is x node d) refl in let g : true ≡ false = sym f ∙ e in cc g)
-  | inr d ↦ times-later x node xs d ∙ any-out node xs (let f : list_any (λ y. y == node) (x ∷ xs) ≡ list_any (λ y. y == node) xs =
+  | inl d ↦ absurd (let f : list_any (λ y. y == node) (x ∷ xs) ≡ true = rw (same_is x node d) refl in
+      let g : true ≡ false = sym f ∙ e in cc g)
+  | inr d ↦ times-later x node xs d
+      ∙ any-out node xs (let f : list_any (λ y. y == node) (x ∷ xs) ≡ list_any (λ y. y == node) xs =
       rw (differ_is x node d) refl in sym f ∙ e)
 ]

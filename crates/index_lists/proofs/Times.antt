@@ -1,5 +1,6 @@
 -- The number of times that a node is in a list.
-use Rattle.std.proofs.Common.{◌≡◌, ◌≢◌, ℕ, ◌+◌, ◌<◌, ◌≤◌, ◌==◌, inl, inr, true, false, cond, zero, suc, List, [], ◌∷◌, ◌++◌, length, refl, sym, ap, ◌∙◌, arith}
+use Rattle.std.proofs.Common.{◌≡◌, ◌≢◌, ℕ, ◌+◌, ◌<◌, ◌≤◌, ◌==◌, inl, inr, true, false, cond, zero, suc, List, [], ◌∷◌}
+use Rattle.std.proofs.Common.{◌++◌, length, refl, sym, ap, ◌∙◌, arith}
 use Rattle.std.proofs.lemmas.Bool.{cases_eq}
 use Rattle.std.proofs.lemmas.Bool.Decides.{nat_tests}
 use Rattle.index_lists.specs.Lists.{times, without_node}
@@ -36,13 +37,15 @@ pub times-without_same : (node : ℕ) (xs : List ℕ) → times node (without_no
 times-without_same node [] = refl
 times-without_same node (x ∷ xs) = elim (cases_eq x node) [
   | inl e ↦ rw (same_is x node e) (times-without_same node xs)
-  | inr ne ↦ rw (differ_is x node ne) (let rest = times-without_same node xs in let here = differ_is x node ne in rw here (omega arith))
+  | inr ne ↦ rw (differ_is x node ne)
+      (let rest = times-without_same node xs in let here = differ_is x node ne in rw here (omega arith))
 ]
 
 pub times-without_other : (node x : ℕ) (xs : List ℕ) → x ≢ node → times x (without_node node xs) ≡ times x xs
 times-without_other node x [] ne = refl
 times-without_other node x (z ∷ xs) ne = elim (cases_eq z node) [
-  | inl e ↦ (let other : z ≢ x = λ d. ne (sym d ∙ e) in rw (same_is z node e) (times-without_other node x xs ne ∙ sym (times-later z x xs other)))
+  | inl e ↦ (let other : z ≢ x = λ d. ne (sym d ∙ e) in
+      rw (same_is z node e) (times-without_other node x xs ne ∙ sym (times-later z x xs other)))
   | inr d ↦ rw (differ_is z node d) (ap (λ n. cond (z == x) 1 0 + n) (times-without_other node x xs ne))
 ]
 
@@ -61,9 +64,11 @@ length-without node (x ∷ xs) = elim (cases_eq x node) [
 ]
 
 -- a list of distinct numbers below n has n elements at most
-pub distinct-length : (n : ℕ) (xs : List ℕ) → ((x : ℕ) → times x xs ≤ 1) → ((x : ℕ) → n ≤ x → times x xs ≡ 0) → length xs ≤ n
+pub distinct-length : (n : ℕ) (xs : List ℕ) → ((x : ℕ) → times x xs ≤ 1) → ((x : ℕ) → n ≤ x → times x xs ≡ 0)
+    → length xs ≤ n
 distinct-length zero [] once below = omega arith
-distinct-length zero (x ∷ xs) once below = absurd (let here = times-here x x xs refl in let not_here = below x (omega arith) in omega arith)
+distinct-length zero (x ∷ xs) once below =
+    absurd (let here = times-here x x xs refl in let not_here = below x (omega arith) in omega arith)
 distinct-length (suc n) xs once below =
     let ys = without_node n xs in
     let less = length-without n xs in

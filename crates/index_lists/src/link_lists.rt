@@ -1,15 +1,19 @@
-//! Lists linked both ways by index: the store for callers that take nodes out. No command does, so runs use `PlainLists`, and
+//! Lists linked both ways by index: the store for callers that take nodes out. No command does, so
+//! runs use `PlainLists`, and
 //! this one is a library store, over which tests run solvers.
 
 ghost use Rattle.std.specs.Prelude.{◌≡◌, ◌<◌, ◌≤◌, length, slice_index};
-ghost use Rattle.index_lists.specs.Inside.Links.{chained_lists, unless_none, next_pointed, prev_pointed, node_placed, node_loosened, list_appended, list_shortened};
+ghost use Rattle.index_lists.specs.Inside.Links.{chained_lists, unless_none, next_pointed};
+ghost use Rattle.index_lists.specs.Inside.Links.{prev_pointed, node_placed, node_loosened};
+ghost use Rattle.index_lists.specs.Inside.Links.{list_appended, list_shortened};
 
 use crate::store::ListStore;
 use board_text::Memory;
 use std::alloc::Global;
 use std::marker::Model;
 
-/// Lists linked both ways by index, in flat vectors. No call but `new` takes memory, and none but `append_list` has a loop.
+/// Lists linked both ways by index, in flat vectors. No call but `new` takes memory, and none but
+/// `append_list` has a loop.
 #[derive(Drop)]
 pub struct LinkLists {
     /// How many nodes there are; as a node it stands for none.

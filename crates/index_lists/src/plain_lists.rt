@@ -1,6 +1,8 @@
 //! The store of lists that runs use: one vector of nodes, list by list.
 
-ghost use Rattle.std.specs.Prelude.{◌≡◌, ℕ, ◌+◌, ◌-◌, ◌^◌, ◌++◌, ◌<◌, ◌≤◌, ◌==◌, length, drop, replicate, sum, slice_get, vec_capacity, Some, None, if◌then◌else◌};
+ghost use Rattle.std.specs.Prelude.{◌≡◌, ℕ, ◌+◌, ◌-◌, ◌^◌, ◌++◌, ◌<◌, ◌≤◌, ◌==◌, length, drop};
+ghost use Rattle.std.specs.Prelude.{replicate, sum, slice_get, vec_capacity, Some, None};
+ghost use Rattle.std.specs.Prelude.{if◌then◌else◌};
 ghost use Rattle.std.specs.List.{insert};
 ghost use Rattle.index_lists.specs.Lists.{times, IsFree, AreLists, AreSame, node_pushed};
 ghost use Rattle.index_lists.specs.Inside.Parts.{lists_of_parts, part};
@@ -32,11 +34,20 @@ impl Model for PlainLists {
 
     ghost Value = { PlainParts };
 
-    ghost view = { λ s. record { nodes = s.node_count; lists = s.list_count; parts = parts_of s.lens.items s.nodes.items } };
+    ghost view = { λ s. record {
+      nodes = s.node_count;
+      lists = s.list_count;
+      parts = parts_of s.lens.items s.nodes.items;
+    } };
 
     ghost invariant = { λ s.
-        ArePlain (record { nodes = s.node_count; lists = s.list_count; parts = parts_of s.lens.items s.nodes.items })
-        × AreCut s.node_count s.list_count (vec_capacity s.nodes) (vec_capacity s.lens) s.lens.items s.nodes.items };
+        ArePlain (record {
+          nodes = s.node_count;
+          lists = s.list_count;
+          parts = parts_of s.lens.items s.nodes.items;
+        })
+        × AreCut s.node_count s.list_count (vec_capacity s.nodes)
+        (vec_capacity s.lens) s.lens.items s.nodes.items };
 }
 
 impl ListStore for PlainLists {
@@ -149,7 +160,8 @@ impl PlainLists {
 /// Gives each list up to `list` a length.
 fn begin(lens: &mut Vec<u32>, list: u32)
     requires { list < vec_capacity lens.old }
-    ensures lens { lens.new.items ≡ lens.old.items ++ replicate (list + 1 - length lens.old.items) 0 }
+    ensures lens { lens.new.items ≡ lens.old.items
+        ++ replicate (list + 1 - length lens.old.items) 0 }
     ensures capacity { vec_capacity lens.old ≤ vec_capacity lens.new }
 {
     let count = list as usize + 1;
@@ -205,7 +217,8 @@ fn index_of(nodes: &[u32], node: u32) -> usize
 /// The node after `node` in `nodes`.
 fn next_in(nodes: &[u32], node: u32) -> Option<u32>
     requires { 0 < times node nodes.now }
-    ensures { (index : ℕ) × (slice_get nodes.now index ≡ Some node) × (result ≡ slice_get nodes.now (index + 1)) }
+    ensures { (index : ℕ) × (slice_get nodes.now index ≡ Some node)
+        × (result ≡ slice_get nodes.now (index + 1)) }
 {
     nodes.get(index_of(nodes, node) + 1).copied()
 }

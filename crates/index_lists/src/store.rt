@@ -1,7 +1,9 @@
 //! The contract of a store of lists.
 
-ghost use Rattle.std.specs.Prelude.{◌≡◌, ℕ, ◌+◌, ◌-◌, ◌++◌, ◌<◌, ◌≤◌, length, slice_get, vec_capacity, IfOk, IfSome, MatchOption};
-ghost use Rattle.index_lists.specs.Lists.{Lists, IsFree, IsIn, IsHome, AreLists, AreSame, empty_lists, node_pushed, node_unlinked, node_moved};
+ghost use Rattle.std.specs.Prelude.{◌≡◌, ℕ, ◌+◌, ◌-◌, ◌++◌, ◌<◌, ◌≤◌, length, slice_get};
+ghost use Rattle.std.specs.Prelude.{vec_capacity, IfOk, IfSome, MatchOption};
+ghost use Rattle.index_lists.specs.Lists.{Lists, IsFree, IsIn, IsHome, AreLists, AreSame};
+ghost use Rattle.index_lists.specs.Lists.{empty_lists, node_pushed, node_unlinked, node_moved};
 
 use board_text::Memory;
 use std::alloc::Global;
@@ -43,14 +45,16 @@ pub trait ListStore {
     /// The last node of the list `of`.
     fn last(&self, of: u32) -> Option<u32>
         requires { of < (state self.now).lists }
-        ensures last { result ≡ slice_get ((state self.now).list of) (length ((state self.now).list of) - 1) }
+        ensures last { result ≡ slice_get ((state self.now).list of)
+            (length ((state self.now).list of) - 1) }
         ensures below { IfSome result (λ node. node < (state self.now).nodes) }
         ensures kept { AreLists (state self.now) };
 
     /// The node after `node` in its list. The last node has none, nor has a node in no list.
     fn next(&self, node: u32) -> Option<u32>
         requires { node < (state self.now).nodes }
-        ensures behind { (l : ℕ) → (index : ℕ) → slice_get ((state self.now).list l) index ≡ Some node
+        ensures behind { (l : ℕ) → (index : ℕ)
+            → slice_get ((state self.now).list l) index ≡ Some node
             → result ≡ slice_get ((state self.now).list l) (index + 1) }
         ensures free { IsFree (state self.now) node → result ≡ None }
         ensures below { IfSome result (λ other. other < (state self.now).nodes) }
@@ -59,9 +63,11 @@ pub trait ListStore {
     /// The node before `node` in its list. The first node has none, nor has a node in no list.
     fn prev(&self, node: u32) -> Option<u32>
         requires { node < (state self.now).nodes }
-        ensures before { (l : ℕ) → (index : ℕ) → slice_get ((state self.now).list l) (index + 1) ≡ Some node
+        ensures before { (l : ℕ) → (index : ℕ)
+            → slice_get ((state self.now).list l) (index + 1) ≡ Some node
             → result ≡ slice_get ((state self.now).list l) index }
-        ensures first { (l : ℕ) → slice_get ((state self.now).list l) 0 ≡ Some node → result ≡ None }
+        ensures first { (l : ℕ) → slice_get ((state self.now).list l) 0 ≡ Some node
+            → result ≡ None }
         ensures free { IsFree (state self.now) node → result ≡ None }
         ensures below { IfSome result (λ other. other < (state self.now).nodes) }
         ensures kept { AreLists (state self.now) };
@@ -69,7 +75,8 @@ pub trait ListStore {
     /// The list that `node` is in, if it is in one.
     fn home(&self, node: u32) -> Option<u32>
         requires { node < (state self.now).nodes }
-        ensures home { MatchOption result (IsFree (state self.now) node) (λ home. IsHome (state self.now) node home) }
+        ensures home { MatchOption result (IsFree (state self.now) node)
+            (λ home. IsHome (state self.now) node home) }
         ensures kept { AreLists (state self.now) };
 
     /// The number of nodes in the list `of`.
@@ -81,7 +88,8 @@ pub trait ListStore {
     /// Appends the nodes of the list `of`, in order, to `to`, which has room for them.
     fn append_list(&self, of: u32, to: &mut Vec<u32>)
         requires of_in { of < (state self.now).lists }
-        requires room { length to.old.items + length ((state self.now).list of) ≤ vec_capacity to.old }
+        requires room { length to.old.items + length
+            ((state self.now).list of) ≤ vec_capacity to.old }
         ensures appended { to.new.items ≡ to.old.items ++ (state self.now).list of }
         ensures capacity { vec_capacity to.old ≤ vec_capacity to.new }
         ensures kept { AreLists (state self.now) }

@@ -1,5 +1,6 @@
 -- The copies of words, by whether each copy has a word.
-use Rattle.std.proofs.Common.{◌≡◌, ◌⊎◌, ◌↔◌, ◌||◌, ◌==◌, ℕ, zero, suc, ◌<◌, Bool, true, false, List, [], ◌∷◌, map, All, Contains, IsTrue, refl, sym, ap, ◌∙◌, subst, arith, inl, inr}
+use Rattle.std.proofs.Common.{◌≡◌, ◌⊎◌, ◌↔◌, ◌||◌, ◌==◌, ℕ, zero, suc, ◌<◌, Bool, true, false, List, [], ◌∷◌, map, All}
+use Rattle.std.proofs.Common.{Contains, IsTrue, refl, sym, ap, ◌∙◌, subst, arith, inl, inr}
 use Rattle.std.specs.List.{list_any}
 use Rattle.std.proofs.lemmas.Bool.{false≢true, cases_eq, eqb-true, eq-eqb, or_cases}
 use Rattle.std.proofs.lemmas.List.Elements.{All-head, All-contains}
@@ -26,7 +27,8 @@ any_in f digit (x ∷ xs) has = elim (contains_cases (f x) (map f xs) digit has)
   | inr later ↦ ap (λ b. (f x == digit) || b) (any_in f digit xs later) ∙ or_true (f x == digit)
 ]
 
-pub some_is_in : (f : ℕ → ℕ) (digit : ℕ) (xs : List ℕ) (r : Bool) → r ≡ list_any (λ x. f x == digit) xs → IsTrue r ↔ Contains (map f xs) digit
+pub some_is_in : (f : ℕ → ℕ) (digit : ℕ) (xs : List ℕ) (r : Bool) → r ≡ list_any (λ x. f x == digit) xs
+    → IsTrue r ↔ Contains (map f xs) digit
 some_is_in f digit xs r is = (λ yes. is_in f digit xs (sym is ∙ yes), λ has. is ∙ any_in f digit xs has)
 
 -- ---- words in one copy or in two
@@ -47,7 +49,8 @@ apart firsts digit first h has same = lacks firsts digit h (subst (Contains firs
 abbrev pub AreDigits : List ℕ → Type 0
 AreDigits firsts = All (λ first. first < 3) firsts
 
-pub one_copy : (firsts : List ℕ) (digit : ℕ) → digit < 3 → AreDigits firsts → Has firsts digit → Lacks firsts (next_digit digit) → Lacks firsts (next_digit (next_digit digit))
+pub one_copy : (firsts : List ℕ) (digit : ℕ) → digit < 3 → AreDigits firsts → Has firsts digit
+    → Lacks firsts (next_digit digit) → Lacks firsts (next_digit (next_digit digit))
     → (digit < 3) × AreInOneCopy digit firsts × Contains firsts digit
 one_copy firsts digit low digits here next last = (
   low,
@@ -59,7 +62,8 @@ one_copy firsts digit low digits here next last = (
   here.0 refl,
 )
 
-pub two_copies : (firsts : List ℕ) (digit : ℕ) → digit < 3 → AreDigits firsts → Has firsts digit → Has firsts (next_digit digit) → Lacks firsts (next_digit (next_digit digit))
+pub two_copies : (firsts : List ℕ) (digit : ℕ) → digit < 3 → AreDigits firsts → Has firsts digit
+    → Has firsts (next_digit digit) → Lacks firsts (next_digit (next_digit digit))
     → (digit < 3) × AreInTwoCopies digit firsts
 two_copies firsts digit low digits here next last = (
   low,
@@ -83,7 +87,8 @@ no_copy (first ∷ firsts) digits none one two =
     let not_two = apart (first ∷ firsts) 2 first two has in
     absurd (omega (arith, not_none, not_one, not_two))
 
-pub three_copies : (firsts : List ℕ) → Has firsts 0 → Has firsts 1 → Has firsts 2 → (digit : ℕ) → digit < 3 → Contains firsts digit
+pub three_copies : (firsts : List ℕ) → Has firsts 0 → Has firsts 1 → Has firsts 2 → (digit : ℕ) → digit < 3
+    → Contains firsts digit
 three_copies firsts none one two zero low = none.0 refl
 three_copies firsts none one two (suc zero) low = one.0 refl
 three_copies firsts none one two (suc (suc zero)) low = two.0 refl

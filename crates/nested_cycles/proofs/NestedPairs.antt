@@ -1,7 +1,9 @@
 -- The pairs of a nested board.
-use Rattle.std.proofs.Common.{◌≡◌, ℕ, zero, suc, ◌+◌, ◌*◌, ◌/◌, ◌%◌, ◌<◌, ◌↔◌, List, [], ◌∷◌, ◌++◌, get_or, All, Contains, refl, ap, subst, arith, inl, inr}
+use Rattle.std.proofs.Common.{◌≡◌, ℕ, zero, suc, ◌+◌, ◌*◌, ◌/◌, ◌%◌, ◌<◌, ◌↔◌, List, [], ◌∷◌, ◌++◌, get_or, All}
+use Rattle.std.proofs.Common.{Contains, refl, ap, subst, arith, inl, inr}
 use Rattle.std.proofs.lemmas.Bool.{cases_order, cases_lt}
-use Rattle.std.proofs.lemmas.List.Elements.{All-nil, All-push, All-weaker, All-contains, Contains-push, Contains-append_left}
+use Rattle.std.proofs.lemmas.List.Elements.{All-nil, All-push, All-weaker, All-contains, Contains-push}
+use Rattle.std.proofs.lemmas.List.Elements.{Contains-append_left}
 use Rattle.std.proofs.lemmas.List.Quantifiers.{all_pairs_push}
 use Rattle.std.proofs.lemmas.Nat.{row_fits, same_from_place, div_below, mod_below, div-add-mod'}
 use Rattle.board_text.specs.PlainBoard.{AreLabels, Precedes, ArePairs}
@@ -21,7 +23,8 @@ precedes_from_place labels p q small lt =
 
 -- a pair of labels below the bound of which the first dominates the second
 abbrev Fits : ℕ → ℕ → ℕ × ℕ → Type 0
-Fits levels places pair = AreLabels (labels_of levels) pair × IsAmong (labels_of levels) places pair × NestedBeats levels pair.0 pair.1
+Fits levels places pair =
+    AreLabels (labels_of levels) pair × IsAmong (labels_of levels) places pair × NestedBeats levels pair.0 pair.1
 
 pub pairs_none : (levels : ℕ) → AreNestedPairs levels 0 []
 pairs_none levels = record {
@@ -30,11 +33,14 @@ pairs_none levels = record {
   all = λ x y are among beats. absurd (omega (arith, among));
 }
 
-still : (levels places : ℕ) (pairs : List (ℕ × ℕ)) → All (Fits levels places) pairs → All (Fits levels (places + 1)) pairs
-still levels places pairs only = All-weaker (Fits levels places) (Fits levels (places + 1)) (λ pair h. (h.0, omega (arith, h.1), h.2)) pairs only
+still : (levels places : ℕ) (pairs : List (ℕ × ℕ)) → All (Fits levels places) pairs
+    → All (Fits levels (places + 1)) pairs
+still levels places pairs only =
+    All-weaker (Fits levels places) (Fits levels (places + 1)) (λ pair h. (h.0, omega (arith, h.1), h.2)) pairs only
 
 -- the pair of the next place is not among the pairs
-pub pairs_skip : (levels places x y : ℕ) (pairs : List (ℕ × ℕ)) → AreNestedPairs levels places pairs → AreLabels (labels_of levels) (x, y) → x * labels_of levels + y ≡ places
+pub pairs_skip : (levels places x y : ℕ) (pairs : List (ℕ × ℕ)) → AreNestedPairs levels places pairs
+    → AreLabels (labels_of levels) (x, y) → x * labels_of levels + y ≡ places
     → (NestedBeats levels x y → ⊥) → AreNestedPairs levels (places + 1) pairs
 pairs_skip levels places x y pairs are labels here not = record {
   ascending = are.ascending;
@@ -43,16 +49,21 @@ pairs_skip levels places x y pairs are labels here not = record {
     | inl before ↦ are.all v w labels_vw before beats
     | inr at ↦
         let same = same_from_place v w x y (labels_of levels) labels_vw.1 labels.1 (omega arith) in
-        absurd (not (subst (λ (n : ℕ). NestedBeats levels n y) same.0 (subst (λ (n : ℕ). NestedBeats levels v n) same.1 beats)))
+        absurd (not (subst (λ (n : ℕ). NestedBeats levels n y) same.0
+        (subst (λ (n : ℕ). NestedBeats levels v n) same.1 beats)))
   ];
 }
 
 -- the pair of the next place is among them
-pub pairs_push : (levels places x y : ℕ) (pairs : List (ℕ × ℕ)) → AreNestedPairs levels places pairs → AreLabels (labels_of levels) (x, y) → x * labels_of levels + y ≡ places
+pub pairs_push : (levels places x y : ℕ) (pairs : List (ℕ × ℕ)) → AreNestedPairs levels places pairs
+    → AreLabels (labels_of levels) (x, y) → x * labels_of levels + y ≡ places
     → NestedBeats levels x y → AreNestedPairs levels (places + 1) (pairs ++ (x, y) ∷ [])
 pairs_push levels places x y pairs are labels here beats = record {
-  ascending = all_pairs_push Precedes pairs (x, y) are.ascending (λ k d lt. precedes_from_place (labels_of levels) (get_or pairs k d) (x, y) labels.1 (omega (arith, are.only k d lt)));
-  only = All-push (Fits levels (places + 1)) pairs (x, y) (still levels places pairs are.only) (labels, omega arith, beats);
+  ascending = all_pairs_push Precedes pairs (x, y) are.ascending
+      (λ k d lt. precedes_from_place (labels_of levels) (get_or pairs k d) (x, y) labels.1
+      (omega (arith, are.only k d lt)));
+  only = All-push (Fits levels (places + 1)) pairs (x, y) (still levels places pairs are.only)
+      (labels, omega arith, beats);
   all = λ v w labels_vw among beats_vw. elim (cases_lt (v * labels_of levels + w) places) [
     | inl before ↦ Contains-append_left pairs ((x, y) ∷ []) (v, w) (are.all v w labels_vw before beats_vw)
     | inr at ↦
@@ -63,18 +74,23 @@ pairs_push levels places x y pairs are labels here beats = record {
 }
 
 -- they are the pairs of a board
-pub are_pairs : (levels places : ℕ) (pairs : List (ℕ × ℕ)) → AreNestedPairs levels places pairs → ArePairs (labels_of levels) pairs
+pub are_pairs : (levels places : ℕ) (pairs : List (ℕ × ℕ)) → AreNestedPairs levels places pairs
+    → ArePairs (labels_of levels) pairs
 are_pairs levels places pairs are = record {
   of_labels = All-weaker (Fits levels places) (AreLabels (labels_of levels)) (λ pair h. h.0) pairs are.only;
   ascending = are.ascending;
-  one_way = λ x y one back. each_other (label_word levels x) (label_word levels y) (All-contains (Fits levels places) pairs (x, y) are.only one).2 (All-contains (Fits levels places) pairs (y, x) are.only back).2;
+  one_way = λ x y one back. each_other (label_word levels x) (label_word levels y)
+      (All-contains (Fits levels places) pairs (x, y) are.only one).2
+      (All-contains (Fits levels places) pairs (y, x) are.only back).2;
 }
 
 all_places : (labels : ℕ) (pair : ℕ × ℕ) → AreLabels labels pair → IsAmong labels (labels * labels) pair
 all_places labels pair are = omega (arith, row_fits pair.0 labels labels labels are.0 (omega arith), are.1)
 
 -- the pairs are those of all labels of which the first dominates the second
-pub beats_exactly : (levels : ℕ) (pairs : List (ℕ × ℕ)) → AreNestedPairs levels (labels_of levels * labels_of levels) pairs → (x y : ℕ) → AreLabels (labels_of levels) (x, y)
+pub beats_exactly : (levels : ℕ) (pairs : List (ℕ × ℕ))
+    → AreNestedPairs levels (labels_of levels * labels_of levels) pairs → (x y : ℕ)
+    → AreLabels (labels_of levels) (x, y)
     → Contains pairs (x, y) ↔ NestedBeats levels x y
 beats_exactly levels pairs are x y labels = (
   λ one. (All-contains (Fits levels (labels_of levels * labels_of levels)) pairs (x, y) are.only one).2,
@@ -93,14 +109,20 @@ pair_at (suc n) place lt = record {
   here = div-add-mod' place (suc n);
 }
 
-pub next_pair : (levels labels place x y : ℕ) (pairs new : List (ℕ × ℕ)) → labels ≡ labels_of levels → place < labels * labels → x ≡ place / labels → y ≡ place % labels
-    → AreNestedPairs levels place pairs → NestedBeats levels x y → new ≡ pairs ++ (place / labels, place % labels) ∷ [] → AreNestedPairs levels (place + 1) new
+pub next_pair : (levels labels place x y : ℕ) (pairs new : List (ℕ × ℕ)) → labels ≡ labels_of levels
+    → place < labels * labels → x ≡ place / labels → y ≡ place % labels
+    → AreNestedPairs levels place pairs → NestedBeats levels x y → new ≡ pairs ++ (place / labels, place % labels) ∷ []
+    → AreNestedPairs levels (place + 1) new
 next_pair levels labels place x y pairs new e lt is_x is_y are beats is_new =
     let at : PairAt (labels_of levels) place = rw e at (pair_at labels place lt) in
-    rw (is_new, e) (pairs_push levels place (place / labels_of levels) (place % labels_of levels) pairs are at.are at.here (rw (is_x, is_y, e) at beats))
+    rw (is_new, e) (pairs_push levels place (place / labels_of levels)
+    (place % labels_of levels) pairs are at.are at.here (rw (is_x, is_y, e) at beats))
 
-pub no_pair : (levels labels place x y : ℕ) (pairs new : List (ℕ × ℕ)) → labels ≡ labels_of levels → place < labels * labels → x ≡ place / labels → y ≡ place % labels
-    → AreNestedPairs levels place pairs → (NestedBeats levels x y → ⊥) → new ≡ pairs → AreNestedPairs levels (place + 1) new
+pub no_pair : (levels labels place x y : ℕ) (pairs new : List (ℕ × ℕ)) → labels ≡ labels_of levels
+    → place < labels * labels → x ≡ place / labels → y ≡ place % labels
+    → AreNestedPairs levels place pairs → (NestedBeats levels x y → ⊥) → new ≡ pairs
+    → AreNestedPairs levels (place + 1) new
 no_pair levels labels place x y pairs new e lt is_x is_y are not is_new =
     let at : PairAt (labels_of levels) place = rw e at (pair_at labels place lt) in
-    rw is_new (pairs_skip levels place (place / labels_of levels) (place % labels_of levels) pairs are at.are at.here (λ beats. not (rw (is_x, is_y, e) beats)))
+    rw is_new (pairs_skip levels place (place / labels_of levels) (place % labels_of levels) pairs are at.are at.here
+    (λ beats. not (rw (is_x, is_y, e) beats)))

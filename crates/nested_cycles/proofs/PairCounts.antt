@@ -1,5 +1,6 @@
 -- The number of pairs of a nested board.
-use Rattle.std.proofs.Common.{◌≡◌, ◌≢◌, ◌⊎◌, ℕ, zero, suc, ◌+◌, ◌-◌, ◌*◌, ◌/◌, ◌%◌, ◌<◌, ◌≤◌, List, [], ◌∷◌, length, AllPairs, Contains, refl, sym, ◌∙◌, subst, arith, inl, inr}
+use Rattle.std.proofs.Common.{◌≡◌, ◌≢◌, ◌⊎◌, ℕ, zero, suc, ◌+◌, ◌-◌, ◌*◌, ◌/◌, ◌%◌, ◌<◌, ◌≤◌, List, [], ◌∷◌, length}
+use Rattle.std.proofs.Common.{AllPairs, Contains, refl, sym, ◌∙◌, subst, arith, inl, inr}
 use Rattle.std.proofs.Math.Dec.{eqb}
 use Rattle.std.specs.Cmp.{nat_eq_equiv}
 use Rattle.std.proofs.lemmas.Bool.{cases_eq, eqb-true}
@@ -21,12 +22,18 @@ use Rattle.nested_cycles.proofs.NestedBoards.{first_before, rest_ascends, not_it
 
 apart_cons : (n : ℕ) (ns : List ℕ) → (Contains ns n → ⊥) → AllPairs (λ a b. a ≢ b) ns → AllPairs (λ a b. a ≢ b) (n ∷ ns)
 apart_cons n ns not apart =
-    AllPairs-cons (λ a b. a ≢ b) n ns (All-weaker (Contains ns) (λ m. n ≢ m) (λ m has same. not (subst (Contains ns) (sym same) has)) ns (All-contains_itself ns)) apart
+    AllPairs-cons (λ a b. a ≢ b) n ns
+    (All-weaker (Contains ns) (λ m. n ≢ m) (λ m has same. not (subst (Contains ns) (sym same) has)) ns
+    (All-contains_itself ns)) apart
 
-pub as_many : (ns : List ℕ) (bound : ℕ) → AllPairs (λ a b. a ≢ b) ns → ((n : ℕ) → Contains ns n → n < bound) → ((n : ℕ) → n < bound → Contains ns n) → length ns ≡ bound
+pub as_many : (ns : List ℕ) (bound : ℕ) → AllPairs (λ a b. a ≢ b) ns → ((n : ℕ) → Contains ns n → n < bound)
+    → ((n : ℕ) → n < bound → Contains ns n) → length ns ≡ bound
 as_many ns bound apart below all =
-    let most : length ns ≤ bound = length-le_from_distinct_below ns bound (IsDistinct-from_AllPairs {eq = eqb} Decides-eqb ns apart) (λ n any. below n (Contains-from_any {eq = eqb} eqb-true n ns any)) in
-    let least : bound ≤ length ns = le-length_from_below ns bound (λ n lt. list_any-from_Contains nat_eq_equiv n ns (all n lt)) in
+    let most : length ns ≤ bound =
+    length-le_from_distinct_below ns bound (IsDistinct-from_AllPairs {eq = eqb} Decides-eqb ns apart)
+    (λ n any. below n (Contains-from_any {eq = eqb} eqb-true n ns any)) in
+    let least : bound ≤ length ns =
+    le-length_from_below ns bound (λ n lt. list_any-from_Contains nat_eq_equiv n ns (all n lt)) in
     omega arith
 
 -- ---- the places of the pairs, of the same pairs turned round, and of each label with itself
@@ -39,7 +46,8 @@ abbrev diagonal : ℕ → ℕ → List ℕ
 diagonal labels zero = []
 diagonal labels (suc x) = (x * labels + x) ∷ diagonal labels x
 
-length-places : (labels : ℕ) (ps : List (ℕ × ℕ)) (others : List ℕ) → length (places labels ps others) ≡ 2 * length ps + length others
+length-places : (labels : ℕ) (ps : List (ℕ × ℕ)) (others : List ℕ)
+    → length (places labels ps others) ≡ 2 * length ps + length others
 length-places labels [] others = omega arith
 length-places labels (p ∷ ps) others = let rest = length-places labels ps others in omega (arith, rest)
 
@@ -63,12 +71,14 @@ data InPlaces (labels : ℕ) (ps : List (ℕ × ℕ)) (others : List ℕ) (n : �
   back : (r : ℕ × ℕ) → Contains ps r → n ≡ r.1 * labels + r.0 → InPlaces labels ps others n
   other : Contains others n → InPlaces labels ps others n
 
-later_place : (labels : ℕ) (p : ℕ × ℕ) (ps : List (ℕ × ℕ)) (others : List ℕ) (n : ℕ) → InPlaces labels ps others n → InPlaces labels (p ∷ ps) others n
+later_place : (labels : ℕ) (p : ℕ × ℕ) (ps : List (ℕ × ℕ)) (others : List ℕ) (n : ℕ) → InPlaces labels ps others n
+    → InPlaces labels (p ∷ ps) others n
 later_place labels p ps others n (forth r has e) = forth r (later_in p ps r has) e
 later_place labels p ps others n (back r has e) = back r (later_in p ps r has) e
 later_place labels p ps others n (other has) = other has
 
-in_places : (labels : ℕ) (ps : List (ℕ × ℕ)) (others : List ℕ) (n : ℕ) → Contains (places labels ps others) n → InPlaces labels ps others n
+in_places : (labels : ℕ) (ps : List (ℕ × ℕ)) (others : List ℕ) (n : ℕ) → Contains (places labels ps others) n
+    → InPlaces labels ps others n
 in_places labels [] others n has = other has
 in_places labels (p ∷ ps) others n has =
     elim (in_numbers (p.0 * labels + p.1) ((p.1 * labels + p.0) ∷ places labels ps others) n has) [
@@ -104,25 +114,34 @@ alone : (labels : ℕ) (p : ℕ × ℕ) (ps : List (ℕ × ℕ)) → ArePairs la
 alone labels p ps are = record {
   labels_are = All-contains (AreLabels labels) (p ∷ ps) p are.of_labels (first_in p ps);
   labels_of_others = λ r has. All-contains (AreLabels labels) (p ∷ ps) r are.of_labels (later_in p ps r has);
-  none_same = λ r has e f. not_itself p (subst (λ (q : ℕ × ℕ). Precedes p q) (same_pair p r e f) (first_before p ps r are.ascending has));
-  none_back = λ r has e f. are.one_way p.0 p.1 (first_in p ps) (subst (Contains (p ∷ ps)) (same_pair (p.1, p.0) r f e) (later_in p ps r has));
-  differ = λ e. let here : Contains (p ∷ ps) (p.0, p.0) = subst (λ (y : ℕ). Contains (p ∷ ps) (p.0, y)) (sym e) (first_in p ps) in are.one_way p.0 p.0 here here;
+  none_same = λ r has e f. not_itself p
+      (subst (λ (q : ℕ × ℕ). Precedes p q) (same_pair p r e f) (first_before p ps r are.ascending has));
+  none_back = λ r has e f. are.one_way p.0 p.1 (first_in p ps)
+      (subst (Contains (p ∷ ps)) (same_pair (p.1, p.0) r f e) (later_in p ps r has));
+  differ = λ e. let here : Contains (p ∷ ps) (p.0, p.0) =
+      subst (λ (y : ℕ). Contains (p ∷ ps) (p.0, y)) (sym e) (first_in p ps) in are.one_way p.0 p.0 here here;
 }
 
-not_forth : (labels : ℕ) (p : ℕ × ℕ) (ps : List (ℕ × ℕ)) → Alone labels p ps → InPlaces labels ps (diagonal labels labels) (p.0 * labels + p.1) → ⊥
+not_forth : (labels : ℕ) (p : ℕ × ℕ) (ps : List (ℕ × ℕ)) → Alone labels p ps
+    → InPlaces labels ps (diagonal labels labels) (p.0 * labels + p.1) → ⊥
 not_forth labels p ps is (forth r has e) =
-    let same = same_from_place p.0 p.1 r.0 r.1 labels is.labels_are.1 (is.labels_of_others r has).1 e in is.none_same r has same.0 same.1
+    let same = same_from_place p.0 p.1 r.0 r.1 labels is.labels_are.1 (is.labels_of_others r has).1 e in
+    is.none_same r has same.0 same.1
 not_forth labels p ps is (back r has e) =
-    let same = same_from_place p.0 p.1 r.1 r.0 labels is.labels_are.1 (is.labels_of_others r has).0 e in is.none_back r has same.0 same.1
+    let same = same_from_place p.0 p.1 r.1 r.0 labels is.labels_are.1 (is.labels_of_others r has).0 e in
+    is.none_back r has same.0 same.1
 not_forth labels p ps is (other has) =
     let h = in_diagonal labels labels (p.0 * labels + p.1) has in
     let same = same_from_place p.0 p.1 h.0 h.0 labels is.labels_are.1 h.1 h.2 in is.differ (same.0 ∙ sym same.1)
 
-not_back : (labels : ℕ) (p : ℕ × ℕ) (ps : List (ℕ × ℕ)) → Alone labels p ps → InPlaces labels ps (diagonal labels labels) (p.1 * labels + p.0) → ⊥
+not_back : (labels : ℕ) (p : ℕ × ℕ) (ps : List (ℕ × ℕ)) → Alone labels p ps
+    → InPlaces labels ps (diagonal labels labels) (p.1 * labels + p.0) → ⊥
 not_back labels p ps is (forth r has e) =
-    let same = same_from_place p.1 p.0 r.0 r.1 labels is.labels_are.0 (is.labels_of_others r has).1 e in is.none_back r has same.1 same.0
+    let same = same_from_place p.1 p.0 r.0 r.1 labels is.labels_are.0 (is.labels_of_others r has).1 e in
+    is.none_back r has same.1 same.0
 not_back labels p ps is (back r has e) =
-    let same = same_from_place p.1 p.0 r.1 r.0 labels is.labels_are.0 (is.labels_of_others r has).0 e in is.none_same r has same.1 same.0
+    let same = same_from_place p.1 p.0 r.1 r.0 labels is.labels_are.0 (is.labels_of_others r has).0 e in
+    is.none_same r has same.1 same.0
 not_back labels p ps is (other has) =
     let h = in_diagonal labels labels (p.1 * labels + p.0) has in
     let same = same_from_place p.1 p.0 h.0 h.0 labels is.labels_are.0 h.1 h.2 in is.differ (same.1 ∙ sym same.0)
@@ -142,25 +161,32 @@ apart_diagonal labels (suc x) few =
     let same = same_from_place x x h.0 h.0 labels (omega arith) (omega (arith, h.1)) h.2 in omega (arith, h.1, same.0)
     ) (apart_diagonal labels x (omega arith))
 
-apart_places : (labels : ℕ) (ps : List (ℕ × ℕ)) → ArePairs labels ps → AllPairs (λ a b. a ≢ b) (places labels ps (diagonal labels labels))
+apart_places : (labels : ℕ) (ps : List (ℕ × ℕ)) → ArePairs labels ps
+    → AllPairs (λ a b. a ≢ b) (places labels ps (diagonal labels labels))
 apart_places labels [] are = apart_diagonal labels labels (omega arith)
 apart_places labels (p ∷ ps) are =
     let is = alone labels p ps are in
     let rest = places labels ps (diagonal labels labels) in
     apart_cons (p.0 * labels + p.1) ((p.1 * labels + p.0) ∷ rest) (
     λ has. elim (in_numbers (p.1 * labels + p.0) rest (p.0 * labels + p.1) has) [
-      | inl same ↦ let turned = same_from_place p.1 p.0 p.0 p.1 labels is.labels_are.0 is.labels_are.1 same in is.differ turned.1
+      | inl same ↦ let turned = same_from_place p.1 p.0 p.0 p.1 labels is.labels_are.0 is.labels_are.1 same in
+          is.differ turned.1
       | inr later ↦ not_forth labels p ps is (in_places labels ps (diagonal labels labels) (p.0 * labels + p.1) later)
     ]
-    ) (apart_cons (p.1 * labels + p.0) rest (λ has. not_back labels p ps is (in_places labels ps (diagonal labels labels) (p.1 * labels + p.0) has)) (apart_places labels ps (rest_are labels p ps are)))
+    ) (apart_cons (p.1 * labels + p.0) rest
+    (λ has. not_back labels p ps is (in_places labels ps (diagonal labels labels) (p.1 * labels + p.0) has))
+    (apart_places labels ps (rest_are labels p ps are)))
 
 -- ---- each place is there
 
-behind : (labels : ℕ) (p : ℕ × ℕ) (ps : List (ℕ × ℕ)) (others : List ℕ) (n : ℕ) → Contains (places labels ps others) n → Contains (places labels (p ∷ ps) others) n
+behind : (labels : ℕ) (p : ℕ × ℕ) (ps : List (ℕ × ℕ)) (others : List ℕ) (n : ℕ) → Contains (places labels ps others) n
+    → Contains (places labels (p ∷ ps) others) n
 behind labels p ps others n has =
-    later_in (p.0 * labels + p.1) ((p.1 * labels + p.0) ∷ places labels ps others) n (later_in (p.1 * labels + p.0) (places labels ps others) n has)
+    later_in (p.0 * labels + p.1) ((p.1 * labels + p.0) ∷ places labels ps others) n
+    (later_in (p.1 * labels + p.0) (places labels ps others) n has)
 
-has_other : (labels : ℕ) (ps : List (ℕ × ℕ)) (others : List ℕ) (n : ℕ) → Contains others n → Contains (places labels ps others) n
+has_other : (labels : ℕ) (ps : List (ℕ × ℕ)) (others : List ℕ) (n : ℕ) → Contains others n
+    → Contains (places labels ps others) n
 has_other labels [] others n has = has
 has_other labels (p ∷ ps) others n has = behind labels p ps others n (has_other labels ps others n has)
 
@@ -170,8 +196,12 @@ has_both labels [] others r has = absurd (omega (arith, has.1))
 has_both labels (p ∷ ps) others r has =
     let rest = (p.1 * labels + p.0) ∷ places labels ps others in
     elim (in_cons p ps r has) [
-      | inl same ↦ subst (λ (q : ℕ × ℕ). Contains (places labels (p ∷ ps) others) (q.0 * labels + q.1) × Contains (places labels (p ∷ ps) others) (q.1 * labels + q.0)) same
-          (first_in (p.0 * labels + p.1) rest, later_in (p.0 * labels + p.1) rest (p.1 * labels + p.0) (first_in (p.1 * labels + p.0) (places labels ps others)))
+      | inl same ↦ subst (λ (q : ℕ × ℕ). Contains (places labels (p ∷ ps) others) (q.0 * labels + q.1)
+          × Contains (places labels (p ∷ ps) others) (q.1 * labels + q.0)) same (
+            first_in (p.0 * labels + p.1) rest,
+            later_in (p.0 * labels + p.1) rest (p.1 * labels + p.0)
+                (first_in (p.1 * labels + p.0) (places labels ps others)),
+          )
       | inr later ↦
           let h = has_both labels ps others r later in
           (behind labels p ps others (r.0 * labels + r.1) h.0, behind labels p ps others (r.1 * labels + r.0) h.1)
@@ -181,18 +211,22 @@ has_diagonal : (labels count x : ℕ) → x < count → Contains (diagonal label
 has_diagonal labels zero x lt = absurd (omega arith)
 has_diagonal labels (suc y) x lt =
     elim (cases_eq x y) [
-      | inl same ↦ subst (λ (z : ℕ). Contains (diagonal labels (suc y)) (z * labels + z)) (sym same) (first_in (y * labels + y) (diagonal labels y))
-      | inr differ ↦ later_in (y * labels + y) (diagonal labels y) (x * labels + x) (has_diagonal labels y x (omega arith))
+      | inl same ↦ subst (λ (z : ℕ). Contains (diagonal labels (suc y)) (z * labels + z)) (sym same)
+          (first_in (y * labels + y) (diagonal labels y))
+      | inr differ ↦ later_in (y * labels + y) (diagonal labels y) (x * labels + x)
+          (has_diagonal labels y x (omega arith))
     ]
 
-has_place : (labels : ℕ) (ps : List (ℕ × ℕ)) (n : ℕ) → ((x y : ℕ) → AreLabels labels (x, y) → x ≢ y → Contains ps (x, y) ⊎ Contains ps (y, x)) → n < labels * labels
+has_place : (labels : ℕ) (ps : List (ℕ × ℕ)) (n : ℕ)
+    → ((x y : ℕ) → AreLabels labels (x, y) → x ≢ y → Contains ps (x, y) ⊎ Contains ps (y, x)) → n < labels * labels
     → Contains (places labels ps (diagonal labels labels)) n
 has_place labels ps n each lt =
     let at : PairAt labels n = pair_at labels n lt in
     subst (Contains (places labels ps (diagonal labels labels))) at.here (
     elim (cases_eq (n / labels) (n % labels)) [
       | inl same ↦ has_other labels ps (diagonal labels labels) (n / labels * labels + n % labels) (
-          subst (λ (y : ℕ). Contains (diagonal labels labels) (n / labels * labels + y)) same (has_diagonal labels labels (n / labels) at.are.0)
+          subst (λ (y : ℕ). Contains (diagonal labels labels) (n / labels * labels + y)) same
+          (has_diagonal labels labels (n / labels) at.are.0)
           )
       | inr differ ↦ elim (each (n / labels) (n % labels) at.are differ) [
         | inl one ↦ (has_both labels ps (diagonal labels labels) (n / labels, n % labels) one).0
@@ -201,23 +235,32 @@ has_place labels ps n each lt =
     ]
     )
 
-place_below : (labels : ℕ) (ps : List (ℕ × ℕ)) (n : ℕ) → ArePairs labels ps → InPlaces labels ps (diagonal labels labels) n → n < labels * labels
+place_below : (labels : ℕ) (ps : List (ℕ × ℕ)) (n : ℕ) → ArePairs labels ps
+    → InPlaces labels ps (diagonal labels labels) n → n < labels * labels
 place_below labels ps n are (forth r has e) =
-    let is : AreLabels labels r = All-contains (AreLabels labels) ps r are.of_labels has in rw e (mul-add-lt r.0 labels r.1 labels is.0 is.1)
+    let is : AreLabels labels r = All-contains (AreLabels labels) ps r are.of_labels has in
+    rw e (mul-add-lt r.0 labels r.1 labels is.0 is.1)
 place_below labels ps n are (back r has e) =
-    let is : AreLabels labels r = All-contains (AreLabels labels) ps r are.of_labels has in rw e (mul-add-lt r.1 labels r.0 labels is.1 is.0)
+    let is : AreLabels labels r = All-contains (AreLabels labels) ps r are.of_labels has in
+    rw e (mul-add-lt r.1 labels r.0 labels is.1 is.0)
 place_below labels ps n are (other has) =
     let h = in_diagonal labels labels n has in rw h.2 (mul-add-lt h.0 labels h.0 labels h.1 h.1)
 
-half_of_all : (labels : ℕ) (ps : List (ℕ × ℕ)) → ArePairs labels ps → ((x y : ℕ) → AreLabels labels (x, y) → x ≢ y → Contains ps (x, y) ⊎ Contains ps (y, x)) → 2 * length ps + labels ≡ labels * labels
+half_of_all : (labels : ℕ) (ps : List (ℕ × ℕ)) → ArePairs labels ps
+    → ((x y : ℕ) → AreLabels labels (x, y) → x ≢ y → Contains ps (x, y) ⊎ Contains ps (y, x))
+    → 2 * length ps + labels ≡ labels * labels
 half_of_all labels ps are each =
     let whole : length (places labels ps (diagonal labels labels)) ≡ labels * labels =
-    as_many (places labels ps (diagonal labels labels)) (labels * labels) (apart_places labels ps are) (λ n has. place_below labels ps n are (in_places labels ps (diagonal labels labels) n has)) (λ n lt. has_place labels ps n each lt) in
-    let long : length (places labels ps (diagonal labels labels)) ≡ 2 * length ps + length (diagonal labels labels) = length-places labels ps (diagonal labels labels) in
+    as_many (places labels ps (diagonal labels labels)) (labels * labels) (apart_places labels ps are)
+    (λ n has. place_below labels ps n are (in_places labels ps (diagonal labels labels) n has))
+    (λ n lt. has_place labels ps n each lt) in
+    let long : length (places labels ps (diagonal labels labels)) ≡ 2 * length ps + length (diagonal labels labels) =
+    length-places labels ps (diagonal labels labels) in
     let square : length (diagonal labels labels) ≡ labels = length-diagonal labels labels in
     omega arith
 
-pub count_of_pairs : (levels pebbles : ℕ) (board : PlainBoard) → IsNestedBoard levels pebbles board → 2 * length board.pairs + board.labels ≡ board.labels * board.labels
+pub count_of_pairs : (levels pebbles : ℕ) (board : PlainBoard) → IsNestedBoard levels pebbles board
+    → 2 * length board.pairs + board.labels ≡ board.labels * board.labels
 count_of_pairs levels pebbles board is =
     half_of_all board.labels board.pairs is.is_board.pairs (
     λ x y are differ.

@@ -1,5 +1,6 @@
 -- Words and their numbers correspond.
-use Rattle.std.proofs.Common.{◌≡◌, ℕ, zero, suc, ◌+◌, ◌*◌, ◌/◌, ◌%◌, ◌^◌, ◌<◌, ◌≤◌, List, [], ◌∷◌, ◌++◌, length, refl, sym, ap, ◌∙◌, subst, arith, mod-lt, div-add-mod', mul-le-mul_right, suc-mul, mul_assoc}
+use Rattle.std.proofs.Common.{◌≡◌, ℕ, zero, suc, ◌+◌, ◌*◌, ◌/◌, ◌%◌, ◌^◌, ◌<◌, ◌≤◌, List, [], ◌∷◌, ◌++◌, length, refl}
+use Rattle.std.proofs.Common.{sym, ap, ◌∙◌, subst, arith, mod-lt, div-add-mod', mul-le-mul_right, suc-mul, mul_assoc}
 use Rattle.std.proofs.Math.Nat.{one-le-pow, pow-le-pow_right, pow-zero, pow-succ', div-lt_iff_lt-mul}
 use Rattle.std.proofs.lemmas.Nat.{div-mul-add, mod-mul-add, mod_below}
 use Rattle.std.specs.List.{All}
@@ -19,8 +20,10 @@ pub number_of-word_of : (count number : ℕ) → number < 3 ^ count → word_num
 unfolding word_number word_of
 number_of-word_of zero number below = let one : 3 ^ 0 ≡ 1 = pow-zero 3 in omega arith
 number_of-word_of (suc count) number below =
-    let rest : word_number (word_of count (number % 3 ^ count)) ≡ number % 3 ^ count = number_of-word_of count (number % 3 ^ count) (mod-lt number (some_words count)) in
-    ap (λ n. number / 3 ^ count * 3 ^ n + word_number (word_of count (number % 3 ^ count))) (length-word_of count (number % 3 ^ count))
+    let rest : word_number (word_of count (number % 3 ^ count)) ≡ number % 3 ^ count =
+    number_of-word_of count (number % 3 ^ count) (mod-lt number (some_words count)) in
+    ap (λ n. number / 3 ^ count * 3 ^ n + word_number (word_of count (number % 3 ^ count)))
+    (length-word_of count (number % 3 ^ count))
     ∙ ap (λ r. number / 3 ^ count * 3 ^ count + r) rest
     ∙ div-add-mod' number (3 ^ count)
 
@@ -32,7 +35,8 @@ number_below (digit ∷ word) each =
     let low : digit < 3 = All-head (λ d. d < 3) digit word each in
     let rest : word_number word < 3 ^ length word = number_below word (All-tail (λ d. d < 3) digit word each) in
     let product : suc digit * 3 ^ length word ≤ 3 * 3 ^ length word = mul-le-mul_right (3 ^ length word) low in
-    let more : suc digit * 3 ^ length word ≡ digit * 3 ^ length word + 3 ^ length word = suc-mul digit (3 ^ length word) in
+    let more : suc digit * 3 ^ length word ≡ digit * 3 ^ length word + 3 ^ length word =
+    suc-mul digit (3 ^ length word) in
     let power : 3 ^ suc (length word) ≡ 3 * 3 ^ length word = pow-succ' 3 (length word) in
     omega arith
 
@@ -44,7 +48,8 @@ unfolding word_number word_of
 digits_again [] each = refl
 digits_again (digit ∷ word) each =
     let rest : word_number word < 3 ^ length word = number_below word (All-tail (λ d. d < 3) digit word each) in
-    let first : (digit * 3 ^ length word + word_number word) / 3 ^ length word ≡ digit = div-mul-add digit (3 ^ length word) (word_number word) rest in
+    let first : (digit * 3 ^ length word + word_number word) / 3 ^ length word ≡ digit =
+    div-mul-add digit (3 ^ length word) (word_number word) rest in
     let others : word_of (length word) ((digit * 3 ^ length word + word_number word) % 3 ^ length word) ≡ word =
     ap (word_of (length word)) (mod-mul-add digit (3 ^ length word) (word_number word) rest)
     ∙ digits_again word (All-tail (λ d. d < 3) digit word each) in
@@ -72,7 +77,8 @@ number_of-push [] digit = let one : 3 ^ 0 ≡ 1 = pow-zero 3 in rw one (omega ar
 number_of-push (first ∷ word) digit =
     let rest : word_number (word ++ digit ∷ []) ≡ word_number word * 3 + digit = number_of-push word digit in
     let longer : length (word ++ digit ∷ []) ≡ suc (length word) = omega (arith, length-append word (digit ∷ [])) in
-    let power : 3 ^ length (word ++ digit ∷ []) ≡ 3 ^ length word * 3 = ap (λ n. 3 ^ n) longer ∙ pow-succ' 3 (length word) ∙ omega arith in
+    let power : 3 ^ length (word ++ digit ∷ []) ≡ 3 ^ length word * 3 =
+    ap (λ n. 3 ^ n) longer ∙ pow-succ' 3 (length word) ∙ omega arith in
     let product : first * 3 ^ length (word ++ digit ∷ []) ≡ first * (3 ^ length word * 3) = ap (λ n. first * n) power in
     let grouped : first * 3 ^ length word * 3 ≡ first * (3 ^ length word * 3) = mul_assoc first (3 ^ length word) 3 in
     omega arith
@@ -81,15 +87,22 @@ pub third_below : (count number : ℕ) → number < 3 ^ suc count → number / 3
 third_below count number below = let power : 3 ^ suc count ≡ 3 * 3 ^ count = pow-succ' 3 count in omega arith
 
 -- a word is that of the number divided by 3, and then the remainder
-pub word_of-push : (count number : ℕ) → number < 3 ^ suc count → word_of (suc count) number ≡ word_of count (number / 3) ++ number % 3 ∷ []
+pub word_of-push : (count number : ℕ) → number < 3 ^ suc count
+    → word_of (suc count) number ≡ word_of count (number / 3) ++ number % 3 ∷ []
 word_of-push count number below =
     let small : number / 3 < 3 ^ count = third_below count number below in
     let front : IsWord count (word_of count (number / 3)) = word_of_is_word count (number / 3) small in
     let word : List ℕ = word_of count (number / 3) ++ number % 3 ∷ [] in
-    let is : IsWord (suc count) word = (omega (arith, length-append (word_of count (number / 3)) (number % 3 ∷ []), front.0), All-push (λ d. d < 3) (word_of count (number / 3)) (number % 3) front.1 (mod_below number 3 (omega arith))) in
-    let same : word_number word ≡ number = number_of-push (word_of count (number / 3)) (number % 3) ∙ ap (λ n. n * 3 + number % 3) (number_of-word_of count (number / 3) small) ∙ div-add-mod' number 3 in
+    let is : IsWord (suc count) word = (
+      omega (arith, length-append (word_of count (number / 3)) (number % 3 ∷ []), front.0),
+      All-push (λ d. d < 3) (word_of count (number / 3)) (number % 3) front.1 (mod_below number 3 (omega arith)),
+    ) in
+    let same : word_number word ≡ number =
+    number_of-push (word_of count (number / 3)) (number % 3)
+    ∙ ap (λ n. n * 3 + number % 3) (number_of-word_of count (number / 3) small) ∙ div-add-mod' number 3 in
     sym (ap (word_of (suc count)) same) ∙ word_of-number_of (suc count) word is
 
 -- words of at most 23 digits have numbers of 64 bits
 pub words_fit : (count : ℕ) → count ≤ 23 → 3 ^ count < 2 ^ 64
-words_fit count few = let most : 3 ^ count ≤ 3 ^ 23 = pow-le-pow_right {n = 3} (omega arith) {i = count} {j = 23} few in omega arith
+words_fit count few =
+    let most : 3 ^ count ≤ 3 ^ 23 = pow-le-pow_right {n = 3} (omega arith) {i = count} {j = 23} few in omega arith

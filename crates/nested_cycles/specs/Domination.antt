@@ -2,7 +2,8 @@
 use Rattle.std.specs.Prelude.{◌≡◌, ℕ, ◌+◌, ◌-◌, ◌%◌, ◌^◌, ◌<◌, List, length, take, slice_index}
 use Rattle.nested_cycles.specs.Words.{word_of}
 
--- At the first index where two words of one length differ, the digit of the first comes next after that of the second round the
+-- At the first index where two words of one length differ, the digit of the first comes next after
+-- that of the second round the
 -- three-cycle.
 pub record WordDominates (word other : List ℕ) : Type 0 where
   pub index : ℕ

@@ -1,5 +1,6 @@
 -- Good words: those from which a labeller answers requests for ever.
-use Rattle.std.specs.Prelude.{◌≡◌, ℕ, zero, suc, ◌+◌, ◌-◌, ◌%◌, ◌≤◌, ◌⊎◌, ◌==◌, List, [], length, map, drop, slice_index, All, Contains}
+use Rattle.std.specs.Prelude.{◌≡◌, ℕ, zero, suc, ◌+◌, ◌-◌, ◌%◌, ◌≤◌, ◌⊎◌, ◌==◌, List, [], length}
+use Rattle.std.specs.Prelude.{map, drop, slice_index, All, Contains}
 use Rattle.std.specs.List.{filter}
 use Rattle.nested_cycles.specs.Domination.{label_word}
 
@@ -13,7 +14,8 @@ first_digits words = map (λ word. slice_index word 0) words
 
 -- the words of one copy, without their first digit
 abbrev pub rests_in : ℕ → List (List ℕ) → List (List ℕ)
-rests_in digit words = map (λ word. drop 1 word) (filter (λ word. slice_index word 0 == digit) words)
+rests_in digit words =
+    map (λ word. drop 1 word) (filter (λ word. slice_index word 0 == digit) words)
 
 -- all first digits are this one
 abbrev pub AreInOneCopy : ℕ → List ℕ → Type 0
@@ -33,7 +35,8 @@ AreGood (suc count) words =
     (words ≡ [])
     ⊎ ((digit : ℕ) × AreInOneCopy digit (first_digits words))
     ⊎ ((digit : ℕ) × AreInTwoCopies digit (first_digits words)
-    × (length (rests_in (next_digit digit) words) ≤ suc count) × AreGood count (rests_in (next_digit digit) words))
+    × (length (rests_in (next_digit digit) words) ≤ suc count)
+    × AreGood count (rests_in (next_digit digit) words))
 
 -- the words of labels
 abbrev pub label_words : ℕ → List ℕ → List (List ℕ)

@@ -7,10 +7,11 @@ ghost use Rattle.nested_cycles.specs.Domination.{labels_of, NestedBeats};
 
 use crate::game::MAX_LEVELS;
 
-/// Whether the label `a` dominates the label `b` on the nested board of level `levels`,
-/// 1 to `MAX_LEVELS`.
+/// Whether the label `a` dominates the label `b` on the nested
+/// board of level `levels`, 1 to `MAX_LEVELS`.
 ///
-/// A label is a word of ternary digits, one fewer than there are levels, and its number is that word read in base 3.
+/// A label is a word of ternary digits, one fewer than there are levels,
+/// and its number is that word read in base 3.
 pub fn nested_beats(levels: u8, mut a: u64, mut b: u64) -> bool
     requires level { InRange 1 MAX_LEVELS levels }
     requires labels { AreLabels (labels_of levels) (a, b) }

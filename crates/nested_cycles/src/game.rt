@@ -15,8 +15,8 @@ use std::marker::Model;
 /// The highest level of a game, at which labels are numbers below 3^23.
 pub const MAX_LEVELS: usize = 24;
 
-/// A game on the nested board of a level, 1 to `MAX_LEVELS`, with as many pebbles as levels. It is
-/// answered for ever.
+/// A game on the nested board of a level, 1 to `MAX_LEVELS`,
+/// with as many pebbles as levels. It is answered for ever.
 #[derive(Drop)]
 pub struct NestedGame {
     levels: u8,
@@ -49,15 +49,16 @@ impl NestedGame {
         self.levels
     }
 
-    /// Puts `pebble` on a word that dominates the words of all other pebbles, and returns that
-    /// word.
+    /// Puts `pebble` on a word that dominates the words of
+    /// all other pebbles, and returns that word.
     pub fn request(&mut self, pebble: u8) -> u64
         requires { pebble < self.old.levels }
         ensures label { result < labels_of self.old.levels }
         ensures reply { NestedReply self.old.levels (other_words pebble self.old.words) result }
         ensures dominates { (other : ℕ) → other < self.old.levels → other ≢ pebble
             → NestedBeats self.old.levels result (slice_index self.old.words other) }
-        ensures moved { self.new ≡ plain_game self.old.levels (slice_set self.old.words pebble result) }
+        ensures moved { self.new ≡ plain_game self.old.levels
+            (slice_set self.old.words pebble result) }
         ensures good { IsGood self.new }
     {
         let index = usize::from(pebble);

@@ -1,4 +1,5 @@
-//! Nested boards: the three-cycle, each of its labels replaced by a copy of the board of one level less.
+//! Nested boards: the three-cycle, each of its labels replaced
+//! by a copy of the board of one level less.
 #![tactic(auto)]
 
 mod copies;

@@ -1,11 +1,13 @@
-//! Solves boards of the pebble game, checks strategies for them, counts values, plays with a person,
+//! Solves boards of the pebble game, checks strategies for them, counts values, plays with a
+//! person,
 //! and writes nested boards and plays on them.
 //!
 //! Without a command a board and a strategy document after it are read from standard input, and one
 //! line is written to standard output. `pebbles --help` lists the commands.
 //!
 //! Exit statuses: 0 done, 1 a fault of a text or a board that is too large, 2 wrong words,
-//! 3 refused, 4 no memory or a worker that wasn't started, 5 a failed read or write, or an input that is too long.
+//! 3 refused, 4 no memory or a worker that wasn't started,
+//! 5 a failed read or write, or an input that is too long.
 #![tactic(auto)]
 
 ghost use Rattle.std.specs.Prelude.{◌≡◌, IfOk, map, string_bytes};

@@ -16,21 +16,25 @@ pub no_digits : (count number : ℕ) → count ≡ 0 → digits_of_word count nu
 unfolding word_of
 no_digits count number none = rw none refl
 
-pub first_digit : (count rest number size : ℕ) (old text new : List ℕ) → count ≡ suc rest → size ≡ 3 ^ rest → text ≡ old ++ decimal (number / size)
+pub first_digit : (count rest number size : ℕ) (old text new : List ℕ) → count ≡ suc rest → size ≡ 3 ^ rest
+    → text ≡ old ++ decimal (number / size)
     → new ≡ text ++ digits_of_word rest (number % size) → new ≡ old ++ digits_of_word count number
 unfolding word_of
 first_digit count rest number size old text new some size_is first others =
-    rw (some, ← size_is) (others ∙ ap (λ l. l ++ digits_of_word rest (number % size)) first ∙ append_assoc old (decimal (number / size)) (digits_of_word rest (number % size)))
+    rw (some, ← size_is) (others ∙ ap (λ l. l ++ digits_of_word rest (number % size)) first
+    ∙ append_assoc old (decimal (number / size)) (digits_of_word rest (number % size)))
 
 pub dot_text : (count number : ℕ) → count ≡ 0 → digits_text (word_of count number) ≡ codes "."
 unfolding word_of
 dot_text count number none = rw none refl
 
-pub some_text : (count rest number : ℕ) → count ≡ suc rest → digits_text (word_of count number) ≡ digits_of_word count number
+pub some_text : (count rest number : ℕ) → count ≡ suc rest
+    → digits_text (word_of count number) ≡ digits_of_word count number
 unfolding word_of
 some_text count rest number some = rw some refl
 
 -- a text that began empty, with the words of a new game
-pub opening_text : (levels : ℕ) (game : PlainGame) (old words new : List ℕ) → old ≡ [] → game ≡ plain_game levels (replicate levels 0) → words ≡ game.words
+pub opening_text : (levels : ℕ) (game : PlainGame) (old words new : List ℕ) → old ≡ []
+    → game ≡ plain_game levels (replicate levels 0) → words ≡ game.words
     → new ≡ old ++ (number_line (codes "levels") levels ++ words_line levels words) → new ≡ nested_opening_lines levels
 opening_text levels game old words new empty is of_game said = said ∙ rw (empty, of_game, is) refl

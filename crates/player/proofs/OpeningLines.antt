@@ -1,5 +1,6 @@
 -- The text that is written before the first line is read.
-use Rattle.std.proofs.Common.{◌≡◌, ℕ, List, [], ◌++◌, inl, inr, refl, sym, ap, ◌∙◌, subst, arith, append-nil, append_assoc}
+use Rattle.std.proofs.Common.{◌≡◌, ℕ, List, [], ◌++◌, inl, inr, refl, sym, ap, ◌∙◌, subst, arith, append-nil}
+use Rattle.std.proofs.Common.{append_assoc}
 use Rattle.std.specs.Prelude.{Option, None, Some}
 use Rattle.std.specs.Io.KnownBytes.{Appends, Keeps}
 use Rattle.board_text.specs.Streams.{AppendsPrefix}
@@ -14,23 +15,36 @@ use Rattle.player.proofs.WrittenPlay.{goes_on_or_ends, front_behind, front_kept,
 
 -- a play, by its opening and what it brings behind it
 module _ (Brings Played : List (List ℕ) → List ℕ → Standing → Type 0) (opening : List ℕ)
-    (played : (lines : List (List ℕ)) (more : List ℕ) (to : Standing) → Brings lines more to → Played lines (opening ++ more) to) where
-  stops : (lines : List (List ℕ)) (more : List ℕ) (end : PlayEnd) → Stops Brings lines more end → Stops Played lines (opening ++ more) end
-  stops lines more end h =
-      (h.0, opening ++ h.1, h.2, played lines h.1 (Going h.0 h.2) h.3, ap (λ l. opening ++ l) h.4 ∙ sym (append_assoc opening h.1 _), h.5)
+    (played : (lines : List (List ℕ)) (more : List ℕ) (to : Standing) → Brings lines more to
+    → Played lines (opening ++ more) to) where
+  stops : (lines : List (List ℕ)) (more : List ℕ) (end : PlayEnd) → Stops Brings lines more end
+      → Stops Played lines (opening ++ more) end
+  stops lines more end h = (
+    h.0,
+    opening ++ h.1,
+    h.2,
+    played lines h.1 (Going h.0 h.2) h.3,
+    ap (λ l. opening ++ l) h.4 ∙ sym (append_assoc opening h.1 _),
+    h.5,
+  )
 
-  ends : (left : Option (List ℕ)) (lines : List (List ℕ)) (rest more : List ℕ) (end : PlayEnd) → Ends Brings left lines rest more end
+  ends : (left : Option (List ℕ)) (lines : List (List ℕ)) (rest more : List ℕ) (end : PlayEnd)
+      → Ends Brings left lines rest more end
       → Ends Played left lines rest (opening ++ more) end
   ends left lines rest more end (inl over) = inl (played lines more (Over end) over)
   ends left lines rest more end (inr stopped) = inr (stops lines more end stopped.0, stopped.1, stopped.2, stopped.3)
 
-  goes_on_or_ends_too : (left : Option (List ℕ)) (lines : List (List ℕ)) (rest more : List ℕ) → GoesOnOrEnds Brings left lines rest more
+  goes_on_or_ends_too : (left : Option (List ℕ)) (lines : List (List ℕ)) (rest more : List ℕ)
+      → GoesOnOrEnds Brings left lines rest more
       → GoesOnOrEnds Played left lines rest (opening ++ more)
-  goes_on_or_ends_too left lines rest more (inl going) = inl (going.0, going.1, played lines more (Going going.0 going.1) going.2)
+  goes_on_or_ends_too left lines rest more (inl going) =
+      inl (going.0, going.1, played lines more (Going going.0 going.1) going.2)
   goes_on_or_ends_too left lines rest more (inr over) = inr (over.0, ends left lines rest more over.0 over.1)
 
-  module _ (left_old left_new taken_old taken_now taken_new : Option (List ℕ)) (written : Appends taken_old taken_now opening) where
-    pub has_ended : (end : PlayEnd) → HasEnded Brings left_old left_new taken_now taken_new end → HasEnded Played left_old left_new taken_old taken_new end
+  module _ (left_old left_new taken_old taken_now taken_new : Option (List ℕ))
+      (written : Appends taken_old taken_now opening) where
+    pub has_ended : (end : PlayEnd) → HasEnded Brings left_old left_new taken_now taken_new end
+        → HasEnded Played left_old left_new taken_old taken_new end
     has_ended end h = (
       h.0,
       h.1,
@@ -40,13 +54,27 @@ module _ (Brings Played : List (List ℕ) → List ℕ → Standing → Type 0) 
       Appends-trans taken_old taken_now taken_new opening h.2 written h.5,
     )
 
-    has_written : (Waits : List (List ℕ) → List ℕ → Type 0) → HasWritten Brings left_old left_new taken_now taken_new Waits → HasWritten Played left_old left_new taken_old taken_new Waits
-    has_written Waits h = (h.0, h.1, opening ++ h.2, h.3, h.4, h.5, h.6, played h.0 h.2 (Going h.3 h.4) h.7, Appends-trans taken_old taken_now taken_new opening h.2 written h.8)
+    has_written : (Waits : List (List ℕ) → List ℕ → Type 0)
+        → HasWritten Brings left_old left_new taken_now taken_new Waits
+        → HasWritten Played left_old left_new taken_old taken_new Waits
+    has_written Waits h = (
+      h.0,
+      h.1,
+      opening ++ h.2,
+      h.3,
+      h.4,
+      h.5,
+      h.6,
+      played h.0 h.2 (Going h.3 h.4) h.7,
+      Appends-trans taken_old taken_now taken_new opening h.2 written h.8,
+    )
 
-    behind : (text : List ℕ) → AppendsPrefix taken_now taken_new text → AppendsPrefix taken_old taken_new (opening ++ text)
+    behind : (text : List ℕ) → AppendsPrefix taken_now taken_new text
+        → AppendsPrefix taken_old taken_new (opening ++ text)
     behind text begun = front_behind taken_old taken_now taken_new opening text written begun
 
-    pub breaks_off : (fault : PlayFault) → BreaksOff Brings left_old left_new taken_now taken_new fault → BreaksOff Played left_old left_new taken_old taken_new fault
+    pub breaks_off : (fault : PlayFault) → BreaksOff Brings left_old left_new taken_now taken_new fault
+        → BreaksOff Played left_old left_new taken_old taken_new fault
     breaks_off Read h = has_written _ h
     breaks_off Limit h = has_written _ h
     breaks_off Write h = (h.0, h.1, opening ++ h.2, h.3, goes_on_or_ends_too left_new h.0 h.1 h.2 h.4, behind h.2 h.5)
@@ -56,7 +84,8 @@ module _ (Brings Played : List (List ℕ) → List ℕ → Standing → Type 0) 
 module _ (Played : List (List ℕ) → List ℕ → Standing → Type 0) (opening : List ℕ) (first : Standing)
     (alone : Played [] opening first) where
   -- nothing was written
-  pub unopened : (left taken_old taken_new : Option (List ℕ)) → Keeps taken_old taken_new → BreaksOff Played left left taken_old taken_new Memory
+  pub unopened : (left taken_old taken_new : Option (List ℕ)) → Keeps taken_old taken_new
+      → BreaksOff Played left left taken_old taken_new Memory
   unopened left taken_old taken_new kept = (
     [],
     [],
@@ -67,12 +96,20 @@ module _ (Played : List (List ℕ) → List ℕ → Standing → Type 0) (openin
   )
 
   -- the play is over before a line is read
-  pub over_at_once : (left taken_old taken_new : Option (List ℕ)) (end : PlayEnd) → first ≡ Over end → Appends taken_old taken_new opening → HasEnded Played left left taken_old taken_new end
-  over_at_once left taken_old taken_new end over written =
-      ([], [], opening, came_of left left [] _ (omega arith) (none_yet left), inl (subst (Played [] opening) over alone), written)
+  pub over_at_once : (left taken_old taken_new : Option (List ℕ)) (end : PlayEnd) → first ≡ Over end
+      → Appends taken_old taken_new opening → HasEnded Played left left taken_old taken_new end
+  over_at_once left taken_old taken_new end over written = (
+    [],
+    [],
+    opening,
+    came_of left left [] _ (omega arith) (none_yet left),
+    inl (subst (Played [] opening) over alone),
+    written,
+  )
 
   -- the opening wasn't written whole
-  pub unshown_opening : (left taken_old taken_new : Option (List ℕ)) → AppendsPrefix taken_old taken_new opening → BreaksOff Played left left taken_old taken_new Write
+  pub unshown_opening : (left taken_old taken_new : Option (List ℕ)) → AppendsPrefix taken_old taken_new opening
+      → BreaksOff Played left left taken_old taken_new Write
   unshown_opening left taken_old taken_new begun = (
     [],
     [],

@@ -1,5 +1,6 @@
 -- The lines that came so far, and the bytes that were read after them.
-use Rattle.std.proofs.Common.{◌≡◌, ℕ, ◌<◌, ◌≤◌, true, false, List, [], ◌∷◌, ◌++◌, length, All, inl, inr, refl, sym, ap, ◌∙◌, subst, arith, append-nil, append_assoc}
+use Rattle.std.proofs.Common.{◌≡◌, ℕ, ◌<◌, ◌≤◌, true, false, List, [], ◌∷◌, ◌++◌, length, All, inl, inr, refl, sym, ap}
+use Rattle.std.proofs.Common.{◌∙◌, subst, arith, append-nil, append_assoc}
 use Rattle.std.specs.Prelude.{Option, None, Some, ◌⊎◌}
 use Rattle.std.specs.List.{flat_map}
 use Rattle.std.specs.Io.KnownBytes.{Consumes, IsAtEnd}
@@ -27,7 +28,8 @@ pub none_yet : (left : Option (List ℕ)) → HasCome left left [] (record { byt
 none_yet left = record { came = inl (refl, Consumes-none left); each = λ k d inside. absurd (omega (arith, inside)) }
 
 -- if the end of the input wasn't seen, the lines that came have their line feeds, and the unread bytes follow
-closed_so_far : (left_old left_now : Option (List ℕ)) (lines : List (List ℕ)) (unread : Unread) → HasCome left_old left_now lines unread → unread.has_ended ≡ false
+closed_so_far : (left_old left_now : Option (List ℕ)) (lines : List (List ℕ)) (unread : Unread)
+    → HasCome left_old left_now lines unread → unread.has_ended ≡ false
     → FullLinesCame left_old left_now lines unread.bytes
 closed_so_far left_old left_now lines unread come goes_on =
     elim come.came [ inl so ↦ so.1 | inr over ↦ absurd (differ (sym over.0 ∙ goes_on)) ]
@@ -36,14 +38,16 @@ closed_so_far left_old left_now lines unread come goes_on =
     differ same = cc
 
 -- bytes that are read then follow the unread ones
-read_on : (left_old left_now left_new : Option (List ℕ)) (lines : List (List ℕ)) (unread : Unread) (more : List ℕ) → HasCome left_old left_now lines unread → unread.has_ended ≡ false
+read_on : (left_old left_now left_new : Option (List ℕ)) (lines : List (List ℕ)) (unread : Unread) (more : List ℕ)
+    → HasCome left_old left_now lines unread → unread.has_ended ≡ false
     → Consumes left_now left_new more → FullLinesCame left_old left_new lines (unread.bytes ++ more)
 read_on left_old left_now left_new lines unread more come goes_on read =
     subst (Consumes left_old left_new) (append_assoc (flat_map with_line_feed lines) unread.bytes more)
     (Consumes-trans left_old left_now left_new _ more (closed_so_far left_old left_now lines unread come goes_on) read)
 
 -- the lines came
-pub came_of : (left_old left_now : Option (List ℕ)) (lines : List (List ℕ)) (unread : Unread) → length lines ≤ MOST_LINES → HasCome left_old left_now lines unread
+pub came_of : (left_old left_now : Option (List ℕ)) (lines : List (List ℕ)) (unread : Unread)
+    → length lines ≤ MOST_LINES → HasCome left_old left_now lines unread
     → LinesCame left_old left_now lines unread.bytes
 came_of left_old left_now lines unread few come = record {
   came = elim come.came [ inl so ↦ inl so.1 | inr over ↦ inr (over.1, over.2) ];
@@ -52,7 +56,8 @@ came_of left_old left_now lines unread few come = record {
 }
 
 -- the lines came, and the unread bytes and those read then follow
-pub came_with : (left_old left_now left_new : Option (List ℕ)) (lines : List (List ℕ)) (unread : Unread) (more : List ℕ) → length lines ≤ MOST_LINES → HasCome left_old left_now lines unread
+pub came_with : (left_old left_now left_new : Option (List ℕ)) (lines : List (List ℕ)) (unread : Unread) (more : List ℕ)
+    → length lines ≤ MOST_LINES → HasCome left_old left_now lines unread
     → unread.has_ended ≡ false → Consumes left_now left_new more
     → LinesCame left_old left_new lines (unread.bytes ++ more)
 came_with left_old left_now left_new lines unread more few come goes_on read = record {
@@ -61,7 +66,8 @@ came_with left_old left_now left_new lines unread more few come goes_on read = r
   few = few;
 }
 
-pub record ComesNext (left_old left_new : Option (List ℕ)) (lines : List (List ℕ)) (unread : Unread) (word : LineMeaning) : Type 0 where
+pub record ComesNext (left_old left_new : Option (List ℕ)) (lines : List (List ℕ)) (unread : Unread)
+    (word : LineMeaning) : Type 0 where
   pub line : List ℕ
   pub spells : Spells line word
   pub come : HasCome left_old left_new (lines ++ line ∷ []) unread
@@ -69,7 +75,9 @@ pub record ComesNext (left_old left_new : Option (List ℕ)) (lines : List (List
   pub before : length lines ≤ MOST_LINES → LinesCame left_old left_new lines rest
 
 -- one more line came
-pub line_came : (left_old left_now left_new : Option (List ℕ)) (lines : List (List ℕ)) (old new : Unread) (word : LineMeaning) → HasCome left_old left_now lines old
+pub line_came : (left_old left_now left_new : Option (List ℕ)) (lines : List (List ℕ)) (old new : Unread)
+    (word : LineMeaning)
+    → HasCome left_old left_now lines old
     → GivesLine old new left_now left_new (Some word) → ComesNext left_old left_new lines new word
 line_came left_old left_now left_new lines old new word come gives =
     let line = gives.0 in
@@ -79,7 +87,14 @@ line_came left_old left_now left_new lines old new word come gives =
       | inl next ↦ record {
         line = line;
         spells = gives.2;
-        come = record { came = inl (next.goes_on, subst (Consumes left_old left_new) (joined next.more next.taken) (read_on left_old left_now left_new lines old next.more come goes_on next.read)); each = each };
+        come = record {
+          came = inl (
+            next.goes_on,
+            subst (Consumes left_old left_new) (joined next.more next.taken)
+                (read_on left_old left_now left_new lines old next.more come goes_on next.read),
+          );
+          each = each;
+        };
         rest = old.bytes ++ next.more;
         before = λ few. came_with left_old left_now left_new lines old next.more few come goes_on next.read;
       }
@@ -96,7 +111,11 @@ line_came left_old left_now left_new lines old new word come gives =
                   last = line;
                   lines_are = refl;
                   some = both.1;
-                  read = (subst (Consumes left_old left_new) (ap (λ l. flat_map with_line_feed lines ++ l) last.taken) (read_on left_old left_now left_new lines old last.more come goes_on last.read.0), last.read.1);
+                  read = (
+                    subst (Consumes left_old left_new) (ap (λ l. flat_map with_line_feed lines ++ l) last.taken)
+                        (read_on left_old left_now left_new lines old last.more come goes_on last.read.0),
+                    last.read.1,
+                  );
                 },
               );
               each = each;
@@ -106,16 +125,22 @@ line_came left_old left_now left_new lines old new word come gives =
           }
     ]
   where
-    joined : (more : List ℕ) → old.bytes ++ more ≡ with_line_feed gives.0 ++ new.bytes → flat_map with_line_feed lines ++ (old.bytes ++ more) ≡ flat_map with_line_feed (lines ++ gives.0 ∷ []) ++ new.bytes
-    joined more taken = ap (λ l. flat_map with_line_feed lines ++ l) taken ∙ sym (append_assoc (flat_map with_line_feed lines) (with_line_feed gives.0) new.bytes) ∙ ap (λ l. l ++ new.bytes) (flat_map_more with_line_feed [] lines gives.0)
+    joined : (more : List ℕ) → old.bytes ++ more ≡ with_line_feed gives.0 ++ new.bytes
+        → flat_map with_line_feed lines ++ (old.bytes ++ more) ≡ flat_map with_line_feed (lines ++ gives.0 ∷ [])
+        ++ new.bytes
+    joined more taken = ap (λ l. flat_map with_line_feed lines ++ l) taken
+        ∙ sym (append_assoc (flat_map with_line_feed lines) (with_line_feed gives.0) new.bytes)
+        ∙ ap (λ l. l ++ new.bytes) (flat_map_more with_line_feed [] lines gives.0)
 
 both_empty : (xs ys : List ℕ) → xs ++ ys ≡ [] → (xs ≡ []) × (ys ≡ [])
 both_empty [] ys e = (refl, e)
 both_empty (x ∷ xs) ys e = absurd (omega (arith, ap length e))
 
 -- no more lines came
-pub all_came : (left_old left_now left_new : Option (List ℕ)) (lines : List (List ℕ)) (old new : Unread) → length lines < MOST_LINES → HasCome left_old left_now lines old
-    → GivesLine old new left_now left_new None → LinesCame left_old left_new lines [] × IsAtEnd left_new × (length lines < MOST_LINES)
+pub all_came : (left_old left_now left_new : Option (List ℕ)) (lines : List (List ℕ)) (old new : Unread)
+    → length lines < MOST_LINES → HasCome left_old left_now lines old
+    → GivesLine old new left_now left_new None
+    → LinesCame left_old left_new lines [] × IsAtEnd left_new × (length lines < MOST_LINES)
 all_came left_old left_now left_new lines old new few come gives =
     let parts = both_empty old.bytes gives.more gives.taken in
     let none = parts.1 in
@@ -123,7 +148,9 @@ all_came left_old left_now left_new lines old new few come gives =
     let end : Consumes left_now left_new [] = subst (Consumes left_now left_new) none gives.read.0 in (
       record {
         came = elim come.came [
-          | inl so ↦ inl (subst (Consumes left_old left_new) (append-nil _ ∙ ap (λ l. flat_map with_line_feed lines ++ l) empty) (Consumes-trans left_old left_now left_new _ [] so.1 end))
+          | inl so ↦ inl (subst (Consumes left_old left_new)
+              (append-nil _ ∙ ap (λ l. flat_map with_line_feed lines ++ l) empty)
+              (Consumes-trans left_old left_now left_new _ [] so.1 end))
           | inr over ↦ inr (
             refl,
             record {
@@ -131,7 +158,11 @@ all_came left_old left_now left_new lines old new few come gives =
               last = over.2.last;
               lines_are = over.2.lines_are;
               some = over.2.some;
-              read = (subst (Consumes left_old left_new) (append-nil _) (Consumes-trans left_old left_now left_new _ [] over.2.read.0 end), gives.read.1);
+              read = (
+                subst (Consumes left_old left_new) (append-nil _)
+                    (Consumes-trans left_old left_now left_new _ [] over.2.read.0 end),
+                gives.read.1,
+              );
             },
           )
         ];

@@ -1,5 +1,6 @@
 -- The reply to the line of a person who asks.
-use Rattle.std.proofs.Common.{◌≡◌, ◌≢◌, ℕ, ◌+◌, ◌≤◌, ◌<◌, ◌^◌, List, ◌++◌, inl, inr, refl, sym, ap, ◌∙◌, subst, arith, add-one}
+use Rattle.std.proofs.Common.{◌≡◌, ◌≢◌, ℕ, ◌+◌, ◌≤◌, ◌<◌, ◌^◌, List, ◌++◌, inl, inr, refl, sym, ap, ◌∙◌, subst, arith}
+use Rattle.std.proofs.Common.{add-one}
 use Rattle.std.specs.Prelude.{codes}
 use Rattle.std.specs.Fmt.{decimal}
 use Rattle.std.specs.Str.Parse.{AllDigits}
@@ -12,7 +13,8 @@ use Rattle.positions.specs.declared.value.Value.{Value}
 use Rattle.strategies.specs.Best.{IsBestAnswer}
 use Rattle.player.specs.Words.{quit_line}
 use Rattle.player.specs.Inside.Words.{Spells}
-use Rattle.player.specs.Transcript.{Standing, Going, Over, PersonAsks, BeginsPlay, RepliesToLine, Replies, opening_lines, no_request_line}
+use Rattle.player.specs.Transcript.{Standing, Going, Over, PersonAsks, BeginsPlay, RepliesToLine, Replies}
+use Rattle.player.specs.Transcript.{opening_lines, no_request_line}
 use Rattle.player.specs.Transcript.{stuck_line, takes_line, at_line}
 use Rattle.player.specs.Inside.PlayState.{PlayState}
 use Rattle.player.specs.Inside.Steps.{AddsText}
@@ -28,13 +30,17 @@ no_quit number small same =
     omega (arith, first.0, first.1)
 
 -- a number that isn't below the number of pebbles is no request
-pub no_pebble : (pebbles : ℕ) (Answers : ℕ → List ℕ → Standing → Type 0) (there : List ℕ) (requests number : ℕ) → pebbles ≤ number
-    → (line : List ℕ) → Spells line (Number number) → RepliesToLine pebbles Answers there requests line no_request_line (Going there requests)
+pub no_pebble : (pebbles : ℕ) (Answers : ℕ → List ℕ → Standing → Type 0) (there : List ℕ) (requests number : ℕ)
+    → pebbles ≤ number
+    → (line : List ℕ) → Spells line (Number number)
+    → RepliesToLine pebbles Answers there requests line no_request_line (Going there requests)
 no_pebble pebbles Answers there requests number outside line spells =
     inr (inr (
       (
         λ same. no_quit number spells.0 (sym spells.1 ∙ same),
-        λ pebble inside same. let equal : number ≡ pebble = decimal_injective number pebble (omega (arith, spells.0)) (omega (arith, spells.0, inside, outside)) (sym spells.1 ∙ same) in omega (arith, equal, inside, outside),
+        λ pebble inside same. let equal : number ≡ pebble =
+            decimal_injective number pebble (omega (arith, spells.0)) (omega (arith, spells.0, inside, outside))
+            (sym spells.1 ∙ same) in omega (arith, equal, inside, outside),
       ),
       refl,
       refl,
@@ -47,9 +53,11 @@ module _ (inside seat : PlayState) (same : inside ≡ seat) where
   pub reply_said : (space : PlainBoard) (pebble label : ℕ) (after written old new : List ℕ) → space ≡ inside.board
       → IsBestAnswer inside.board inside.at pebble label → after ≡ moved inside.at pebble label → written ≡ after
       → new ≡ old ++ (takes_line pebble (decimal label) ++ at_line space written)
-      → AddsText old new (λ said. Replies seat.board seat.at seat.requests pebble said (Going after (inside.requests + 1)))
+      → AddsText old new (λ said. Replies seat.board seat.at seat.requests pebble said
+      (Going after (inside.requests + 1)))
   reply_said space pebble label after written old new of_board best there same_places said =
-      subst (λ (s : PlayState). AddsText old new (λ said. Replies s.board s.at s.requests pebble said (Going after (inside.requests + 1)))) same (
+      subst (λ (s : PlayState). AddsText old new
+      (λ said. Replies s.board s.at s.requests pebble said (Going after (inside.requests + 1)))) same (
         takes_line pebble (decimal label) ++ at_line space written,
         said,
         inl (
@@ -62,10 +70,13 @@ module _ (inside seat : PlayState) (same : inside ≡ seat) where
       )
 
   -- no label is legal
-  pub no_reply_said : (pebble : ℕ) (old new : List ℕ) → ((label : ℕ) → Legal inside.board inside.at pebble label → ⊥) → new ≡ old ++ stuck_line pebble inside.requests
+  pub no_reply_said : (pebble : ℕ) (old new : List ℕ) → ((label : ℕ) → Legal inside.board inside.at pebble label → ⊥)
+      → new ≡ old ++ stuck_line pebble inside.requests
       → AddsText old new (λ said. Replies seat.board seat.at seat.requests pebble said (Over (Stuck inside.requests)))
   no_reply_said pebble old new none said =
-      subst (λ (s : PlayState). AddsText old new (λ said. Replies s.board s.at s.requests pebble said (Over (Stuck inside.requests)))) same (stuck_line pebble inside.requests, said, inr (none, refl, refl))
+      subst (λ (s : PlayState). AddsText old new
+      (λ said. Replies s.board s.at s.requests pebble said (Over (Stuck inside.requests)))) same
+      (stuck_line pebble inside.requests, said, inr (none, refl, refl))
 
 -- the play begins at the start
 pub begins : (board : PlainBoard) (value : Value) → HasValue board board.start value

@@ -1,5 +1,6 @@
 -- The text that a play has written, as it goes on.
-use Rattle.std.proofs.Common.{◌≡◌, ℕ, ◌≤◌, List, [], ◌∷◌, ◌++◌, ◌<◌, length, take, drop, inl, inr, refl, sym, ap, ◌∙◌, subst, arith, append-nil, append_assoc, take-append-drop}
+use Rattle.std.proofs.Common.{◌≡◌, ℕ, ◌≤◌, List, [], ◌∷◌, ◌++◌, ◌<◌, length, take, drop, inl, inr, refl, sym, ap, ◌∙◌}
+use Rattle.std.proofs.Common.{subst, arith, append-nil, append_assoc, take-append-drop}
 use Rattle.std.specs.Prelude.{Option, None, Some, Result, Ok, Err, IfOk, IfErr, OnOk}
 use Rattle.std.specs.Io.KnownBytes.{Appends, Keeps, IsAtEnd}
 use Rattle.std.proofs.lemmas.List.{length_push}
@@ -19,9 +20,16 @@ use Rattle.player.specs.declared.play.TheConstants.{MOST_LINES}
 
 -- one more line and its response
 pub brings_more : (game : Game) (from : Standing) (lines : List (List ℕ)) (line text said : List ℕ) (to next : Standing)
-    → AreResponses game from lines text to → IsResponse game to line said next → AreResponses game from (lines ++ line ∷ []) (text ++ said) next
-brings_more game from [] line text said to next brought brings =
-    (said, [], next, subst (λ s. IsResponse game s line said next) (sym brought.1) brings, (refl, refl), ap (λ l. l ++ said) brought.0 ∙ sym (append-nil said))
+    → AreResponses game from lines text to → IsResponse game to line said next
+    → AreResponses game from (lines ++ line ∷ []) (text ++ said) next
+brings_more game from [] line text said to next brought brings = (
+  said,
+  [],
+  next,
+  subst (λ s. IsResponse game s line said next) (sym brought.1) brings,
+  (refl, refl),
+  ap (λ l. l ++ said) brought.0 ∙ sym (append-nil said),
+)
 brings_more game from (first ∷ lines) line text said to next brought brings = (
   brought.0,
   brought.1 ++ said,
@@ -32,70 +40,94 @@ brings_more game from (first ∷ lines) line text said to next brought brings = 
 )
 
 -- after these lines the play goes on or has ended
-pub goes_on_or_ends : (Played : List (List ℕ) → List ℕ → Standing → Type 0) (left : Option (List ℕ)) (lines : List (List ℕ)) (rest text : List ℕ) (to : Standing) → Played lines text to
+pub goes_on_or_ends : (Played : List (List ℕ) → List ℕ → Standing → Type 0) (left : Option (List ℕ))
+    (lines : List (List ℕ)) (rest text : List ℕ) (to : Standing)
+    → Played lines text to
     → GoesOnOrEnds Played left lines rest text
 goes_on_or_ends Played left lines rest text (Going at requests) played = inl (at, requests, played)
 goes_on_or_ends Played left lines rest text (Over end) played = inr (end, inl played)
 
 -- a text and then a prefix of more make a prefix of both together
-pub front_behind : (a b c : Option (List ℕ)) (front more : List ℕ) → Appends a b front → AppendsPrefix b c more → AppendsPrefix a c (front ++ more)
+pub front_behind : (a b c : Option (List ℕ)) (front more : List ℕ) → Appends a b front → AppendsPrefix b c more
+    → AppendsPrefix a c (front ++ more)
 front_behind a b c front more written begun =
     let size = begun.0 in
     front_taken a c (front ++ more) (front ++ take size more) (drop size more)
-    (ap (λ l. front ++ l) (sym (take-append-drop size more)) ∙ sym (append_assoc front (take size more) (drop size more)))
+    (ap (λ l. front ++ l) (sym (take-append-drop size more))
+    ∙ sym (append_assoc front (take size more) (drop size more)))
     (Appends-trans a b c front (take size more) written begun.2)
 
 -- a text after which nothing was written is a prefix of it and more
-pub front_kept : (a b c : Option (List ℕ)) (front tail : List ℕ) → Appends a b front → Keeps b c → AppendsPrefix a c (front ++ tail)
-front_kept a b c front tail written kept = front_taken a c (front ++ tail) front tail refl (Appends-kept a b c front written kept)
+pub front_kept : (a b c : Option (List ℕ)) (front tail : List ℕ) → Appends a b front → Keeps b c
+    → AppendsPrefix a c (front ++ tail)
+front_kept a b c front tail written kept =
+    front_taken a c (front ++ tail) front tail refl (Appends-kept a b c front written kept)
 
 -- no line came
-pub no_line : (Played : List (List ℕ) → List ℕ → Standing → Type 0) (left_old left_now left_new taken_old taken_now : Option (List ℕ)) (lines : List (List ℕ))
+pub no_line : (Played : List (List ℕ) → List ℕ → Standing → Type 0)
+    (left_old left_now left_new taken_old taken_now : Option (List ℕ)) (lines : List (List ℕ))
     (unread : Unread) (text at : List ℕ) (requests : ℕ) (fault : PlayFault)
     → Played lines text (Going at requests) → Appends taken_old taken_now text
     → HasCome left_old left_now lines unread → length lines < MOST_LINES → GivesNoLine unread left_now left_new fault
     → BreaksOff Played left_old left_new taken_old taken_now fault
-no_line Played left_old left_now left_new taken_old taken_now lines unread text at requests Read brought written come few gives = (
-  lines,
-  unread.bytes ++ gives.0,
-  text,
-  at,
-  requests,
-  came_with left_old left_now left_new lines unread gives.0 (omega (arith, few)) come gives.1 gives.2,
-  (gives.3, few),
-  brought,
-  written,
-)
-no_line Played left_old left_now left_new taken_old taken_now lines unread text at requests Limit brought written come few gives = (
-  lines,
-  unread.bytes ++ gives.0,
-  text,
-  at,
-  requests,
-  came_with left_old left_now left_new lines unread gives.0 (omega (arith, few)) come gives.1 gives.2,
-  inr gives.3,
-  brought,
-  written,
-)
-no_line Played left_old left_now left_new taken_old taken_now lines unread text at requests Write brought written come few gives =
+no_line Played left_old left_now left_new taken_old taken_now lines unread text at requests Read brought written come
+    few gives = (
+      lines,
+      unread.bytes ++ gives.0,
+      text,
+      at,
+      requests,
+      came_with left_old left_now left_new lines unread gives.0 (omega (arith, few)) come gives.1 gives.2,
+      (gives.3, few),
+      brought,
+      written,
+    )
+no_line Played left_old left_now left_new taken_old taken_now lines unread text at requests Limit brought written come
+    few gives = (
+      lines,
+      unread.bytes ++ gives.0,
+      text,
+      at,
+      requests,
+      came_with left_old left_now left_new lines unread gives.0 (omega (arith, few)) come gives.1 gives.2,
+      inr gives.3,
+      brought,
+      written,
+    )
+no_line Played left_old left_now left_new taken_old taken_now lines unread text at requests Write brought written come
+    few gives =
     absurd gives
-no_line Played left_old left_now left_new taken_old taken_now lines unread text at requests Memory brought written come few gives =
+no_line Played left_old left_now left_new taken_old taken_now lines unread text at requests Memory brought written come
+    few gives =
     absurd gives
 
 -- ---- one turn
 
-module _ (Played : List (List ℕ) → List ℕ → Standing → Type 0) (left_old left_new taken_old taken_now taken_new : Option (List ℕ)) (lines : List (List ℕ)) (text at : List ℕ) (requests : ℕ)
+module _ (Played : List (List ℕ) → List ℕ → Standing → Type 0)
+    (left_old left_new taken_old taken_now taken_new : Option (List ℕ)) (lines : List (List ℕ)) (text at : List ℕ)
+    (requests : ℕ)
     (brought : Played lines text (Going at requests)) (written : Appends taken_old taken_now text) where
   -- the input ended, and the line that says so was written
-  pub stopped : (result : Result PlayEnd PlayFault) → LinesCame left_old left_new lines [] × IsAtEnd left_new × (length lines < MOST_LINES) → IfOk result (λ end. end ≡ Stopped requests)
-      → OnOk result (Appends taken_now taken_new (stopped_line requests)) → IfOk result (HasEnded Played left_old left_new taken_old taken_new)
-  stopped (Ok end) came stops last =
-      (lines, [], text ++ stopped_line requests, came.0, inr ((at, text, requests, brought, refl, stops), came.1, refl, came.2), Appends-trans taken_old taken_now taken_new text (stopped_line requests) written last)
+  pub stopped : (result : Result PlayEnd PlayFault)
+      → LinesCame left_old left_new lines [] × IsAtEnd left_new × (length lines < MOST_LINES)
+      → IfOk result (λ end. end ≡ Stopped requests)
+      → OnOk result (Appends taken_now taken_new (stopped_line requests))
+      → IfOk result (HasEnded Played left_old left_new taken_old taken_new)
+  stopped (Ok end) came stops last = (
+    lines,
+    [],
+    text ++ stopped_line requests,
+    came.0,
+    inr ((at, text, requests, brought, refl, stops), came.1, refl, came.2),
+    Appends-trans taken_old taken_now taken_new text (stopped_line requests) written last,
+  )
   stopped (Err fault) came stops last = tt
 
   -- the input ended, and the line that says so wasn't written whole
-  pub not_stopped : (result : Result PlayEnd PlayFault) → LinesCame left_old left_new lines [] × IsAtEnd left_new × (length lines < MOST_LINES)
-      → IfErr result (FailsToWrite taken_now taken_new (λ said. said ≡ stopped_line requests)) → IfErr result (BreaksOff Played left_old left_new taken_old taken_new)
+  pub not_stopped : (result : Result PlayEnd PlayFault)
+      → LinesCame left_old left_new lines [] × IsAtEnd left_new × (length lines < MOST_LINES)
+      → IfErr result (FailsToWrite taken_now taken_new (λ said. said ≡ stopped_line requests))
+      → IfErr result (BreaksOff Played left_old left_new taken_old taken_new)
   not_stopped (Ok end) came fails = tt
   not_stopped (Err Write) came fails = (
     lines,
@@ -103,7 +135,8 @@ module _ (Played : List (List ℕ) → List ℕ → Standing → Type 0) (left_o
     text ++ stopped_line requests,
     came.0,
     inr (Stopped requests, inr ((at, text, requests, brought, refl, refl), came.1, refl, came.2)),
-    subst (AppendsPrefix taken_old taken_new) (ap (λ l. text ++ l) fails.2) (front_behind taken_old taken_now taken_new text fails.0 written fails.1),
+    subst (AppendsPrefix taken_old taken_new) (ap (λ l. text ++ l) fails.2)
+        (front_behind taken_old taken_now taken_new text fails.0 written fails.1),
   )
   not_stopped (Err Memory) came fails = (
     lines,
@@ -116,12 +149,14 @@ module _ (Played : List (List ℕ) → List ℕ → Standing → Type 0) (left_o
   not_stopped (Err Read) came fails = absurd fails
   not_stopped (Err Limit) came fails = absurd fails
 
-  module _ (word : LineMeaning) (unread : Unread) (next : ComesNext left_old left_new lines unread word) (few : length lines < MOST_LINES) where
+  module _ (word : LineMeaning) (unread : Unread) (next : ComesNext left_old left_new lines unread word)
+      (few : length lines < MOST_LINES) where
     all_few : length (lines ++ next.line ∷ []) ≤ MOST_LINES
     all_few = omega (arith, length_push lines next.line, few)
 
     -- a line ended the play
-    pub ended : (end : PlayEnd) (said : List ℕ) → Played (lines ++ next.line ∷ []) (text ++ said) (Over end) → Appends taken_now taken_new said
+    pub ended : (end : PlayEnd) (said : List ℕ) → Played (lines ++ next.line ∷ []) (text ++ said) (Over end)
+        → Appends taken_now taken_new said
         → HasEnded Played left_old left_new taken_old taken_new end
     ended end said brings last = (
       lines ++ next.line ∷ [],
@@ -153,14 +188,17 @@ module _ (Played : List (List ℕ) → List ℕ → Standing → Type 0) (left_o
       text,
       next.before (omega (arith, few)),
       inl (at, requests, brought),
-      subst (AppendsPrefix taken_old taken_new) (append-nil text) (front_kept taken_old taken_now taken_new text [] written fails),
+      subst (AppendsPrefix taken_old taken_new) (append-nil text)
+          (front_kept taken_old taken_now taken_new text [] written fails),
     )
     broken Says brings Read fails = absurd fails
     broken Says brings Limit fails = absurd fails
 
 -- if the write of a text failed, a prefix of it was written
-pub unshown : {X : Type 0} (result : Result X PlayFault) (fault : PlayFault) (IsRight : List ℕ → Type 0) (taken_old taken_new : Option (List ℕ)) (text said : List ℕ)
-    → result ≡ Err fault → fault ≡ Write → AppendsPrefix taken_old taken_new text → text ≡ [] ++ said → IsRight said → IfErr result (FailsToWrite taken_old taken_new IsRight)
+pub unshown : {X : Type 0} (result : Result X PlayFault) (fault : PlayFault) (IsRight : List ℕ → Type 0)
+    (taken_old taken_new : Option (List ℕ)) (text said : List ℕ)
+    → result ≡ Err fault → fault ≡ Write → AppendsPrefix taken_old taken_new text → text ≡ [] ++ said → IsRight said
+    → IfErr result (FailsToWrite taken_old taken_new IsRight)
 unshown result fault IsRight taken_old taken_new text said is write begun same right =
     rw is (rw write (said, subst (AppendsPrefix taken_old taken_new) same begun, right))
 

@@ -13,11 +13,13 @@ use Rattle.player.specs.declared.end.PlayEnd.TheVariants.{Stuck, Stopped, NoStra
 
 -- the start has a finite value, and no fewer requests were answered
 abbrev pub HasReached : PlainBoard → ℕ → Type 0
-HasReached board requests = (number : ℕ) × HasValue board board.start (Finite number) × (number ≤ requests)
+HasReached board requests =
+    (number : ℕ) × HasValue board board.start (Finite number) × (number ≤ requests)
 
 -- the start has a finite value, and no more requests were answered
 abbrev pub IsWithinValue : PlainBoard → ℕ → Type 0
-IsWithinValue board requests = (number : ℕ) × HasValue board board.start (Finite number) × (requests ≤ number)
+IsWithinValue board requests =
+    (number : ℕ) × HasValue board board.start (Finite number) × (requests ≤ number)
 
 -- an end of a play with a person who is the adversary: no label is legal only once as many requests
 -- are answered as the value has
@@ -54,5 +56,6 @@ abbrev pub EndsBestPlay : PlainBoard → List ℕ → ℕ → Type 0
 EndsBestPlay board configuration zero = (pebble : ℕ) × IsBestRequest board configuration pebble
     × ((label : ℕ) → Legal board configuration pebble label → ⊥)
 EndsBestPlay board configuration (suc number) =
-    (pebble label : ℕ) × IsBestRequest board configuration pebble × IsBestAnswer board configuration pebble label
+    (pebble label : ℕ) × IsBestRequest board configuration pebble
+    × IsBestAnswer board configuration pebble label
     × EndsBestPlay board (moved configuration pebble label) number

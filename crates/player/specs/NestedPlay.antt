@@ -13,6 +13,7 @@ pub record IsNestedPlay (levels : ℕ) (board : PlainBoard) : Type 0 where
   pub beats : (x y : ℕ) → AreLabels board.labels (x, y) → Beats board x y ↔ NestedBeats levels x y
 
 -- A label for each pebble, on good words.
-pub record IsGoodConfiguration (levels : ℕ) (board : PlainBoard) (configuration : List ℕ) : Type 0 where
+pub record IsGoodConfiguration (levels : ℕ) (board : PlainBoard)
+    (configuration : List ℕ) : Type 0 where
   pub are_labels : AreNumbers board.pebbles (labels_of levels) configuration
   pub good : NestedGood levels configuration

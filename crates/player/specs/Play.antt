@@ -26,38 +26,47 @@ pub record LinesWereAll (left_old left_new : Option (List ℕ)) (lines : List (L
   pub read : GaveAll left_old left_new (flat_map with_line_feed before ++ last)
 
 -- these lines came, and after them the rest
-pub record LinesCame (left_old left_new : Option (List ℕ)) (lines : List (List ℕ)) (rest : List ℕ) : Type 0 where
-  pub came : FullLinesCame left_old left_new lines rest ⊎ ((rest ≡ []) × LinesWereAll left_old left_new lines)
+pub record LinesCame (left_old left_new : Option (List ℕ)) (lines : List (List ℕ))
+    (rest : List ℕ) : Type 0 where
+  pub came : FullLinesCame left_old left_new lines rest
+      ⊎ ((rest ≡ []) × LinesWereAll left_old left_new lines)
   pub each : All IsLine lines
   pub few : length lines ≤ MOST_LINES
 
--- the lines end the play, or the end of the input does, which is asked for only after fewer lines
--- than may be read
-abbrev pub Ends : (List (List ℕ) → List ℕ → Standing → Type 0) → Option (List ℕ) → List (List ℕ) → List ℕ → List ℕ → PlayEnd → Type 0
+-- the lines end the play, or the end of the input does,
+-- which is asked for only after fewer lines than may be read
+abbrev pub Ends : (List (List ℕ) → List ℕ → Standing → Type 0) → Option (List ℕ) → List (List ℕ)
+    → List ℕ → List ℕ → PlayEnd → Type 0
 Ends Played left_new lines rest text end = Played lines text (Over end)
     ⊎ (Stops Played lines text end × IsAtEnd left_new × (rest ≡ []) × (length lines < MOST_LINES))
 
 -- the lines leave the play going, or it ends
-abbrev pub GoesOnOrEnds : (List (List ℕ) → List ℕ → Standing → Type 0) → Option (List ℕ) → List (List ℕ) → List ℕ → List ℕ → Type 0
+abbrev pub GoesOnOrEnds : (List (List ℕ) → List ℕ → Standing → Type 0) → Option (List ℕ)
+    → List (List ℕ) → List ℕ → List ℕ → Type 0
 GoesOnOrEnds Played left_new lines rest text =
-    ((at : List ℕ) × (requests : ℕ) × Played lines text (Going at requests)) ⊎ ((end : PlayEnd) × Ends Played left_new lines rest text end)
+    ((at : List ℕ) × (requests : ℕ) × Played lines text (Going at requests))
+    ⊎ ((end : PlayEnd) × Ends Played left_new lines rest text end)
 
-module _ (Played : List (List ℕ) → List ℕ → Standing → Type 0) (left_old left_new taken_old taken_new : Option (List ℕ)) where
+module _ (Played : List (List ℕ) → List ℕ → Standing → Type 0)
+    (left_old left_new taken_old taken_new : Option (List ℕ)) where
   -- lines came, and the text written is their transcript, with this end
   abbrev pub HasEnded : PlayEnd → Type 0
   HasEnded end = (lines : List (List ℕ)) × (rest text : List ℕ)
-      × LinesCame left_old left_new lines rest × Ends Played left_new lines rest text end × Appends taken_old taken_new text
+      × LinesCame left_old left_new lines rest × Ends Played left_new lines rest text end
+      × Appends taken_old taken_new text
 
   -- lines came that didn't end the play, and the text written is the reply to them
   abbrev pub HasWritten : (List (List ℕ) → List ℕ → Type 0) → Type 0
   HasWritten Waits = (lines : List (List ℕ)) × (rest text at : List ℕ) × (requests : ℕ)
-      × LinesCame left_old left_new lines rest × Waits lines rest × Played lines text (Going at requests) × Appends taken_old taken_new text
+      × LinesCame left_old left_new lines rest × Waits lines rest
+      × Played lines text (Going at requests) × Appends taken_old taken_new text
 
-  -- lines came, and the text written is a prefix of the reply to them, which has an end only if the
-  -- play has one
+  -- lines came, and the text written is a prefix of the reply to them,
+  -- which has an end only if the play has one
   abbrev pub HasBegun : Type 0
   HasBegun = (lines : List (List ℕ)) × (rest text : List ℕ)
-      × LinesCame left_old left_new lines rest × GoesOnOrEnds Played left_new lines rest text × AppendsPrefix taken_old taken_new text
+      × LinesCame left_old left_new lines rest × GoesOnOrEnds Played left_new lines rest text
+      × AppendsPrefix taken_old taken_new text
 
   -- the cases of each fault, and the text written before it
   abbrev pub BreaksOff : PlayFault → Type 0

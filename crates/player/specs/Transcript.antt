@@ -1,5 +1,6 @@
 -- The output of a play: a text for each line of the person, by the moves of the pebble game.
-use Rattle.std.specs.Prelude.{◌≡◌, ◌≢◌, ℕ, suc, ◌<◌, ◌⊎◌, List, [], ◌∷◌, ◌++◌, map, replicate, codes}
+use Rattle.std.specs.Prelude.{◌≡◌, ◌≢◌, ℕ, suc, ◌<◌, ◌⊎◌, List, [], ◌∷◌, ◌++◌, map, replicate}
+use Rattle.std.specs.Prelude.{codes}
 use Rattle.std.specs.Fmt.{decimal}
 use Rattle.std.specs.List.{flat_map}
 use Rattle.board_text.specs.LineForms.{with_line_feed, number_line}
@@ -26,8 +27,8 @@ pub data Game : Type 0 where
   PersonAsks PersonAnswers : PlainBoard → Game
   PersonClimbs : ℕ → Game
 
--- the state of a play: it goes on from a configuration, after a number of answered requests, or it
--- is over
+-- the state of a play: it goes on from a configuration,
+-- after a number of answered requests, or it is over
 pub data Standing : Type 0 where
   Going : List ℕ → ℕ → Standing
   Over : PlayEnd → Standing
@@ -56,7 +57,8 @@ abbrev pub ask_line : ℕ → List ℕ
 ask_line pebble = number_line (codes "ask") pebble
 
 abbrev pub stuck_line : ℕ → ℕ → List ℕ
-stuck_line pebble requests = with_line_feed (codes "no label for pebble " ++ decimal pebble ++ codes " after " ++ decimal requests
+stuck_line pebble requests = with_line_feed
+    (codes "no label for pebble " ++ decimal pebble ++ codes " after " ++ decimal requests
     ++ codes " requests")
 
 abbrev pub stopped_line : ℕ → List ℕ
@@ -80,7 +82,8 @@ IsNoRequest pebbles line =
     (line ≢ quit_line) × ((pebble : ℕ) → pebble < pebbles → line ≢ decimal pebble)
 
 -- the reply to a line if the person names one of `pebbles` pebbles, each answered by `Answers`
-abbrev pub RepliesToLine : ℕ → (ℕ → List ℕ → Standing → Type 0) → List ℕ → ℕ → List ℕ → List ℕ → Standing → Type 0
+abbrev pub RepliesToLine : ℕ → (ℕ → List ℕ → Standing → Type 0) → List ℕ → ℕ → List ℕ → List ℕ
+    → Standing → Type 0
 RepliesToLine pebbles Answers at requests line said to =
     ((pebble : ℕ) × (pebble < pebbles) × (line ≡ decimal pebble) × Answers pebble said to)
     ⊎ ((line ≡ quit_line) × (said ≡ stopped_line requests) × (to ≡ Over (Stopped requests)))
@@ -92,7 +95,8 @@ Replies board at requests pebble said to =
     ((label : ℕ) × IsBestAnswer board at pebble label
     × (said ≡ takes_line pebble (decimal label) ++ at_line board (moved at pebble label))
     × (to ≡ Going (moved at pebble label) (suc requests)))
-    ⊎ (((label : ℕ) → Legal board at pebble label → ⊥) × (said ≡ stuck_line pebble requests) × (to ≡ Over (Stuck requests)))
+    ⊎ (((label : ℕ) → Legal board at pebble label → ⊥) × (said ≡ stuck_line pebble requests)
+    × (to ≡ Over (Stuck requests)))
 
 -- ---- the person asks on a nested board
 
@@ -111,13 +115,15 @@ words_line levels at = with_line_feed (codes "at" ++ spaced_texts (map (word_tex
 
 -- the level, and all pebbles on the label 0
 abbrev pub nested_opening_lines : ℕ → List ℕ
-nested_opening_lines levels = number_line (codes "levels") levels ++ words_line levels (replicate levels 0)
+nested_opening_lines levels =
+    number_line (codes "levels") levels ++ words_line levels (replicate levels 0)
 
 -- the reply to a request, which there always is
 abbrev pub NestedReplies : ℕ → List ℕ → ℕ → ℕ → List ℕ → Standing → Type 0
 NestedReplies levels at requests pebble said to =
     (label : ℕ) × (label < labels_of levels) × NestedReply levels (other_words pebble at) label
-    × (said ≡ takes_line pebble (word_text levels label) ++ words_line levels (moved at pebble label))
+    × (said ≡ takes_line pebble (word_text levels label)
+    ++ words_line levels (moved at pebble label))
     × (to ≡ Going (moved at pebble label) (suc requests))
 
 -- ---- the person answers
@@ -125,23 +131,28 @@ NestedReplies levels at requests pebble said to =
 -- the best request; possibly no label is legal for it
 abbrev pub Asks : PlainBoard → List ℕ → ℕ → List ℕ → Standing → Type 0
 Asks board at requests said to = (pebble : ℕ) × IsBestRequest board at pebble
-    × ((((label : ℕ) × Legal board at pebble label) × (said ≡ ask_line pebble) × (to ≡ Going at requests))
-    ⊎ (((label : ℕ) → Legal board at pebble label → ⊥) × (said ≡ ask_line pebble ++ stuck_line pebble requests)
+    × ((((label : ℕ) × Legal board at pebble label) × (said ≡ ask_line pebble)
+    × (to ≡ Going at requests))
+    ⊎ (((label : ℕ) → Legal board at pebble label → ⊥)
+    × (said ≡ ask_line pebble ++ stuck_line pebble requests)
     × (to ≡ Over (Stuck requests))))
 
 -- the line is a legal label for the pebble that is asked for
 abbrev pub IsLegalLine : PlainBoard → List ℕ → List ℕ → ℕ → ℕ → Type 0
-IsLegalLine board at line pebble label = IsBestRequest board at pebble × Legal board at pebble label × (line ≡ decimal label)
+IsLegalLine board at line pebble label =
+    IsBestRequest board at pebble × Legal board at pebble label × (line ≡ decimal label)
 
 -- the line is no legal label, and isn't `quit`
 abbrev pub IsNoAnswer : PlainBoard → List ℕ → List ℕ → Type 0
-IsNoAnswer board at line = (line ≢ quit_line) × ((pebble label : ℕ) → IsLegalLine board at line pebble label → ⊥)
+IsNoAnswer board at line =
+    (line ≢ quit_line) × ((pebble label : ℕ) → IsLegalLine board at line pebble label → ⊥)
 
 -- the reply to a line if the person is the labeller
 abbrev pub AsksAfterLine : PlainBoard → List ℕ → ℕ → List ℕ → List ℕ → Standing → Type 0
 AsksAfterLine board at requests line said to =
     ((pebble label : ℕ) × (asked : List ℕ) × IsLegalLine board at line pebble label
-    × Asks board (moved at pebble label) (suc requests) asked to × (said ≡ at_line board (moved at pebble label) ++ asked))
+    × Asks board (moved at pebble label) (suc requests) asked to
+    × (said ≡ at_line board (moved at pebble label) ++ asked))
     ⊎ ((line ≡ quit_line) × (said ≡ stopped_line requests) × (to ≡ Over (Stopped requests)))
     ⊎ (IsNoAnswer board at line × (said ≡ no_answer_line) × (to ≡ Going at requests))
 
@@ -151,20 +162,28 @@ AsksAfterLine board at requests line said to =
 -- the labeller the first request, or that there is no strategy
 abbrev pub BeginsPlay : Game → List ℕ → Standing → Type 0
 BeginsPlay (PersonAsks board) said to =
-    (value : Value) × HasValue board board.start value × (said ≡ opening_lines board value board.start) × (to ≡ Going board.start 0)
+    (value : Value) × HasValue board board.start value
+    × (said ≡ opening_lines board value board.start) × (to ≡ Going board.start 0)
 BeginsPlay (PersonAnswers board) said to =
-    (HasValue board board.start Forever × (said ≡ opening_lines board Forever board.start ++ no_strategy_line) × (to ≡ Over NoStrategy))
+    (HasValue board board.start Forever
+    × (said ≡ opening_lines board Forever board.start ++ no_strategy_line)
+    × (to ≡ Over NoStrategy))
     ⊎ ((number : ℕ) × (asked : List ℕ) × HasValue board board.start (Finite number)
-    × (said ≡ opening_lines board (Finite number) board.start ++ asked) × Asks board board.start 0 asked to)
-BeginsPlay (PersonClimbs levels) said to = (said ≡ nested_opening_lines levels) × (to ≡ Going (replicate levels 0) 0)
+    × (said ≡ opening_lines board (Finite number) board.start ++ asked)
+    × Asks board board.start 0 asked to)
+BeginsPlay (PersonClimbs levels) said to =
+    (said ≡ nested_opening_lines levels) × (to ≡ Going (replicate levels 0) 0)
 
 -- the reply to one line; none if the play is over
 abbrev pub IsResponse : Game → Standing → List ℕ → List ℕ → Standing → Type 0
 IsResponse game (Over end) line said to = (said ≡ []) × (to ≡ Over end)
-IsResponse (PersonAsks board) (Going at requests) line said to = RepliesToLine board.pebbles (Replies board at requests)
+IsResponse (PersonAsks board) (Going at requests) line said to =
+    RepliesToLine board.pebbles (Replies board at requests)
     at requests line said to
-IsResponse (PersonAnswers board) (Going at requests) line said to = AsksAfterLine board at requests line said to
-IsResponse (PersonClimbs levels) (Going at requests) line said to = RepliesToLine levels (NestedReplies levels at requests)
+IsResponse (PersonAnswers board) (Going at requests) line said to =
+    AsksAfterLine board at requests line said to
+IsResponse (PersonClimbs levels) (Going at requests) line said to =
+    RepliesToLine levels (NestedReplies levels at requests)
     at requests line said to
 
 -- the replies to these lines, one after the other
@@ -175,7 +194,8 @@ AreResponses game from (line ∷ lines) text to =
     × AreResponses game next lines more to × (text ≡ said ++ more)
 
 -- the text written once these lines are read, and the state of the play then
-pub record IsPlayed (game : Game) (lines : List (List ℕ)) (text : List ℕ) (to : Standing) : Type 0 where
+pub record IsPlayed (game : Game) (lines : List (List ℕ)) (text : List ℕ)
+    (to : Standing) : Type 0 where
   pub opening : List ℕ
   pub first : Standing
   pub more : List ℕ
@@ -184,13 +204,16 @@ pub record IsPlayed (game : Game) (lines : List (List ℕ)) (text : List ℕ) (t
   pub text_is : text ≡ opening ++ more
 
 -- if the lines end before the play is over, one more line is written
-abbrev pub Stops : (List (List ℕ) → List ℕ → Standing → Type 0) → List (List ℕ) → List ℕ → PlayEnd → Type 0
+abbrev pub Stops : (List (List ℕ) → List ℕ → Standing → Type 0) → List (List ℕ) → List ℕ → PlayEnd
+    → Type 0
 Stops Played lines text end =
-    (at front : List ℕ) × (requests : ℕ) × Played lines front (Going at requests) × (text ≡ front ++ stopped_line requests)
+    (at front : List ℕ) × (requests : ℕ) × Played lines front (Going at requests)
+    × (text ≡ front ++ stopped_line requests)
     × (end ≡ Stopped requests)
 
 -- the whole transcript of input lines, and its end
-abbrev pub Transcribes : (List (List ℕ) → List ℕ → Standing → Type 0) → List (List ℕ) → List ℕ → PlayEnd → Type 0
+abbrev pub Transcribes : (List (List ℕ) → List ℕ → Standing → Type 0) → List (List ℕ) → List ℕ
+    → PlayEnd → Type 0
 Transcribes Played lines text end = Played lines text (Over end) ⊎ Stops Played lines text end
 
 abbrev pub IsTranscript : Game → List (List ℕ) → List ℕ → PlayEnd → Type 0

@@ -1,6 +1,7 @@
 //! Plays on nested boards that are never built, with a person who is the adversary.
 
-ghost use Rattle.std.specs.Prelude.{◌≡◌, ◌+◌, ◌<◌, ◌^◌, ℕ, List, replicate, false, IfOk, IfErr, string_bytes};
+ghost use Rattle.std.specs.Prelude.{◌≡◌, ◌+◌, ◌<◌, ◌^◌, ℕ, List, replicate, false, IfOk, IfErr};
+ghost use Rattle.std.specs.Prelude.{string_bytes};
 ghost use Rattle.board_text.specs.Ranges.{InRange};
 ghost use Rattle.nested_cycles.specs.NestedGame.{plain_game};
 ghost use Rattle.player.specs.Laws.{KeepsToValue};
@@ -38,9 +39,11 @@ pub fn play_nested<R: Source, W: Sink>(
     requires reader_ready { R.has_failed reader.old ≡ false }
     requires reader_unended { R.has_ended reader.old ≡ false }
     requires writer_ready { W.has_failed writer.old ≡ false }
-    ensures ok { IfOk result (HasEnded (IsPlayed (PersonClimbs levels)) (R.remaining reader.old) (R.remaining reader.new)
+    ensures ok { IfOk result (HasEnded (IsPlayed (PersonClimbs levels)) (R.remaining reader.old)
+        (R.remaining reader.new)
         (W.contents writer.old) (W.contents writer.new)) }
-    ensures fault { IfErr result (BreaksOff (IsPlayed (PersonClimbs levels)) (R.remaining reader.old) (R.remaining reader.new)
+    ensures fault { IfErr result (BreaksOff (IsPlayed (PersonClimbs levels))
+        (R.remaining reader.old) (R.remaining reader.new)
         (W.contents writer.old) (W.contents writer.new)) }
     ensures value { IfOk result (KeepsToValue (PersonClimbs levels)) }
     ensures streams { TellsBothStreams result (R.has_failed reader.new) (W.has_failed writer.new) }
@@ -50,8 +53,8 @@ pub fn play_nested<R: Source, W: Sink>(
 }
 
 /// Plays as `play_nested` does, and if `shows` says so, prompts the person by lines on `errors`: a
-/// greeting before the first line is read, and after the answer to each wrong line the pebbles that
-/// can be asked for.
+/// greeting before the first line is read, and after the answer to
+/// each wrong line the pebbles that can be asked for.
 ///
 /// If `errors` fails, or has failed before, nothing more is written there, and the play goes on.
 pub fn play_nested_with_prompts<R: Source, W: Sink, E: Sink>(
@@ -99,11 +102,12 @@ struct Climb {
 }
 
 impl Climb {
-    /// A play on the nested board of level `levels` before its first request: all pebbles are on
-    /// the label 0.
+    /// A play on the nested board of level `levels` before its first request:
+    /// all pebbles are on the label 0.
     fn new(alloc: Global, levels: u8) -> Result<Climb, Memory>
         requires { InRange 1 MAX_LEVELS levels }
-        ensures { IfOk result (λ play. (play.nested ≡ plain_game levels (replicate levels 0)) × (play.requests ≡ 0)) }
+        ensures { IfOk result (λ play. (play.nested ≡ plain_game levels (replicate levels 0))
+            × (play.requests ≡ 0)) }
     {
         let nested = NestedGame::new(alloc, levels)?;
         Ok(Climb {
@@ -119,7 +123,8 @@ impl Climb {
         ensures levels { self.new.nested.levels ≡ self.old.nested.levels }
         ensures count { self.new.requests ≡ self.old.requests + 1 }
         ensures said { IfOk result (λ end. AddsText (string_bytes text.old) (string_bytes text.new)
-            (λ said. NestedReplies self.old.nested.levels self.old.nested.words self.old.requests pebble said
+            (λ said. NestedReplies self.old.nested.levels self.old.nested.words self.old.requests
+            pebble said
             (standing_of end self.new.nested.words self.new.requests))) }
     {
         let levels = self.nested.levels();

@@ -14,7 +14,8 @@ ghost use Rattle.player.specs.Inside.PlayState.{HasAsked, IsRequestAt, IsStandin
 ghost use Rattle.player.specs.Inside.Prompts.{AreLegalAt};
 ghost use Rattle.player.specs.Prompts.{ArePrompts};
 ghost use Rattle.player.specs.Showing.{IsMore, shown};
-ghost use Rattle.player.specs.Transcript.{Standing, IsPlayed, BeginsPlay, PersonAnswers, AsksAfterLine, no_answer_line};
+ghost use Rattle.player.specs.Transcript.{Standing, IsPlayed, BeginsPlay, PersonAnswers};
+ghost use Rattle.player.specs.Transcript.{AsksAfterLine, no_answer_line};
 ghost use Rattle.player.specs.Inside.Transcript.{standing_of};
 ghost use Rattle.player.specs.Inside.Steps.{AddsText};
 
@@ -32,8 +33,8 @@ use std::fmt::Write;
 use std::marker::Model;
 use strategies::{Configuration, NumberedMoves};
 
-/// Plays with a person who is the labeller: best requests are made, and each line answers one with
-/// a label.
+/// Plays with a person who is the labeller: best requests are made,
+/// and each line answers one with a label.
 ///
 /// The `values` are those of `board`. The reader and the writer must not have failed before, nor
 /// the reader have reported its end.
@@ -186,7 +187,8 @@ fn request_at(moves: &NumberedMoves<'_>, held: &[u16]) -> Request
 
 /// Appends `request`, and that the play is over if no label is legal; returns the next turn.
 fn write_request(text: &mut String, request: Request, requests: u32) -> Result<Next, AllocError>
-    ensures { IfOk result (λ next. AddsText (string_bytes text.old) (string_bytes text.new) (HasAsked request requests next)) }
+    ensures { IfOk result (λ next. AddsText (string_bytes text.old) (string_bytes text.new)
+        (HasAsked request requests next)) }
 {
     write!(text, "ask {}\n", request.pebble)?;
     if request.is_stuck {
@@ -241,8 +243,8 @@ impl<'a> LabellerSide<'a> {
             .is_legal(self.configuration.as_slice(), self.asked, label)
     }
 
-    /// Writes the labels that are legal for the pebble that is asked for, each with a space before
-    /// it.
+    /// Writes the labels that are legal for the pebble that
+    /// is asked for, each with a space before it.
     fn tell_legal_labels<E: Sink>(&self, errors: &mut E)
         ensures { (labels : List ℕ) × AreLegalAt self.now labels
             × IsMore E.contents E.has_failed errors.old errors.new
@@ -333,7 +335,8 @@ impl Play for LabellerSide<'_> {
 
 /// Appends the reply to a line that is no answer; the play goes on.
 fn say_no_answer(text: &mut String) -> Result<Option<PlayEnd>, AllocError>
-    ensures { IfOk result (λ end. (end ≡ None) × (string_bytes text.new ≡ string_bytes text.old ++ no_answer_line)) }
+    ensures { IfOk result (λ end. (end ≡ None)
+        × (string_bytes text.new ≡ string_bytes text.old ++ no_answer_line)) }
 {
     text.push_str("not an answer\n")?;
     Ok(None)

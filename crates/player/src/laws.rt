@@ -6,7 +6,8 @@ ghost use Rattle.positions.specs.declared.value.Value.TheVariants.{Finite};
 ghost use Rattle.positions.specs.Value.{HasValue};
 ghost use Rattle.player.specs.Laws.{IsGame, IsWithinValue, IsNoSooner, IsNoLater, IsStopped};
 ghost use Rattle.player.specs.Laws.{EndsBestPlay};
-ghost use Rattle.player.specs.Transcript.{Game, Going, PersonAsks, PersonAnswers, PersonClimbs, IsPlayed, IsTranscript};
+ghost use Rattle.player.specs.Transcript.{Game, Going, PersonAsks, PersonAnswers, PersonClimbs};
+ghost use Rattle.player.specs.Transcript.{IsPlayed, IsTranscript};
 ghost use Rattle.player.specs.declared.end.PlayEnd.{PlayEnd as PlayEndData};
 
 use crate::lines::MOST_BYTES;
@@ -20,9 +21,11 @@ pub fn plays_last_by_the_value()
     ensures asking { (board : PlainBoard) → (lines : List (List ℕ)) → (text : List ℕ)
         → (end : PlayEndData)
         → IsTranscript (PersonAsks board) lines text end → IsNoSooner board end }
-    ensures answering { (board : PlainBoard) → (lines : List (List ℕ)) → (text : List ℕ) → (end : PlayEndData)
+    ensures answering { (board : PlainBoard) → (lines : List (List ℕ)) → (text : List ℕ)
+        → (end : PlayEndData)
         → IsTranscript (PersonAnswers board) lines text end → IsNoLater board end }
-    ensures going { (board : PlainBoard) → (lines : List (List ℕ)) → (text : List ℕ) → (at : List ℕ) → (requests : ℕ)
+    ensures going { (board : PlainBoard) → (lines : List (List ℕ)) → (text : List ℕ) → (at : List ℕ)
+        → (requests : ℕ)
         → IsPlayed (PersonAnswers board) lines text (Going at requests)
         → IsWithinValue board requests }
     ensures climbing { (levels : ℕ) → (lines : List (List ℕ)) → (text : List ℕ)
@@ -36,16 +39,19 @@ pub fn one_transcript()
         → (text : List ℕ) × (end : PlayEndData) × IsTranscript game lines text end }
     ensures one { (game : Game) → (lines : List (List ℕ)) → (first : List ℕ) → (second : List ℕ)
         → (end : PlayEndData) → (other : PlayEndData) → IsGame game
-        → IsTranscript game lines first end → IsTranscript game lines second other → (first ≡ second) × (end ≡ other) }
+        → IsTranscript game lines first end → IsTranscript game lines second other
+        → (first ≡ second) × (end ≡ other) }
 {}
 
-/// Best requests and best answers end a play after exactly as many answers as the value, if that
-/// is finite.
+/// Best requests and best answers end a play after exactly as
+/// many answers as the value, if that is finite.
 pub fn best_play_ends_by_the_value()
-    ensures ends { (board : PlainBoard) → (configuration : List ℕ) → (number : ℕ) → IsConfiguration board configuration
+    ensures ends { (board : PlainBoard) → (configuration : List ℕ) → (number : ℕ)
+        → IsConfiguration board configuration
         → HasValue board configuration (Finite number) → EndsBestPlay board configuration number }
     ensures exactly { (board : PlainBoard) → (configuration : List ℕ) → (number : ℕ) → (other : ℕ)
-        → HasValue board configuration (Finite number) → EndsBestPlay board configuration other → other ≡ number }
+        → HasValue board configuration (Finite number) → EndsBestPlay board configuration other
+        → other ≡ number }
 {}
 
 /// The most lines that a play reads, 1,000,000, and the most bytes of a line before its line feed,

@@ -36,7 +36,8 @@ impl LineMeaning {
 }
 /// The number that the whole of `line` spells, if it spells one below 2^32.
 fn whole_number(line: &[u8]) -> Option<u32>
-    ensures { MatchOption result ((number : ℕ) → number < 2 ^ 32 → line.now ≢ decimal number) (λ number. line.now ≡ decimal number) }
+    ensures { MatchOption result ((number : ℕ) → number < 2 ^ 32 → line.now ≢ decimal number)
+        (λ number. line.now ≡ decimal number) }
 {
     let mut text = LineReader::new(line);
     let number = text.number(0, u32::MAX)?;

@@ -1,6 +1,7 @@
 //! The lines of a reader, one by one.
 
-ghost use Rattle.std.specs.Prelude.{◌≡◌, ◌≢◌, ◌+◌, ◌≤◌, ◌<◌, ◌↔◌, [], length, take, drop, slice_index, true, false, Err, IfOk, IfErr};
+ghost use Rattle.std.specs.Prelude.{◌≡◌, ◌≢◌, ◌+◌, ◌≤◌, ◌<◌, ◌↔◌, [], length, take, drop};
+ghost use Rattle.std.specs.Prelude.{slice_index, true, false, Err, IfOk, IfErr};
 ghost use Rattle.std.specs.Prelude.{OnOk, OnErr, MatchOption};
 ghost use Rattle.std.specs.Io.KnownBytes.{Keeps};
 ghost use Rattle.player.specs.Words.{HasNoFeed};
@@ -36,7 +37,8 @@ impl Model for Lines {
 
     ghost Value = { Unread };
 
-    ghost view = { λ s. record { bytes = drop s.from (take s.to s.buffer); has_ended = s.has_ended } };
+    ghost view = { λ s.
+        record { bytes = drop s.from (take s.to s.buffer); has_ended = s.has_ended } };
 
     ghost invariant = { λ s. IsPart s.from s.to (length s.buffer) };
 }
@@ -63,10 +65,12 @@ impl Lines {
         requires ready { R.has_failed reader.old ≡ false }
         requires ended { R.has_ended reader.old ≡ self.old.has_ended }
         requires end { IsEmptyAtEnd self.old (R.remaining reader.old) }
-        ensures line { IfOk result (GivesLine self.old self.new (R.remaining reader.old) (R.remaining reader.new)) }
+        ensures line { IfOk result (GivesLine self.old self.new (R.remaining reader.old)
+            (R.remaining reader.new)) }
         ensures unfailed { OnOk result (R.has_failed reader.new ≡ false) }
         ensures ended { OnOk result (R.has_ended reader.new ≡ self.new.has_ended) }
-        ensures fault { IfErr result (GivesNoLine self.old (R.remaining reader.old) (R.remaining reader.new)) }
+        ensures fault { IfErr result (GivesNoLine self.old (R.remaining reader.old)
+            (R.remaining reader.new)) }
         ensures read { (R.has_failed reader.new ≡ true) ↔ (result ≡ Err Read) }
     {
         if self.has_ended {
@@ -105,11 +109,13 @@ impl Lines {
         meaning
     }
 
-    /// Takes the remaining bytes as the last line; returns its meaning, or `None` if there are none.
+    /// Takes the remaining bytes as the last line;
+    /// returns its meaning, or `None` if there are none.
     fn take_last(&mut self) -> Option<LineMeaning>
         ensures nothing_left { self.new.bytes ≡ [] }
         ensures same { self.new.has_ended ≡ self.old.has_ended }
-        ensures meaning { MatchOption result (self.old.bytes ≡ []) (λ meaning. Spells self.old.bytes meaning × (self.old.bytes ≢ [])) }
+        ensures meaning { MatchOption result (self.old.bytes ≡ [])
+            (λ meaning. Spells self.old.bytes meaning × (self.old.bytes ≢ [])) }
     {
         if self.unread().is_empty() {
             return None;
@@ -125,7 +131,8 @@ impl Lines {
         requires goes_on { self.old.has_ended ≡ false }
         requires unfailed { R.has_failed reader.old ≡ false }
         requires unended { R.has_ended reader.old ≡ false }
-        ensures filled { IfOk result (IsFilled self.old self.new (R.remaining reader.old) (R.remaining reader.new)) }
+        ensures filled { IfOk result (IsFilled self.old self.new (R.remaining reader.old)
+            (R.remaining reader.new)) }
         ensures unfailed { OnOk result (R.has_failed reader.new ≡ false) }
         ensures ended { OnOk result (R.has_ended reader.new ≡ self.new.has_ended) }
         ensures kept { OnErr result (Keeps (R.remaining reader.old) (R.remaining reader.new)) }

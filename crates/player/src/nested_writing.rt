@@ -43,7 +43,8 @@ pub(crate) fn write_nested_reply(
 /// Appends the `words` of the pebbles.
 fn write_words(text: &mut String, levels: u8, words: &[u64]) -> Result<(), AllocError>
     requires { InRange 1 MAX_LEVELS levels }
-    ensures { OnOk result (string_bytes text.new ≡ string_bytes text.old ++ words_line levels words.now) }
+    ensures { OnOk result (string_bytes text.new ≡ string_bytes text.old
+        ++ words_line levels words.now) }
 {
     text.push_str("at")?;
     for word in words {
@@ -67,7 +68,8 @@ fn write_word(text: &mut String, levels: u8, word: u64) -> Result<(), AllocError
 /// Appends the word of `count` ternary digits that has the number `number`.
 fn write_digits(text: &mut String, count: u8, number: u64) -> Result<(), AllocError>
     requires { count ≤ 23 }
-    ensures { OnOk result (string_bytes text.new ≡ string_bytes text.old ++ flat_map decimal (word_of count number)) }
+    ensures { OnOk result (string_bytes text.new ≡ string_bytes text.old
+        ++ flat_map decimal (word_of count number)) }
 {
     if count == 0 {
         return Ok(());

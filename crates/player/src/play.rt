@@ -1,6 +1,7 @@
 //! The loop of every play: it reads a line, answers it, and writes the answer.
 
-ghost use Rattle.std.specs.Prelude.{◌≡◌, ◌↔◌, ◌+◌, ◌≤◌, ◌<◌, ◌^◌, ℕ, List, [], true, false, Err, IfOk, IfErr, OnOk, OnErr, string_bytes};
+ghost use Rattle.std.specs.Prelude.{◌≡◌, ◌↔◌, ◌+◌, ◌≤◌, ◌<◌, ◌^◌, ℕ, List, [], true, false, Err};
+ghost use Rattle.std.specs.Prelude.{IfOk, IfErr, OnOk, OnErr, string_bytes};
 ghost use Rattle.std.specs.Io.KnownBytes.{Appends};
 ghost use Rattle.board_text.specs.Streams.{AppendsPrefix};
 ghost use Rattle.player.specs.Transcript.{Game, Standing, Going, AreResponses, stopped_line};
@@ -81,9 +82,12 @@ pub(crate) fn play_on<P: Play, R: Source, W: Sink, E: Sink>(
     requires reader_unended { R.has_ended reader.old ≡ false }
     requires writer_ready { W.has_failed writer.old ≡ false }
     ensures ok { IfOk result (HasEnded (AreResponses (P.game play.old) (Going (P.at play.old) 0))
-        (R.remaining reader.old) (R.remaining reader.new) (W.contents writer.old) (W.contents writer.new)) }
-    ensures fault { IfErr result (BreaksOff (AreResponses (P.game play.old) (Going (P.at play.old) 0))
-        (R.remaining reader.old) (R.remaining reader.new) (W.contents writer.old) (W.contents writer.new)) }
+        (R.remaining reader.old) (R.remaining reader.new) (W.contents writer.old)
+        (W.contents writer.new)) }
+    ensures fault { IfErr result (BreaksOff
+        (AreResponses (P.game play.old) (Going (P.at play.old) 0))
+        (R.remaining reader.old) (R.remaining reader.new) (W.contents writer.old)
+        (W.contents writer.new)) }
     ensures streams { TellsBothStreams result (R.has_failed reader.new) (W.has_failed writer.new) }
     ensures told { (told : List ℕ)
         × IsToldIn (BringsAndTells shows (P.game play.old) (Going (P.at play.old) 0))
@@ -126,7 +130,8 @@ fn answer_line<P: Play, W: Sink>(
         (Going (P.at play.old) (P.requests play.old)) meaning said
         (standing_of end (P.at play.new) (P.requests play.new)))) }
     ensures fault { IfErr result (FailsToWrite (W.contents writer.old) (W.contents writer.new)
-        (λ said. (to : Standing) × IsResponseToMeaning (P.game play.old) (Going (P.at play.old) (P.requests play.old)) meaning said to)) }
+        (λ said. (to : Standing) × IsResponseToMeaning (P.game play.old)
+        (Going (P.at play.old) (P.requests play.old)) meaning said to)) }
     ensures write { (W.has_failed writer.new ≡ true) ↔ (result ≡ Err Write) }
 {
     let Ok(end) = play.reply(meaning, text) else {
@@ -145,7 +150,8 @@ fn end_play<P: Play, W: Sink>(
     requires empty { string_bytes text.old ≡ [] }
     requires ready { W.has_failed writer.old ≡ false }
     ensures end { IfOk result (λ end. end ≡ Stopped (P.requests play.now)) }
-    ensures written { OnOk result (Appends (W.contents writer.old) (W.contents writer.new) (stopped_line (P.requests play.now))) }
+    ensures written { OnOk result (Appends (W.contents writer.old) (W.contents writer.new)
+        (stopped_line (P.requests play.now))) }
     ensures fault { IfErr result (FailsToWrite (W.contents writer.old) (W.contents writer.new)
         (λ said. said ≡ stopped_line (P.requests play.now))) }
     ensures write { (W.has_failed writer.new ≡ true) ↔ (result ≡ Err Write) }
@@ -159,10 +165,12 @@ fn end_play<P: Play, W: Sink>(
 /// Writes `text` to `writer`, and empties it.
 pub(crate) fn flush<W: Sink>(text: &mut String, writer: &mut W) -> Result<(), PlayFault>
     requires { W.has_failed writer.old ≡ false }
-    ensures written { OnOk result (Appends (W.contents writer.old) (W.contents writer.new) (string_bytes text.old)) }
+    ensures written { OnOk result (Appends (W.contents writer.old) (W.contents writer.new)
+        (string_bytes text.old)) }
     ensures unfailed { OnOk result (W.has_failed writer.new ≡ false) }
     ensures empty { OnOk result (string_bytes text.new ≡ []) }
-    ensures front { OnErr result (AppendsPrefix (W.contents writer.old) (W.contents writer.new) (string_bytes text.old)) }
+    ensures front { OnErr result (AppendsPrefix (W.contents writer.old) (W.contents writer.new)
+        (string_bytes text.old)) }
     ensures fault { IfErr result (λ fault. (fault ≡ Write) × (W.has_failed writer.new ≡ true)) }
 {
     match write_all(writer, text.as_bytes()) {

@@ -2,7 +2,8 @@
 
 ghost use Rattle.std.specs.Prelude.{◌≡◌, ◌++◌, None, Some, IfOk, OnOk, string_bytes};
 ghost use Rattle.std.specs.Fmt.{decimal};
-ghost use Rattle.player.specs.Transcript.{at_line, no_request_line, opening_lines, stopped_line, stuck_line, takes_line};
+ghost use Rattle.player.specs.Transcript.{at_line, no_request_line, opening_lines, stopped_line};
+ghost use Rattle.player.specs.Transcript.{stuck_line, takes_line};
 ghost use Rattle.player.specs.declared.end.PlayEnd.TheVariants.{Stopped};
 
 use crate::end::PlayEnd;
@@ -28,7 +29,8 @@ pub(crate) fn write_opening(
 
 /// Appends the places `held` of the pebbles.
 pub(crate) fn write_at(text: &mut String, board: &Board, held: &[u16]) -> Result<(), AllocError>
-    ensures { OnOk result (string_bytes text.new ≡ string_bytes text.old ++ at_line board.now held.now) }
+    ensures { OnOk result (string_bytes text.new ≡ string_bytes text.old
+        ++ at_line board.now held.now) }
 {
     text.push_str("at")?;
     write_places(text, board.labels(), held)?;
@@ -52,7 +54,8 @@ pub(crate) fn write_reply(
 
 /// Appends that no label is legal for `pebble`, after `requests` answered requests.
 pub(crate) fn write_stuck(text: &mut String, pebble: u8, requests: u32) -> Result<(), AllocError>
-    ensures { OnOk result (string_bytes text.new ≡ string_bytes text.old ++ stuck_line pebble requests) }
+    ensures { OnOk result (string_bytes text.new ≡ string_bytes text.old
+        ++ stuck_line pebble requests) }
 {
     write!(
         text,
@@ -78,7 +81,8 @@ pub(crate) fn end_stopped(text: &mut String, requests: u32) -> Result<Option<Pla
 
 /// Appends the reply to a line that is no request; the play goes on.
 pub(crate) fn say_no_request(text: &mut String) -> Result<Option<PlayEnd>, AllocError>
-    ensures { IfOk result (λ end. (end ≡ None) × (string_bytes text.new ≡ string_bytes text.old ++ no_request_line)) }
+    ensures { IfOk result (λ end. (end ≡ None)
+        × (string_bytes text.new ≡ string_bytes text.old ++ no_request_line)) }
 {
     text.push_str("not a request\n")?;
     Ok(None)

@@ -1,5 +1,6 @@
 -- The answers of a gap as bits: the labels that beat the label of each other pebble that holds one.
-use Rattle.std.proofs.Common.{◌≡◌, ℕ, ◌+◌, ◌-◌, ◌/◌, ◌%◌, ◌^◌, ◌<◌, ◌≤◌, ◌↔◌, true, List, Option, length, get_or, take, sym, ap, ◌∙◌, subst, arith}
+use Rattle.std.proofs.Common.{◌≡◌, ℕ, ◌+◌, ◌-◌, ◌/◌, ◌%◌, ◌^◌, ◌<◌, ◌≤◌, ◌↔◌, true, List, Option, length, get_or, take}
+use Rattle.std.proofs.Common.{sym, ap, ◌∙◌, subst, arith}
 use Rattle.std.specs.List.{All}
 use Rattle.std.proofs.lemmas.List.{take_all, take-take, length-take-le, get_or-take}
 use Rattle.std.proofs.lemmas.List.Elements.{All-more, All-take, All-get_or}
@@ -18,19 +19,24 @@ use Rattle.positions.proofs.GapLaws.{others_of_gap, answer_beats_others}
 -- the bits of the labels that beat those of the first other pebbles, and the rest of the gap
 pub record IsNarrowed (board : PlainBoard) (gap place rest : ℕ) (words : List ℕ) : Type 0 where
   pub rest_is : IsRest (places board) (board.pebbles - 1) (others_of board gap) place rest
-  pub bits : (x : ℕ) → x < MAX_LABELS → (has_bit words x ≡ true) ↔ ((x < board.labels) × All (BeatsPlace board x) (take place (others_of board gap)))
+  pub bits : (x : ℕ) → x < MAX_LABELS
+      → (has_bit words x ≡ true) ↔ ((x < board.labels) × All (BeatsPlace board x) (take place (others_of board gap)))
 
 -- the label of the next other pebble, by its weight
-pub next_other : (board : PlainBoard) (gap place rest weight : ℕ) → IsBoard board → gap < gaps board → place < board.pebbles - 1 → weight ≡ weight_of board (place + 1)
+pub next_other : (board : PlainBoard) (gap place rest weight : ℕ) → IsBoard board → gap < gaps board
+    → place < board.pebbles - 1 → weight ≡ weight_of board (place + 1)
     → IsRest (places board) (board.pebbles - 1) (others_of board gap) place rest
     → IsNextRest (places board) (board.pebbles - 1) (others_of board gap) place (rest / weight) (rest % weight)
 next_other board gap place rest weight is below inside weighs read =
     let left : board.pebbles - 1 - (place + 1) ≡ board.pebbles - 1 - 1 - place = omega arith in
-    rest_next (places board) (board.pebbles - 1) (others_of board gap) place rest weight (some_places board is) (others_of_gap board gap below).size inside
+    rest_next (places board) (board.pebbles - 1) (others_of board gap) place rest weight (some_places board is)
+    (others_of_gap board gap below).size inside
     (weighs ∙ ap (λ n. places board ^ n) left) read
 
-pub narrowed_more : (board : PlainBoard) (gap place rest label next : ℕ) (words row new : List ℕ) → gap < gaps board → place < board.pebbles - 1 → label < board.labels
-    → IsNarrowed board gap place rest words → IsNextRest (places board) (board.pebbles - 1) (others_of board gap) place label next
+pub narrowed_more : (board : PlainBoard) (gap place rest label next : ℕ) (words row new : List ℕ) → gap < gaps board
+    → place < board.pebbles - 1 → label < board.labels
+    → IsNarrowed board gap place rest words
+    → IsNextRest (places board) (board.pebbles - 1) (others_of board gap) place label next
     → ((x : ℕ) → x < MAX_LABELS → (has_bit row x ≡ true) ↔ Beats board x label)
     → ((x : ℕ) → x < MAX_LABELS → (has_bit new x ≡ true) ↔ ((has_bit words x ≡ true) × (has_bit row x ≡ true)))
     → IsNarrowed board gap (place + 1) next new
@@ -42,38 +48,60 @@ narrowed_more board gap place rest label next words row new below inside is_labe
       bits = λ x small. (
         λ set.
             let each = (both x small).0 set in
-            let before = (narrowed.bits x small).0 each.0 in
-            (before.0, All-more (BeatsPlace board x) others place 0 within before.1 (subst (BeatsPlace board x) is.digit_is (λ _. (beaten x small).0 each.1))),
+            let before = (narrowed.bits x small).0 each.0 in (
+              before.0,
+              All-more (BeatsPlace board x) others place 0 within before.1
+                  (subst (BeatsPlace board x) is.digit_is (λ _. (beaten x small).0 each.1)),
+            ),
         λ is_one.
-            let front : take place (take (place + 1) others) ≡ take place others = take-take place (place + 1) others (omega arith) in
-            let longer : length (take (place + 1) others) ≡ place + 1 = length-take-le (place + 1) others (omega arith) in
-            let before : All (BeatsPlace board x) (take place others) = subst (All (BeatsPlace board x)) front (All-take (BeatsPlace board x) place (take (place + 1) others) is_one.1) in
+            let front : take place (take (place + 1) others) ≡ take place others =
+            take-take place (place + 1) others (omega arith) in
+            let longer : length (take (place + 1) others) ≡ place + 1 =
+            length-take-le (place + 1) others (omega arith) in
+            let before : All (BeatsPlace board x) (take place others) =
+            subst (All (BeatsPlace board x)) front
+            (All-take (BeatsPlace board x) place (take (place + 1) others) is_one.1) in
             let last : BeatsPlace board x (get_or others place 0) =
-            subst (BeatsPlace board x) (get_or-take (place + 1) others place 0 (omega arith)) (All-get_or (BeatsPlace board x) (take (place + 1) others) place 0 (omega arith) is_one.1) in
-            (both x small).1 ((narrowed.bits x small).1 (is_one.0, before), (beaten x small).1 (subst (BeatsPlace board x) (sym is.digit_is) last is_label)),
+            subst (BeatsPlace board x) (get_or-take (place + 1) others place 0 (omega arith))
+            (All-get_or (BeatsPlace board x) (take (place + 1) others) place 0 (omega arith) is_one.1) in
+            (both x small).1 (
+              (narrowed.bits x small).1 (is_one.0, before),
+              (beaten x small).1 (subst (BeatsPlace board x) (sym is.digit_is) last is_label),
+            ),
       );
     }
 
 -- a place that holds no label leaves the bits as they are
-pub narrowed_blank : (board : PlainBoard) (gap place rest label next : ℕ) (words : List ℕ) → gap < gaps board → place < board.pebbles - 1 → board.labels ≤ label
-    → IsNarrowed board gap place rest words → IsNextRest (places board) (board.pebbles - 1) (others_of board gap) place label next
+pub narrowed_blank : (board : PlainBoard) (gap place rest label next : ℕ) (words : List ℕ) → gap < gaps board
+    → place < board.pebbles - 1 → board.labels ≤ label
+    → IsNarrowed board gap place rest words
+    → IsNextRest (places board) (board.pebbles - 1) (others_of board gap) place label next
     → IsNarrowed board gap (place + 1) next words
 narrowed_blank board gap place rest label next words below inside blank narrowed is =
     let others : List ℕ = others_of board gap in
     let long : length others ≡ board.pebbles - 1 = (others_of_gap board gap below).size in
-    let front : take place (take (place + 1) others) ≡ take place others = take-take place (place + 1) others (omega arith) in
+    let front : take place (take (place + 1) others) ≡ take place others =
+    take-take place (place + 1) others (omega arith) in
     record {
       rest_is = is.rest_is;
       bits = λ x small. (
         λ set.
-            let before = (narrowed.bits x small).0 set in
-            (before.0, All-more (BeatsPlace board x) others place 0 (omega arith) before.1 (subst (BeatsPlace board x) is.digit_is (λ held. absurd (omega arith)))),
-        λ is_one. (narrowed.bits x small).1 (is_one.0, subst (All (BeatsPlace board x)) front (All-take (BeatsPlace board x) place (take (place + 1) others) is_one.1)),
+            let before = (narrowed.bits x small).0 set in (
+              before.0,
+              All-more (BeatsPlace board x) others place 0 (omega arith) before.1
+                  (subst (BeatsPlace board x) is.digit_is (λ held. absurd (omega arith))),
+            ),
+        λ is_one. (narrowed.bits x small).1 (
+          is_one.0,
+          subst (All (BeatsPlace board x)) front
+              (All-take (BeatsPlace board x) place (take (place + 1) others) is_one.1),
+        ),
       );
     }
 
 -- after all other pebbles the bits are the gap's answers
-pub answer_bits : (board : PlainBoard) (gap place rest : ℕ) (words : List ℕ) → gap < gaps board → board.pebbles - 1 ≤ place → IsNarrowed board gap place rest words
+pub answer_bits : (board : PlainBoard) (gap place rest : ℕ) (words : List ℕ) → gap < gaps board
+    → board.pebbles - 1 ≤ place → IsNarrowed board gap place rest words
     → (x : ℕ) → x < MAX_LABELS → (has_bit words x ≡ true) ↔ IsAnswer board gap x
 answer_bits board gap place rest words below all narrowed x small =
     let others : List ℕ = others_of board gap in
@@ -81,7 +109,8 @@ answer_bits board gap place rest words below all narrowed x small =
     let whole : take place others ≡ others = take_all place others (omega arith) in
     let answer = answer_beats_others board gap x below in (
       λ set. let is = (narrowed.bits x small).0 set in answer.1 (is.0, subst (All (BeatsPlace board x)) whole is.1),
-      λ is. let each = answer.0 is in (narrowed.bits x small).1 (each.0, subst (All (BeatsPlace board x)) (sym whole) each.1),
+      λ is. let each = answer.0 is in
+          (narrowed.bits x small).1 (each.0, subst (All (BeatsPlace board x)) (sym whole) each.1),
     )
 
 -- if bits show a fact, the smallest bit from a bound on is the smallest number from there on for which it holds

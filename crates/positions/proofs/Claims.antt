@@ -21,14 +21,17 @@ at_least : (board : PlainBoard) (number : ℕ) → LabellerTree board number boa
 at_least board number lasts Forever has = inl has
 at_least board number lasts (Finite depth) has =
     elim (cases_lt depth number) [
-      | inl less ↦ absurd (not_both_trees board (suc depth) board.start (lasts_at_most board board.start (suc depth) number (omega arith) lasts) has.1)
+      | inl less ↦ absurd (not_both_trees board (suc depth) board.start
+          (lasts_at_most board board.start (suc depth) number (omega arith) lasts) has.1)
       | inr enough ↦ inr (depth, enough, has)
     ]
 
 pub claim_holds : (board : PlainBoard) (labeller : List AnswerRow) (adversary : List RequestRow) (claim : Claim)
     → IsConfiguration board board.start → Shows board labeller adversary claim → Holds board claim
-claim_holds board labeller adversary (claims.Exactly number) is shows =
-    (tree_from_answers board labeller number board.start shows.0, tree_from_stops board adversary number board.start shows.1)
+claim_holds board labeller adversary (claims.Exactly number) is shows = (
+  tree_from_answers board labeller number board.start shows.0,
+  tree_from_stops board adversary number board.start shows.1,
+)
 claim_holds board labeller adversary (claims.AtLeast number) is shows =
     let value = some_value board board.start is in
     at_least board number (tree_from_answers board labeller number board.start shows) value.0 value.1

@@ -1,5 +1,6 @@
 -- The digits of a number, taken one after the other from the first.
-use Rattle.std.proofs.Common.{◌≡◌, ℕ, suc, ◌+◌, ◌-◌, ◌/◌, ◌%◌, ◌^◌, ◌<◌, ◌≤◌, List, ◌∷◌, length, get_or, drop, sym, ap, ◌∙◌, subst, arith, mod-lt}
+use Rattle.std.proofs.Common.{◌≡◌, ℕ, suc, ◌+◌, ◌-◌, ◌/◌, ◌%◌, ◌^◌, ◌<◌, ◌≤◌, List, ◌∷◌, length, get_or, drop, sym, ap}
+use Rattle.std.proofs.Common.{◌∙◌, subst, arith, mod-lt}
 use Rattle.std.proofs.Math.Nat.{one-le-pow}
 use Rattle.std.proofs.Math.Seq.{drop-cons}
 use Rattle.std.proofs.lemmas.List.Elements.{All-get_or}
@@ -21,7 +22,8 @@ pub record IsNextRest (base count : ℕ) (digits : List ℕ) (place digit rest :
   pub low : digit < base
   pub rest_is : IsRest base count digits (place + 1) rest
 
-pub rest_next : (base count : ℕ) (digits : List ℕ) (place rest weight : ℕ) → 1 ≤ base → length digits ≡ count → place < count → weight ≡ base ^ (count - 1 - place)
+pub rest_next : (base count : ℕ) (digits : List ℕ) (place rest weight : ℕ) → 1 ≤ base → length digits ≡ count
+    → place < count → weight ≡ base ^ (count - 1 - place)
     → IsRest base count digits place rest → IsNextRest base count digits place (rest / weight) (rest % weight)
 rest_next base count digits place rest weight some size inside weight_is are =
     let left : ℕ = count - 1 - place in
@@ -37,7 +39,8 @@ rest_next base count digits place rest weight some size inside weight_is are =
     let low : rest < base ^ suc left = subst (λ n. rest < base ^ n) one_more are.below in
     subst (λ w. IsNextRest base count digits place (rest / w) (rest % w)) (sym weight_is) (record {
       digit_is = first;
-      low = All-get_or (λ digit. digit < base) (digits_of base (suc left) rest) 0 0 (omega arith) (digits_below base (suc left) rest low);
+      low = All-get_or (λ digit. digit < base) (digits_of base (suc left) rest) 0 0 (omega arith)
+          (digits_below base (suc left) rest low);
       rest_is = record {
         below = subst (λ n. rest % power < base ^ n) one_less (mod-lt rest (one-le-pow left base some));
         same = ap (λ n. digits_of base n (rest % power)) (sym one_less) ∙ others ∙ ap (λ n. drop n digits) next;

@@ -1,5 +1,6 @@
 -- A walk over labels, word by word.
-use Rattle.std.proofs.Common.{◌≡◌, ℕ, ◌+◌, ◌-◌, ◌*◌, ◌/◌, ◌%◌, ◌^◌, ◌<◌, ◌≤◌, ◌⊎◌, inl, inr, nat_eq, bit_and, bit_or, true, List, length, get_or, set}
+use Rattle.std.proofs.Common.{◌≡◌, ℕ, ◌+◌, ◌-◌, ◌*◌, ◌/◌, ◌%◌, ◌^◌, ◌<◌, ◌≤◌, ◌⊎◌, inl, inr, nat_eq, bit_and, bit_or}
+use Rattle.std.proofs.Common.{true, List, length, get_or, set}
 use Rattle.std.proofs.Common.{sym, ap, subst, ◌∙◌, arith}
 use Rattle.std.specs.Int.{bit_at, w64, trailing_zeros}
 use Rattle.std.proofs.Math.ListN.{length-set}
@@ -48,9 +49,11 @@ moves_on words place behind more come =
       sized = length-set words place 0 ∙ size;
       inside = more;
       none = λ label low bit.
-          none_empty (set words place 0) place zero (λ x _ before there. come.none x before there) label (omega arith) low
+          none_empty (set words place 0) place zero (λ x _ before there. come.none x before there) label
+          (omega arith) low
           (subst (λ (ws : List ℕ). has_bit ws label ≡ true) view bit);
-      empty = λ nothing later after few. get_or-set_other words place later 0 0 (λ same. omega arith) ∙ come.empty nothing later (omega arith) few;
+      empty = λ nothing later after few. get_or-set_other words place later 0 0 (λ same. omega arith)
+          ∙ come.empty nothing later (omega arith) few;
     }
 
 -- after the last word that may have a label, none is left
@@ -75,28 +78,37 @@ none_behind words place behind come last label small bit = elim (cases_lt label 
 ]
 
 -- the lowest bit of the word is taken out
-pub takes_lowest : (words : List ℕ) (place word behind from : ℕ) → 0 < word → word < 2 ^ 64 → IsAtWord words place word behind
+pub takes_lowest : (words : List ℕ) (place word behind from : ℕ) → 0 < word → word < 2 ^ 64
+    → IsAtWord words place word behind
     → TakesSmallest (record { left = set words place word; from = from })
-    (record { left = set words place (bit_and word (word - 1)); from = 64 * place + trailing_zeros w64 word + 1 }) (64 * place + trailing_zeros w64 word)
+    (record { left = set words place (bit_and word (word - 1)); from = 64 * place + trailing_zeros w64 word + 1 })
+    (64 * place + trailing_zeros w64 word)
 takes_lowest words place word behind from some fits come =
     let size = come.sized in
     let inside = come.inside in
     let here : get_or (set words place word) place 0 ≡ word = get_or-set_same words place word 0 (omega arith) in
     let label : ℕ = 64 * place + trailing_zeros w64 word in
-    let step = step_is (set words place word) place label from (length-set words place word ∙ size) inside (omega (arith, here, some))
-    (omega (arith, here, fits)) (λ x _ before there. come.none x before there) (ap (λ (w : ℕ). 64 * place + trailing_zeros w64 w) (sym here)) in
-    let new : set (set words place word) place (bit_and (get_or (set words place word) place 0) (get_or (set words place word) place 0 - 1))
+    let step = step_is (set words place word) place label from (length-set words place word ∙ size) inside
+    (omega (arith, here, some))
+    (omega (arith, here, fits)) (λ x _ before there. come.none x before there)
+    (ap (λ (w : ℕ). 64 * place + trailing_zeros w64 w) (sym here)) in
+    let new : set (set words place word) place
+    (bit_and (get_or (set words place word) place 0) (get_or (set words place word) place 0 - 1))
     ≡ set words place (bit_and word (word - 1)) =
-    ap (λ (w : ℕ). set (set words place word) place (bit_and w (w - 1))) here ∙ set-set words place word (bit_and word (word - 1)) in
-    subst (λ (ws : List ℕ). TakesSmallest (record { left = set words place word; from = from }) (record { left = ws; from = label + 1 }) label) new step
+    ap (λ (w : ℕ). set (set words place word) place (bit_and w (w - 1))) here
+    ∙ set-set words place word (bit_and word (word - 1)) in
+    subst (λ (ws : List ℕ). TakesSmallest (record { left = set words place word; from = from })
+    (record { left = ws; from = label + 1 }) label) new step
 
-pub still_come : (words : List ℕ) (place word behind from : ℕ) → 0 < word → word < 2 ^ 64 → IsAtWord words place word behind
+pub still_come : (words : List ℕ) (place word behind from : ℕ) → 0 < word → word < 2 ^ 64
+    → IsAtWord words place word behind
     → IsAtWord words place (bit_and word (word - 1)) behind
 still_come words place word behind from some fits come = record {
   sized = come.sized;
   inside = come.inside;
   none = λ label low bit.
       let inside = come.inside in
-      come.none label low (((takes_lowest words place word behind from some fits come).left label (omega arith)).0 bit).0;
+      come.none label low (((takes_lowest words place word behind from some fits come).left label
+      (omega arith)).0 bit).0;
   empty = come.empty;
 }

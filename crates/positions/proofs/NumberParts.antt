@@ -1,5 +1,6 @@
 -- A list of labels as a number: the part before a place, the label there, and the part after it.
-use Rattle.std.proofs.Common.{◌≡◌, ℕ, suc, ◌+◌, ◌-◌, ◌*◌, ◌/◌, ◌%◌, ◌^◌, ◌<◌, ◌≤◌, List, ◌∷◌, ◌++◌, length, get_or, take, drop, set, sym, ap, ◌∙◌, subst, arith}
+use Rattle.std.proofs.Common.{◌≡◌, ℕ, suc, ◌+◌, ◌-◌, ◌*◌, ◌/◌, ◌%◌, ◌^◌, ◌<◌, ◌≤◌, List, ◌∷◌, ◌++◌, length, get_or}
+use Rattle.std.proofs.Common.{take, drop, set, sym, ap, ◌∙◌, subst, arith}
 use Rattle.std.proofs.Math.Seq.{drop-cons}
 use Rattle.std.proofs.lemmas.Nat.{div-mul-add, mod-mul-add}
 use Rattle.std.specs.List.{All, remove, insert}
@@ -18,25 +19,29 @@ pub record Parts (base : ℕ) (labels : List ℕ) (place weight : ℕ) : Type 0 
   pub low : get_or labels place 0 < base
   pub small : behind < weight
 
-pub parts_at : (base : ℕ) (labels : List ℕ) (place count : ℕ) → All (λ label. label < base) labels → length labels ≡ count → place < count
+pub parts_at : (base : ℕ) (labels : List ℕ) (place count : ℕ) → All (λ label. label < base) labels
+    → length labels ≡ count → place < count
     → Parts base labels place (base ^ (count - 1 - place))
 parts_at base labels place count each size inside =
     let back : List ℕ = drop (suc place) labels in
     let front : List ℕ = take place labels in
     let within : place < length labels = omega arith in
     let short : length back ≡ count - 1 - place = omega (arith, length-drop (suc place) labels) in
-    let split : labels ≡ front ++ get_or labels place 0 ∷ back = sym (take-append-drop place labels) ∙ ap (λ (l : List ℕ). front ++ l) (drop-cons labels place 0 within) in
+    let split : labels ≡ front ++ get_or labels place 0 ∷ back =
+    sym (take-append-drop place labels) ∙ ap (λ (l : List ℕ). front ++ l) (drop-cons labels place 0 within) in
     let power : base ^ length back ≡ base ^ (count - 1 - place) = ap (λ (n : ℕ). base ^ n) short in
     record {
       before = number_of base front;
       behind = number_of base back;
       whole = ap (number_of base) split ∙ number_of-between base front (get_or labels place 0) back
           ∙ ap (λ (w : ℕ). (number_of base front * base + get_or labels place 0) * w + number_of base back) power;
-      changed = λ label. ap (number_of base) (set_split labels place label within) ∙ number_of-between base front label back
+      changed =
+          λ label. ap (number_of base) (set_split labels place label within) ∙ number_of-between base front label back
           ∙ ap (λ (w : ℕ). (number_of base front * base + label) * w + number_of base back) power;
       removed = number_of-append base front back ∙ ap (λ (w : ℕ). number_of base front * w + number_of base back) power;
       low = All-get_or (λ label. label < base) labels place 0 within each;
-      small = subst (λ (w : ℕ). number_of base back < w) power (number_below base back (All-drop (λ label. label < base) (suc place) labels each));
+      small = subst (λ (w : ℕ). number_of base back < w) power
+          (number_below base back (All-drop (λ label. label < base) (suc place) labels each));
     }
 
 -- the number of a list by a place between two of its labels: as it is, and with a label put there
@@ -47,7 +52,8 @@ pub record Room (base : ℕ) (labels : List ℕ) (place weight : ℕ) : Type 0 w
   pub filled : (label : ℕ) → number_of base (insert labels place label) ≡ (before * base + label) * weight + behind
   pub small : behind < weight
 
-pub room_at : (base : ℕ) (labels : List ℕ) (place count : ℕ) → All (λ label. label < base) labels → length labels ≡ count → place ≤ count
+pub room_at : (base : ℕ) (labels : List ℕ) (place count : ℕ) → All (λ label. label < base) labels
+    → length labels ≡ count → place ≤ count
     → Room base labels place (base ^ (count - place))
 room_at base labels place count each size inside =
     let back : List ℕ = drop place labels in
@@ -57,9 +63,12 @@ room_at base labels place count each size inside =
     record {
       before = number_of base front;
       behind = number_of base back;
-      whole = ap (number_of base) (sym (take-append-drop place labels)) ∙ number_of-append base front back ∙ ap (λ (w : ℕ). number_of base front * w + number_of base back) power;
-      filled = λ label. number_of-between base front label back ∙ ap (λ (w : ℕ). (number_of base front * base + label) * w + number_of base back) power;
-      small = subst (λ (w : ℕ). number_of base back < w) power (number_below base back (All-drop (λ label. label < base) place labels each));
+      whole = ap (number_of base) (sym (take-append-drop place labels)) ∙ number_of-append base front back
+          ∙ ap (λ (w : ℕ). number_of base front * w + number_of base back) power;
+      filled = λ label. number_of-between base front label back
+          ∙ ap (λ (w : ℕ). (number_of base front * base + label) * w + number_of base back) power;
+      small = subst (λ (w : ℕ). number_of base back < w) power
+          (number_below base back (All-drop (λ label. label < base) place labels each));
     }
 
 -- ---- the parts of a number

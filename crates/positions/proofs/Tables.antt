@@ -4,7 +4,8 @@ use Rattle.std.specs.List.{All}
 use Rattle.std.proofs.lemmas.List.Elements.{All-from_recursion, recursion_from_All}
 use Rattle.board_text.specs.PlainBoard.{PlainBoard}
 use Rattle.positions.specs.Game.{Legal, LabellerTree, AdversaryTree, moved}
-use Rattle.positions.specs.Table.{AnswerRow, RequestRow, AnswersLegally, AnswersAll, Answers, IsListed, IsClosed, Requests, StopsAfter}
+use Rattle.positions.specs.Table.{AnswerRow, RequestRow, AnswersLegally, AnswersAll, Answers, IsListed, IsClosed}
+use Rattle.positions.specs.Table.{Requests, StopsAfter}
 
 -- equal options hold equal things
 some_is : (a b : ℕ) → Some a ≡ Some b → a ≡ b
@@ -12,10 +13,13 @@ some_is a b same = cc
 
 -- after a request that a table answers, it answers one request less
 answers_after : (board : PlainBoard) (table : List AnswerRow) (most : ℕ) (configuration : List ℕ) (pebble label : ℕ)
-    → Answers board table (suc most) configuration → pebble < board.pebbles → AnswersLegally board table configuration pebble label
+    → Answers board table (suc most) configuration → pebble < board.pebbles
+    → AnswersLegally board table configuration pebble label
     → Answers board table most (moved configuration pebble label)
 answers_after board table most configuration pebble label answers below answer requests short pebbles =
-    let all : All (λ p. p < board.pebbles) (pebble ∷ requests) = All-from_recursion (λ p. p < board.pebbles) (pebble ∷ requests) (below, recursion_from_All (λ p. p < board.pebbles) requests pebbles) in
+    let all : All (λ p. p < board.pebbles) (pebble ∷ requests) =
+    All-from_recursion (λ p. p < board.pebbles) (pebble ∷ requests)
+    (below, recursion_from_All (λ p. p < board.pebbles) requests pebbles) in
     let play = answers (pebble ∷ requests) (omega arith) all in
     let same : play.0 ≡ label = some_is play.0 label (sym play.1.answer ∙ answer.answer) in
     subst (λ (l : ℕ). AnswersAll board table (moved configuration pebble l) requests) same play.2
@@ -25,7 +29,8 @@ pub tree_from_answers : (board : PlainBoard) (table : List AnswerRow) (most : �
     → Answers board table most configuration → LabellerTree board most configuration
 tree_from_answers board table zero configuration answers = tt
 tree_from_answers board table (suc most) configuration answers = λ pebble below.
-    let all : All (λ p. p < board.pebbles) (pebble ∷ []) = All-from_recursion (λ p. p < board.pebbles) (pebble ∷ []) (below, tt) in
+    let all : All (λ p. p < board.pebbles) (pebble ∷ []) =
+    All-from_recursion (λ p. p < board.pebbles) (pebble ∷ []) (below, tt) in
     let play = answers (pebble ∷ []) (omega arith) all in (
       play.0,
       play.1.legal,
@@ -43,7 +48,8 @@ tree_from_closed board table (suc depth) configuration closed listed = λ pebble
 
 -- after a legal answer a table that stops after some number stops after one less
 stops_after : (board : PlainBoard) (table : List RequestRow) (most : ℕ) (configuration : List ℕ) (pebble label : ℕ)
-    → StopsAfter board table (suc most) configuration → Requests board table configuration pebble → Legal board configuration pebble label
+    → StopsAfter board table (suc most) configuration → Requests board table configuration pebble
+    → Legal board configuration pebble label
     → StopsAfter board table most (moved configuration pebble label)
 stops_after board table most configuration pebble label stops requests legal labels to leads =
     let whole = stops (label ∷ labels) to (pebble, requests, legal, leads) in

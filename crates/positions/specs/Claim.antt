@@ -13,14 +13,16 @@ abbrev pub claim_of : Value → Claim
 claim_of (Finite number) = claims.Exactly number
 claim_of Forever = claims.Forever
 
--- the tables show the claim: the labeller's that a number of requests is answered, the adversary's
--- that no more are
+-- the tables show the claim: the labeller's that a number of requests
+-- is answered, the adversary's that no more are
 abbrev pub Shows : PlainBoard → List AnswerRow → List RequestRow → Claim → Type 0
 Shows board labeller adversary (claims.Exactly number) = Answers board labeller number board.start
     × StopsAfter board adversary number board.start
 Shows board labeller adversary (claims.AtLeast number) = Answers board labeller number board.start
-Shows board labeller adversary (claims.AtMost number) = StopsAfter board adversary number board.start
-Shows board labeller adversary claims.Forever = IsClosed board labeller × IsListed labeller board.start
+Shows board labeller adversary (claims.AtMost number) =
+    StopsAfter board adversary number board.start
+Shows board labeller adversary claims.Forever =
+    IsClosed board labeller × IsListed labeller board.start
 
 -- the claim holds of the start's value
 abbrev pub Holds : PlainBoard → Claim → Type 0

@@ -1,5 +1,6 @@
 -- Facts about numbers: the count and the smallest of the numbers that they hold of.
-use Rattle.std.specs.Prelude.{◌≡◌, ℕ, ◌<◌, ◌≤◌, ◌↔◌, List, length, Contains, AllPairs, Option, Some, None}
+use Rattle.std.specs.Prelude.{◌≡◌, ℕ, ◌<◌, ◌≤◌, ◌↔◌, List, length, Contains, AllPairs, Option, Some}
+use Rattle.std.specs.Prelude.{None}
 
 -- there are `size` numbers of which the fact holds
 pub record HasSize (P : ℕ → Type 0) (size : ℕ) : Type 0 where

@@ -13,10 +13,11 @@ gaps_each board = places board ^ (board.pebbles - 1)
 abbrev pub gaps : PlainBoard → ℕ
 gaps board = board.pebbles * gaps_each board
 
--- the gap of a pebble at a configuration: after the pebble, the other pebbles' places, in order,
--- read in base `places`
+-- the gap of a pebble at a configuration: after the pebble,
+-- the other pebbles' places, in order, read in base `places`
 abbrev pub gap_of : PlainBoard → List ℕ → ℕ → ℕ
-gap_of board configuration pebble = pebble * gaps_each board + number_of (places board) (remove configuration pebble)
+gap_of board configuration pebble =
+    pebble * gaps_each board + number_of (places board) (remove configuration pebble)
 
 -- the pebble of a gap
 abbrev pub pebble_of : PlainBoard → ℕ → ℕ

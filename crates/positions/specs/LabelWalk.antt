@@ -12,5 +12,6 @@ pub record Walk : Type 0 where
 -- the label was the smallest, and those after it are left
 pub record TakesSmallest (before after : Walk) (label : ℕ) : Type 0 where
   pub smallest : IsSmallest (λ x. (x < MAX_LABELS) × (has_bit before.left x ≡ true)) (Some label)
-  pub left : (x : ℕ) → x < MAX_LABELS → (has_bit after.left x ≡ true) ↔ ((has_bit before.left x ≡ true) × (label < x))
+  pub left : (x : ℕ) → x < MAX_LABELS
+      → (has_bit after.left x ≡ true) ↔ ((has_bit before.left x ≡ true) × (label < x))
   pub from : after.from ≡ label + 1

@@ -1,5 +1,6 @@
 -- Ranks: configurations as numbers.
-use Rattle.std.specs.Prelude.{◌≡◌, ℕ, zero, suc, ◌+◌, ◌*◌, ◌/◌, ◌%◌, ◌^◌, ◌<◌, List, [], ◌∷◌, length, take, slice_index}
+use Rattle.std.specs.Prelude.{◌≡◌, ℕ, zero, suc, ◌+◌, ◌*◌, ◌/◌, ◌%◌, ◌^◌, ◌<◌, List, [], ◌∷◌}
+use Rattle.std.specs.Prelude.{length, take, slice_index}
 use Rattle.board_text.specs.PlainBoard.{PlainBoard, places}
 
 -- the places read in a base, the first most significant
@@ -10,7 +11,8 @@ number_of base (place ∷ others) = place * base ^ length others + number_of bas
 -- `count` digits of a number in a base, the most significant first
 abbrev pub digits_of : ℕ → ℕ → ℕ → List ℕ
 digits_of base zero number = []
-digits_of base (suc count) number = number / base ^ count ∷ digits_of base count (number % base ^ count)
+digits_of base (suc count) number =
+    number / base ^ count ∷ digits_of base count (number % base ^ count)
 
 -- the number of configurations of a board
 abbrev pub configurations : PlainBoard → ℕ

@@ -100,7 +100,8 @@ impl LabelSet {
 
     /// The smallest label of the set that is at least `bound`, if there is one.
     pub(crate) fn first_from(&self, bound: u16) -> Option<u16>
-        ensures { IsSmallest (λ x. (bound ≤ x) × (x < MAX_LABELS) × (has_bit self.now x ≡ true)) result }
+        ensures { IsSmallest (λ x. (bound ≤ x) × (x < MAX_LABELS)
+            × (has_bit self.now x ≡ true)) result }
     {
         let bound = bound as usize;
         // Each word has its own step, so that the words can be kept in registers.

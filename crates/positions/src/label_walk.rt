@@ -50,7 +50,8 @@ impl LabelWalk {
 
     /// The next label, if one is left.
     pub fn take_next(&mut self) -> Option<u16>
-        ensures { MatchOption result ((label : ℕ) → label < MAX_LABELS → has_bit self.old.left label ≡ true → ⊥)
+        ensures { MatchOption result ((label : ℕ) → label < MAX_LABELS
+            → has_bit self.old.left label ≡ true → ⊥)
             (TakesSmallest self.old self.new) }
     {
         while self.word == 0 {

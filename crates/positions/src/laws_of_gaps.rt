@@ -8,25 +8,37 @@ ghost use Rattle.positions.specs.Gaps.{gaps, gap_of, pebble_of, member_of, IsAns
 ghost use Rattle.positions.specs.Tuples.{tuple_of};
 ghost use Rattle.positions.specs.Value.{HasValue};
 
-/// The gap of a pebble at a configuration is a gap of that pebble, and its members are the configurations
+/// The gap of a pebble at a configuration is a gap of that pebble, and its members are the
+/// configurations
 /// that differ in that pebble's label alone.
 pub fn gaps_of_configurations()
-    ensures is_gap { (board : PlainBoard) → (configuration : List ℕ) → (pebble : ℕ) → IsConfiguration board configuration
+    ensures is_gap { (board : PlainBoard) → (configuration : List ℕ) → (pebble : ℕ)
+        → IsConfiguration board configuration
         → pebble < board.pebbles
         → gap_of board configuration pebble < gaps board }
-    ensures pebble { (board : PlainBoard) → (configuration : List ℕ) → (pebble : ℕ) → IsConfiguration board configuration
+    ensures pebble { (board : PlainBoard) → (configuration : List ℕ) → (pebble : ℕ)
+        → IsConfiguration board configuration
         → pebble < board.pebbles
         → pebble_of board (gap_of board configuration pebble) ≡ pebble }
-    ensures members { (board : PlainBoard) → (configuration : List ℕ) → (pebble : ℕ) → (label : ℕ) → IsConfiguration board configuration
-        → pebble < board.pebbles → member_of board (gap_of board configuration pebble) label ≡ moved configuration pebble label }
-    ensures own_member { (board : PlainBoard) → (configuration : List ℕ) → (pebble : ℕ) → IsConfiguration board configuration
-        → pebble < board.pebbles → member_of board (gap_of board configuration pebble) (slice_index configuration pebble) ≡ configuration }
+    ensures members { (board : PlainBoard) → (configuration : List ℕ) → (pebble : ℕ) → (label : ℕ)
+        → IsConfiguration board configuration
+        → pebble < board.pebbles
+        → member_of board (gap_of board configuration pebble) label
+        ≡ moved configuration pebble label }
+    ensures own_member { (board : PlainBoard) → (configuration : List ℕ) → (pebble : ℕ)
+        → IsConfiguration board configuration
+        → pebble < board.pebbles
+        → member_of board (gap_of board configuration pebble) (slice_index configuration pebble)
+        ≡ configuration }
 {}
 
-/// A member of a gap is a configuration with the label in the place of the gap's pebble, and that pebble's gap there is the gap.
+/// A member of a gap is a configuration with the label in the place of the gap's pebble, and that
+/// pebble's gap there is the gap.
 pub fn members_of_gaps()
-    ensures is_pebble { (board : PlainBoard) → (gap : ℕ) → gap < gaps board → pebble_of board gap < board.pebbles }
-    ensures is_configuration { (board : PlainBoard) → (gap : ℕ) → (label : ℕ) → gap < gaps board → label < places board
+    ensures is_pebble { (board : PlainBoard) → (gap : ℕ) → gap < gaps board
+        → pebble_of board gap < board.pebbles }
+    ensures is_configuration { (board : PlainBoard) → (gap : ℕ) → (label : ℕ) → gap < gaps board
+        → label < places board
         → IsConfiguration board (member_of board gap label) }
     ensures label { (board : PlainBoard) → (gap : ℕ) → (label : ℕ) → gap < gaps board
         → slice_index (member_of board gap label) (pebble_of board gap) ≡ label }
@@ -35,16 +47,23 @@ pub fn members_of_gaps()
 {}
 
 /// A label is legal at a configuration exactly if it is an answer of the gap there, and a pebble
-/// dominates exactly if its own label is one. No configuration is the result of answers in two
-/// gaps.
+/// dominates exactly if its own label is one.
+/// No configuration is the result of answers in two gaps.
 pub fn answers_of_gaps()
-    ensures legal { (board : PlainBoard) → (configuration : List ℕ) → (pebble : ℕ) → (label : ℕ) → IsConfiguration board configuration
-        → pebble < board.pebbles → Legal board configuration pebble label ↔ IsAnswer board (gap_of board configuration pebble) label }
-    ensures dominator { (board : PlainBoard) → (configuration : List ℕ) → (pebble : ℕ) → IsConfiguration board configuration
+    ensures legal { (board : PlainBoard) → (configuration : List ℕ) → (pebble : ℕ) → (label : ℕ)
+        → IsConfiguration board configuration
         → pebble < board.pebbles
-        → IsDominator board configuration pebble ↔ IsAnswer board (gap_of board configuration pebble) (slice_index configuration pebble) }
-    ensures one_gap { (board : PlainBoard) → (first : ℕ) → (second : ℕ) → (one : ℕ) → (other : ℕ) → IsAntisymmetric board
-        → first < gaps board → second < gaps board → IsAnswer board first one → IsAnswer board second other
+        → Legal board configuration pebble label
+        ↔ IsAnswer board (gap_of board configuration pebble) label }
+    ensures dominator { (board : PlainBoard) → (configuration : List ℕ) → (pebble : ℕ)
+        → IsConfiguration board configuration
+        → pebble < board.pebbles
+        → IsDominator board configuration pebble
+        ↔ IsAnswer board (gap_of board configuration pebble) (slice_index configuration pebble) }
+    ensures one_gap { (board : PlainBoard) → (first : ℕ) → (second : ℕ) → (one : ℕ) → (other : ℕ)
+        → IsAntisymmetric board
+        → first < gaps board → second < gaps board → IsAnswer board first one
+        → IsAnswer board second other
         → member_of board first one ≡ member_of board second other → first ≡ second }
 {}
 

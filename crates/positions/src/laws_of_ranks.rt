@@ -6,10 +6,13 @@ ghost use Rattle.positions.specs.Ranks.{configurations, rank_of, configuration_a
 
 /// Ranks and configurations belong to each other, one to one.
 pub fn ranks_and_configurations()
-    ensures rank { (board : PlainBoard) → (rank : ℕ) → rank < configurations board → rank_of board (configuration_at board rank) ≡ rank }
-    ensures configuration { (board : PlainBoard) → (configuration : List ℕ) → IsConfiguration board configuration
+    ensures rank { (board : PlainBoard) → (rank : ℕ) → rank < configurations board
+        → rank_of board (configuration_at board rank) ≡ rank }
+    ensures configuration { (board : PlainBoard) → (configuration : List ℕ)
+        → IsConfiguration board configuration
         → configuration_at board (rank_of board configuration) ≡ configuration }
-    ensures is_rank { (board : PlainBoard) → (configuration : List ℕ) → IsConfiguration board configuration
+    ensures is_rank { (board : PlainBoard) → (configuration : List ℕ)
+        → IsConfiguration board configuration
         → rank_of board configuration < configurations board }
     ensures is_configuration { (board : PlainBoard) → (rank : ℕ) → rank < configurations board
         → IsConfiguration board (configuration_at board rank) }
@@ -17,6 +20,7 @@ pub fn ranks_and_configurations()
 
 /// Ranks are in the order of the lists of labels, first label first.
 pub fn ranks_are_in_order()
-    ensures { (board : PlainBoard) → (first : List ℕ) → (second : List ℕ) → IsConfiguration board first → IsConfiguration board second
+    ensures { (board : PlainBoard) → (first : List ℕ) → (second : List ℕ)
+        → IsConfiguration board first → IsConfiguration board second
         → (rank_of board first < rank_of board second) ↔ ComesBefore first second }
 {}

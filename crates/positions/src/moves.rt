@@ -88,7 +88,8 @@ impl<'a> Moves<'a> {
     /// The labels that a request of `pebble` may be answered with.
     pub fn answers(&self, pebble: u8) -> LabelSet
         ensures bits { (label : ℕ) → label < MAX_LABELS
-            → (has_bit result label ≡ true) ↔ Legal self.now.board self.now.configuration pebble label }
+            → (has_bit result label ≡ true)
+            ↔ Legal self.now.board self.now.configuration pebble label }
         ensures few { self.now.board.labels ≤ MAX_LABELS }
     {
         let mut answers = self.space.every_label();
@@ -104,9 +105,11 @@ impl<'a> Moves<'a> {
     /// The ranks of the configurations after a request of `pebble`, by the label of the answer.
     pub fn results(&self, pebble: u8) -> Members
         requires { pebble < self.now.board.pebbles }
-        ensures ranks { (label : ℕ) → label < self.now.board.labels → result.first + label * result.step
+        ensures ranks { (label : ℕ) → label < self.now.board.labels
+            → result.first + label * result.step
             ≡ rank_of self.now.board (moved self.now.configuration pebble label) }
-        ensures below { (label : ℕ) → label < self.now.board.labels → result.first + label * result.step < configurations self.now.board }
+        ensures below { (label : ℕ) → label < self.now.board.labels
+            → result.first + label * result.step < configurations self.now.board }
         ensures few { configurations self.now.board ≤ MAX_CONFIGURATIONS }
     {
         let step = self.space.weight(pebble).value();

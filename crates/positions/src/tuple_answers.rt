@@ -14,7 +14,8 @@ use std::alloc::Global;
 use std::marker::Model;
 use std::snapshot::Snapshot;
 
-/// The answers for each tuple of places of the other pebbles. Gaps of the same tuple have the same answers,
+/// The answers for each tuple of places of the other pebbles. Gaps of the same tuple have the same
+/// answers,
 /// whichever their pebbles are.
 ///
 /// Contracts see it as the board.
@@ -58,7 +59,8 @@ impl TupleAnswers {
     pub fn answers(&self, tuple: u32) -> LabelSet
         requires { tuple < gaps_each self.now }
         ensures { (gap : ℕ) → gap < gaps self.now → tuple_of self.now gap ≡ tuple
-            → (label : ℕ) → label < MAX_LABELS → (has_bit result label ≡ true) ↔ IsAnswer self.now gap label }
+            → (label : ℕ) → label < MAX_LABELS
+            → (has_bit result label ≡ true) ↔ IsAnswer self.now gap label }
     {
         LabelSet::new([
             self.columns[0].word(tuple),

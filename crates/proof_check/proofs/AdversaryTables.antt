@@ -10,7 +10,8 @@ use Rattle.positions.specs.Table.{RequestRow, Requests, Leads, StopsAfter, reque
 use Rattle.proof_text.specs.Rules.{MeetsAnswers, AdversaryObeys, IsListedBelow}
 use Rattle.proof_check.proofs.FirstRows.{AreApart, find-the}
 
-module _ (board : PlainBoard) (rows : List RequestRow) (apart : AreApart (λ r. r.at) rows) (pebbles : All (λ (r : RequestRow). r.request < board.pebbles) rows) (obeys : AdversaryObeys board rows) where
+module _ (board : PlainBoard) (rows : List RequestRow) (apart : AreApart (λ r. r.at) rows)
+    (pebbles : All (λ (r : RequestRow). r.request < board.pebbles) rows) (obeys : AdversaryObeys board rows) where
   -- the table requests the pebble of the configuration's row
   request_by_row : (row : RequestRow) → Contains rows row → request_at rows row.at ≡ Some row.request
   request_by_row row is = ap (option_map (λ r. r.request)) (find-the (λ r. r.at) rows row apart is)
@@ -21,7 +22,8 @@ module _ (board : PlainBoard) (rows : List RequestRow) (apart : AreApart (λ r. 
       → ((pebble : ℕ) × Requests board rows to pebble) × (length labels < bound)
   stops_each [] from to bound listed leads =
       let request : request_at rows to ≡ Some listed.row.request =
-      subst (λ c. request_at rows c ≡ Some listed.row.request) (listed.at ∙ leads) (request_by_row listed.row listed.among) in
+      subst (λ c. request_at rows c ≡ Some listed.row.request) (listed.at ∙ leads)
+      (request_by_row listed.row listed.among) in
       let low : listed.row.left < bound = listed.below in
       let obeyed = All-contains (λ (r : RequestRow). r.request < board.pebbles) rows listed.row pebbles listed.among in
       ((listed.row.request, record { request = request; is_pebble = obeyed }), omega arith)
@@ -31,7 +33,8 @@ module _ (board : PlainBoard) (rows : List RequestRow) (apart : AreApart (λ r. 
       subst (λ c. request_at rows c ≡ Some listed.row.request) listed.at (request_by_row listed.row listed.among) in
       let same : leads.0 ≡ listed.row.request = same_Some leads.0 listed.row.request (sym leads.1.request ∙ request) in
       let legal : Legal board listed.row.at listed.row.request label =
-      subst (λ p. Legal board listed.row.at p label) same (subst (λ c. Legal board c leads.0 label) (sym listed.at) leads.2) in
+      subst (λ p. Legal board listed.row.at p label) same
+      (subst (λ c. Legal board c leads.0 label) (sym listed.at) leads.2) in
       let next = obeyed label legal in
       let rest : Leads board rows (moved listed.row.at listed.row.request label) labels to =
       subst (λ p. Leads board rows (moved listed.row.at p label) labels to) same

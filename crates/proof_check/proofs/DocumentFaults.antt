@@ -1,6 +1,7 @@
 -- The fault of a document: it has one at most, which names ranks of the board, and one that breaks
 -- no rule has none.
-use Rattle.std.proofs.Common.{◌≡◌, ◌≢◌, ◌⊎◌, ℕ, suc, ◌<◌, List, Option, Some, None, slice_get, MatchOption, sym, ◌∙◌, subst, arith, inl}
+use Rattle.std.proofs.Common.{◌≡◌, ◌≢◌, ◌⊎◌, ℕ, suc, ◌<◌, List, Option, Some, None, slice_get, MatchOption, sym, ◌∙◌}
+use Rattle.std.proofs.Common.{subst, arith, inl}
 use Rattle.std.proofs.Common.{inr}
 use Rattle.std.specs.List.{All, Contains}
 use Rattle.std.proofs.lemmas.List.Elements.{All-contains}
@@ -13,25 +14,31 @@ use Rattle.positions.specs.declared.claim.Claim.{Claim}
 use Rattle.positions.specs.declared.claim.Claim.TheVariants.{Exactly, AtLeast, AtMost, Forever}
 use Rattle.positions.proofs.Cited.{rank_below}
 use Rattle.proof_text.specs.Proof.{PlainProof, IsProof}
-use Rattle.proof_text.specs.Rules.{BreaksNoRule, Serves, IsListedBelow, LabellerObeys, AdversaryObeys, MeetsRequest, MeetsRequests}
+use Rattle.proof_text.specs.Rules.{BreaksNoRule, Serves, IsListedBelow, LabellerObeys, AdversaryObeys, MeetsRequest}
+use Rattle.proof_text.specs.Rules.{MeetsRequests}
 use Rattle.proof_text.specs.Rules.{MeetsAnswer, MeetsAnswers, one_less, wanted_of, StartIsBelow}
 use Rattle.proof_check.specs.declared.fault.CheckFault.{CheckFault}
 use Rattle.proof_check.specs.declared.fault.CheckFault.TheVariants as faults
-use Rattle.proof_check.specs.CheckFaults.{LabellerBreach, AdversaryBreach, IsWrongAt, IsWrongAfter, IsWrongAnswer, IsWrongRequest}
-use Rattle.proof_check.specs.CheckFaults.{IsWrongStart, IsWrongBound, bound_of, StartServes, IsFirstFault, IsCheckFault, NamesRanks}
+use Rattle.proof_check.specs.CheckFaults.{LabellerBreach, AdversaryBreach, IsWrongAt, IsWrongAfter, IsWrongAnswer}
+use Rattle.proof_check.specs.CheckFaults.{IsWrongRequest}
+use Rattle.proof_check.specs.CheckFaults.{IsWrongStart, IsWrongBound, bound_of, StartServes, IsFirstFault, IsCheckFault}
+use Rattle.proof_check.specs.CheckFaults.{NamesRanks}
 use Rattle.proof_check.proofs.Steps.{IsStep, kind, narrowed, where_so, either, unserved, of_some, first_turn, first_row}
 
 -- ---- a labeller's row
 
 module _ (board : PlainBoard) {Ranked : Type 0} (rows : List AnswerRow) (row : AnswerRow)
     (low : Ranked → rank_of board row.at < configurations board) where
-  request_step : (pebble : ℕ) → IsStep board Ranked (MeetsRequest board rows row pebble) (IsWrongAt board rows row pebble)
+  request_step : (pebble : ℕ)
+      → IsStep board Ranked (MeetsRequest board rows row pebble) (IsWrongAt board rows row pebble)
   request_step pebble = of_some _ (slice_get row.answers pebble) (λ label is.
       let same = λ (meets : MeetsRequest board rows row pebble). same_Some meets.label label (sym meets.answer ∙ is) in
       let result : ℕ → List ℕ = λ l. moved row.at pebble l in
-      let legal = λ (meets : MeetsRequest board rows row pebble). subst (Legal board row.at pebble) (same meets) meets.legal in
+      let legal = λ (meets : MeetsRequest board rows row pebble). subst (Legal board row.at pebble)
+      (same meets) meets.legal in
       either (kind (faults.IllegalAnswer (rank_of board row.at) pebble) (λ no meets. no (legal meets)) low)
-      (narrowed (λ meets. subst (λ l. Serves rows (result l) (one_less row.turns)) (same meets) meets.serves) (λ fault w. (w.1, w.2))
+      (narrowed (λ meets. subst (λ l. Serves rows (result l) (one_less row.turns)) (same meets) meets.serves)
+      (λ fault w. (w.1, w.2))
       (where_so (unserved _ _ (λ listed. (listed.row, listed.among, listed.at)) low low)))
       (λ fault other a b. a.0 b.0))
 
@@ -46,11 +53,13 @@ module _ (board : PlainBoard) {Ranked : Type 0} (rows : List RequestRow) (row : 
       → IsStep board Ranked (MeetsAnswer board rows row label) (IsWrongAfter board rows row label)
   answer_step label legal =
       either (kind (faults.NotStuck (rank_of board row.at) label) none_below low)
-      (narrowed (λ meets. meets legal) (λ fault w. w.1) (unserved _ _ (λ listed. (listed.row, listed.among, listed.at)) low low))
+      (narrowed (λ meets. meets legal) (λ fault w. w.1)
+      (unserved _ _ (λ listed. (listed.row, listed.among, listed.at)) low low))
       (λ fault other a b. omega (arith, a.0, b.0))
     where
       none_below : row.left ≡ 0 → ¬ MeetsAnswer board rows row label
-      none_below zero meets = let below : (meets legal).row.left < row.left = (meets legal).below in omega (arith, below, zero)
+      none_below zero meets =
+          let below : (meets legal).row.left < row.left = (meets legal).below in omega (arith, below, zero)
 
   pub adversary_row : IsStep board Ranked (MeetsAnswers board rows row) (IsWrongRequest board rows row)
   adversary_row = narrowed (λ meets label legal. meets label) (λ fault w. w) (first_turn answer_step)
@@ -60,8 +69,10 @@ module _ (board : PlainBoard) {Ranked : Type 0} (rows : List RequestRow) (row : 
 -- the start is listed as the bound of the claim asks
 bound_listed : (rows : List RequestRow) (start : List ℕ) (claim : Claim) (number : ℕ) → bound_of claim ≡ Some number
     → StartIsBelow rows start claim → IsListedBelow rows start (suc number)
-bound_listed rows start (Exactly most) number is below = subst (λ n. IsListedBelow rows start (suc n)) (same_Some most number is) below
-bound_listed rows start (AtMost most) number is below = subst (λ n. IsListedBelow rows start (suc n)) (same_Some most number is) below
+bound_listed rows start (Exactly most) number is below =
+    subst (λ n. IsListedBelow rows start (suc n)) (same_Some most number is) below
+bound_listed rows start (AtMost most) number is below =
+    subst (λ n. IsListedBelow rows start (suc n)) (same_Some most number is) below
 bound_listed rows start (AtLeast least) number is below = absurd cc
 bound_listed rows start Forever number is below = absurd cc
 
@@ -77,9 +88,11 @@ module _ (board : PlainBoard) (proof : PlainProof) where
       narrowed (bound_listed proof.adversary board.start proof.claim number is) (λ fault w. w)
       (unserved _ _ (λ listed. (listed.row, listed.among, listed.at)) (λ _. tt) (λ _. tt)))
 
-  low_rank : {X : Type 0} (at : X → List ℕ) (rows : List X) (row : X) → All (λ r. IsConfiguration board (at r)) rows → Contains rows row
+  low_rank : {X : Type 0} (at : X → List ℕ) (rows : List X) (row : X) → All (λ r. IsConfiguration board (at r)) rows
+      → Contains rows row
       → rank_of board (at row) < configurations board
-  low_rank at rows row are among = rank_below board (at row) (All-contains (λ r. IsConfiguration board (at r)) rows row are among)
+  low_rank at rows row are among =
+      rank_below board (at row) (All-contains (λ r. IsConfiguration board (at r)) rows row are among)
 
   labeller_step : Step (LabellerObeys board proof.labeller) (LabellerBreach board proof.labeller)
   labeller_step = first_row proof.labeller (λ row among. labeller_row board proof.labeller row (λ is.
@@ -114,7 +127,8 @@ module _ (board : PlainBoard) (proof : PlainProof) where
       (λ fault other a b. bound_step.apart fault a.1 (starts_of other b).adversary))
       (λ fault other a b. start_step.apart fault a (serves_of other b))
 
-  pub only_memory : (fault : CheckFault) → BreaksNoRule board proof → IsCheckFault board proof fault → fault ≡ faults.Memory
+  pub only_memory : (fault : CheckFault) → BreaksNoRule board proof → IsCheckFault board proof fault
+      → fault ≡ faults.Memory
   only_memory fault rules (inl is) = is
   only_memory fault rules (inr wrong) = absurd (document.apart fault wrong rules)
 

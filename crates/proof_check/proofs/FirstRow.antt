@@ -1,5 +1,6 @@
 -- The first faulty row of a slice whose rows are checked in parallel.
-use Rattle.std.proofs.Common.{◌≡◌, Bool, true, false, List, [], ◌∷◌, map, Option, Some, None, slice_get, MatchBool, MatchOption, Bor, refl, sym, ap, ◌∙◌, subst}
+use Rattle.std.proofs.Common.{◌≡◌, Bool, true, false, List, [], ◌∷◌, map, Option, Some, None, slice_get, MatchBool}
+use Rattle.std.proofs.Common.{MatchOption, Bor, refl, sym, ap, ◌∙◌, subst}
 use Rattle.std.specs.List.{All, AllZip}
 use Rattle.std.proofs.lemmas.List.{map-append}
 use Rattle.std.proofs.lemmas.List.Elements.{All-nil, All-cons, All-map}
@@ -15,7 +16,8 @@ pub record IsFirst {R : Type 0} (IsRight : R → Type 0) (rows : List R) (row : 
 module _ {R : Type 0} (IsRight : R → Type 0) where
   -- the answer for a row says whether it is faulty
   abbrev pub Answered : Bor R → Bool → Type 0
-  Answered row answer = (shown : Bor (Bor R)) × (shown.now ≡ row) × MatchBool answer (¬ IsRight shown.now.now) (IsRight shown.now.now)
+  Answered row answer =
+      (shown : Bor (Bor R)) × (shown.now ≡ row) × MatchBool answer (¬ IsRight shown.now.now) (IsRight shown.now.now)
 
   abbrev pub Found : List R → Option (Bor R) → Type 0
   Found rows found = MatchOption found (All IsRight rows) (λ x. IsFirst IsRight rows x.now)
@@ -32,7 +34,8 @@ module _ {R : Type 0} (IsRight : R → Type 0) where
     faulty = rest.faulty;
   }
 
-  first_shown : (xs : List (Bor R)) (answers : List Bool) → AllZip Answered xs answers → Found (map (λ (x : Bor R). x.now) xs) (slice_get (filter_by_mask xs answers) 0)
+  first_shown : (xs : List (Bor R)) (answers : List Bool) → AllZip Answered xs answers
+      → Found (map (λ (x : Bor R). x.now) xs) (slice_get (filter_by_mask xs answers) 0)
   first_shown [] [] each = All-nil IsRight
   first_shown [] (b ∷ answers) each = absurd each
   first_shown (x ∷ xs) [] each = absurd each
@@ -46,22 +49,27 @@ module _ {R : Type 0} (IsRight : R → Type 0) where
 
   -- all rows are right, or the one that is found is the first faulty one
   pub first_of_slice : (rows slice : List R) (found : Option (Bor R)) → slice ≡ rows
-      → ((xs : List (Bor R)) × (answers : List Bool) × (map (λ (x : Bor R). x.now) xs ≡ slice) × AllZip Answered xs answers
+      → ((xs : List (Bor R)) × (answers : List Bool) × (map (λ (x : Bor R). x.now) xs ≡ slice)
+      × AllZip Answered xs answers
       × (found ≡ slice_get (filter_by_mask xs answers) 0))
       → Found rows found
   first_of_slice rows slice found same (xs, answers, shown, each, is) =
       let first = first_shown xs answers each in
-      subst (λ o. Found rows o) (sym is) (subst (λ l. Found l (slice_get (filter_by_mask xs answers) 0)) (shown ∙ same) first)
+      subst (λ o. Found rows o) (sym is)
+      (subst (λ l. Found l (slice_get (filter_by_mask xs answers) 0)) (shown ∙ same) first)
 
 -- the fault of the first faulty row is the fault of the rows
-pub fault_of_first : {R : Type 0} (IsRight : R → Type 0) (IsWrong : R → CheckFault → Type 0) (rows : List R) (row : R) (found : Option CheckFault)
+pub fault_of_first : {R : Type 0} (IsRight : R → Type 0) (IsWrong : R → CheckFault → Type 0) (rows : List R) (row : R)
+    (found : Option CheckFault)
     → IsFirst IsRight rows row → MatchOption found (IsRight row) (IsWrong row)
     → MatchOption found (All IsRight rows) (FirstFault IsRight IsWrong rows)
 fault_of_first IsRight IsWrong rows row None is right = absurd (is.faulty right)
 fault_of_first IsRight IsWrong rows row (Some fault) is wrong = record { row = row; first = is.first; wrong = wrong }
 
 -- the fault of rows is the fault of the rows that they show
-pub fault_of_seen : {R X : Type 0} (f : R → X) (IsRight : X → Type 0) (IsWrong : X → CheckFault → Type 0) (rows : List R) (seen : List X) (found : Option CheckFault) → map f rows ≡ seen
+pub fault_of_seen : {R X : Type 0} (f : R → X) (IsRight : X → Type 0) (IsWrong : X → CheckFault → Type 0)
+    (rows : List R) (seen : List X) (found : Option CheckFault)
+    → map f rows ≡ seen
     → MatchOption found (All (λ r. IsRight (f r)) rows) (FirstFault (λ r. IsRight (f r)) (λ r. IsWrong (f r)) rows)
     → MatchOption found (All IsRight seen) (FirstFault IsRight IsWrong seen)
 fault_of_seen f IsRight IsWrong rows seen None same right = subst (All IsRight) same (All-map IsRight f rows right)

@@ -1,5 +1,6 @@
 -- If no two rows are for one configuration, the first row of a configuration is the row.
-use Rattle.std.proofs.Common.{◌≡◌, ◌≢◌, ℕ, ◌<◌, Bool, true, true≢false, nat_eq, List, length, get_or, Some, IsSome, is_some, slice_get, sym}
+use Rattle.std.proofs.Common.{◌≡◌, ◌≢◌, ℕ, ◌<◌, Bool, true, true≢false, nat_eq, List, length, get_or, Some, IsSome}
+use Rattle.std.proofs.Common.{is_some, slice_get, sym}
 use Rattle.std.proofs.Common.{ap, ◌∙◌, arith, inl, inr}
 use Rattle.std.specs.List.{AllPairs, Contains, find, position_or_len}
 use Rattle.std.proofs.lemmas.Bool.{false_from_ne_true}
@@ -13,9 +14,14 @@ abbrev pub AreApart : {X : Type 0} → (X → List ℕ) → List X → Type 0
 AreApart at rows = AllPairs (λ first second. at first ≢ at second) rows
 
 -- if `find` gives an element, some element passes
-pub some_passes : {X : Type 0} (p : X → Bool) (xs : List X) → IsSome (find p xs) → (x : X) × Contains xs x × (p x ≡ true)
+pub some_passes : {X : Type 0} (p : X → Bool) (xs : List X) → IsSome (find p xs)
+    → (x : X) × Contains xs x × (p x ≡ true)
 some_passes p xs some = elim (slice_get_cases xs (position_or_len p xs)).1 [
-  | inl (x, inside, is, same) ↦ (x, (position_or_len p xs, inside, same), ap p (sym same) ∙ passes_at_first p xs x inside)
+  | inl (x, inside, is, same) ↦ (
+    x,
+    (position_or_len p xs, inside, same),
+    ap p (sym same) ∙ passes_at_first p xs x inside,
+  )
   | inr (past, none) ↦ absurd (true≢false (sym some ∙ ap is_some (find_at p xs ∙ none)))
 ]
 

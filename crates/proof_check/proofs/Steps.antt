@@ -15,13 +15,15 @@ pub record IsStep (board : PlainBoard) (Ranked Right : Type 0) (Wrong : CheckFau
   pub named : (fault : CheckFault) → Ranked → Wrong fault → NamesRanks board fault
 
 -- the first row that isn't right is one of the rows
-pub among : {X : Type 0} {IsRight : X → Type 0} {rows : List X} {row : X} → FirstWrong IsRight rows row → Contains rows row
+pub among : {X : Type 0} {IsRight : X → Type 0} {rows : List X} {row : X} → FirstWrong IsRight rows row
+    → Contains rows row
 among {X} {IsRight} {rows} {row} first =
     let there = Contains-append_right first.before (row ∷ first.after) row (0, omega arith, refl) in
     subst (λ (l : List X). Contains l row) (sym first.parts) there
 
 -- one place in a list is the first that isn't right
-one_place : {X : Type 0} (IsRight : X → Type 0) (a b : X) → ¬ IsRight a → ¬ IsRight b → (before other more rest : List X)
+one_place : {X : Type 0} (IsRight : X → Type 0) (a b : X) → ¬ IsRight a → ¬ IsRight b
+    → (before other more rest : List X)
     → before ++ a ∷ more ≡ other ++ b ∷ rest → All IsRight before → All IsRight other → a ≡ b
 one_place IsRight a b not_a not_b [] [] more rest e right too = cc
 one_place IsRight a b not_a not_b [] (y ∷ other) more rest e right too =
@@ -30,7 +32,8 @@ one_place IsRight a b not_a not_b (x ∷ before) [] more rest e right too =
     let is : x ≡ b = cc in absurd (not_b (subst IsRight is (All-head IsRight x before right)))
 one_place IsRight a b not_a not_b (x ∷ before) (y ∷ other) more rest e right too =
     let tails : before ++ a ∷ more ≡ other ++ b ∷ rest = cc in
-    one_place IsRight a b not_a not_b before other more rest tails (All-tail IsRight x before right) (All-tail IsRight y other too)
+    one_place IsRight a b not_a not_b before other more rest tails (All-tail IsRight x before right)
+    (All-tail IsRight y other too)
 
 -- one row is the first that isn't right
 one_row : {X : Type 0} {IsRight : X → Type 0} {rows : List X} (a b : X) → ¬ IsRight a → ¬ IsRight b
@@ -51,7 +54,8 @@ module _ {board : PlainBoard} {Ranked : Type 0} where
 
   -- the same for a rule that asks more, with fewer faults
   pub narrowed : {Right Narrow : Type 0} {Wrong Less : CheckFault → Type 0} → (Narrow → Right)
-      → ((fault : CheckFault) → Less fault → Wrong fault) → IsStep board Ranked Right Wrong → IsStep board Ranked Narrow Less
+      → ((fault : CheckFault) → Less fault → Wrong fault) → IsStep board Ranked Right Wrong
+      → IsStep board Ranked Narrow Less
   narrowed right wrong step = record {
     apart = λ fault w is. step.apart fault (wrong fault w) (right is);
     one = λ fault other a b. step.one fault other (wrong fault a) (wrong other b);
@@ -68,8 +72,10 @@ module _ {board : PlainBoard} {Ranked : Type 0} where
   }
 
   -- two kinds of faults that exclude each other
-  pub either : {Right : Type 0} {First Second : CheckFault → Type 0} → IsStep board Ranked Right First → IsStep board Ranked Right Second
-      → ((fault other : CheckFault) → First fault → ¬ Second other) → IsStep board Ranked Right (λ fault. First fault ⊎ Second fault)
+  pub either : {Right : Type 0} {First Second : CheckFault → Type 0} → IsStep board Ranked Right First
+      → IsStep board Ranked Right Second
+      → ((fault other : CheckFault) → First fault → ¬ Second other)
+      → IsStep board Ranked Right (λ fault. First fault ⊎ Second fault)
   either {Right} {First} {Second} first second not_both = record { apart = apart; one = one; named = named }
     where
       apart : (fault : CheckFault) → First fault ⊎ Second fault → ¬ Right
@@ -113,7 +119,8 @@ module _ {board : PlainBoard} {Ranked : Type 0} where
   first_turn {IsTurn} {Meets} {IsWrong} each = record {
     apart = λ fault w meets. (each w.turn w.is_turn).apart fault w.wrong (meets w.turn w.is_turn);
     one = λ fault other a b. elim (cases_order a.turn b.turn) [
-      | inl same ↦ (each a.turn a.is_turn).one fault other a.wrong (subst (λ turn. IsWrong turn other) (sym same) b.wrong)
+      | inl same ↦ (each a.turn a.is_turn).one fault other a.wrong
+          (subst (λ turn. IsWrong turn other) (sym same) b.wrong)
       | inr (inl less) ↦ absurd ((each a.turn a.is_turn).apart fault a.wrong (b.before a.turn less))
       | inr (inr more) ↦ absurd ((each b.turn b.is_turn).apart other b.wrong (a.before b.turn more))
     ];
@@ -128,7 +135,8 @@ module _ {board : PlainBoard} {Ranked : Type 0} where
     apart = λ fault w right. wrong_row fault w (All-contains IsRight rows w.row right (among w.first));
     one = λ fault other a b.
         let same = one_row a.row b.row (wrong_row fault a) (wrong_row other b) a.first b.first in
-        (each a.row (among a.first)).one fault other a.wrong (subst (λ (row : X). IsWrong row other) (sym same) b.wrong);
+        (each a.row (among a.first)).one fault other a.wrong
+        (subst (λ (row : X). IsWrong row other) (sym same) b.wrong);
     named = λ fault ranked w. (each w.row (among w.first)).named fault ranked w.wrong;
   }
     where

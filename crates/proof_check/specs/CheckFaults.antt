@@ -8,7 +8,8 @@ use Rattle.positions.specs.Table.{AnswerRow, RequestRow}
 use Rattle.positions.specs.declared.claim.Claim.{Claim}
 use Rattle.positions.specs.declared.claim.Claim.TheVariants.{Exactly, AtLeast, AtMost, Forever}
 use Rattle.proof_text.specs.Proof.{PlainProof}
-use Rattle.proof_text.specs.Rules.{IsListedFor, Serves, IsWanted, one_less, MeetsRequest, MeetsRequests, LabellerObeys, IsListedBelow}
+use Rattle.proof_text.specs.Rules.{IsListedFor, Serves, IsWanted, one_less, MeetsRequest}
+use Rattle.proof_text.specs.Rules.{MeetsRequests, LabellerObeys, IsListedBelow}
 use Rattle.proof_text.specs.Rules.{MeetsAnswer, MeetsAnswers, wanted_of, StartIsBelow}
 use Rattle.positions.specs.declared.side.Side.TheVariants.{Labeller, Adversary}
 use Rattle.proof_check.specs.declared.fault.CheckFault.{CheckFault}
@@ -20,7 +21,8 @@ HasRow {X} at rows configuration = (row : X) × Contains rows row × (at row ≡
 
 -- no row: the fault `missing`; a row that doesn't serve: the fault `short`
 abbrev pub IsUnserved : Type 0 → Type 0 → CheckFault → CheckFault → CheckFault → Type 0
-IsUnserved Listed Served missing short fault = (¬ Listed × (fault ≡ missing)) ⊎ (Listed × ¬ Served × (fault ≡ short))
+IsUnserved Listed Served missing short fault =
+    (¬ Listed × (fault ≡ missing)) ⊎ (Listed × ¬ Served × (fault ≡ short))
 
 -- ---- rows
 
@@ -32,37 +34,44 @@ pub record FirstWrong {X : Type 0} (IsRight : X → Type 0) (rows : List X) (row
   pub right : All IsRight before
 
 -- the first faulty row has the fault
-pub record FirstFault {X : Type 0} (IsRight : X → Type 0) (IsWrong : X → CheckFault → Type 0) (rows : List X)
+pub record FirstFault {X : Type 0} (IsRight : X → Type 0) (IsWrong : X → CheckFault → Type 0)
+    (rows : List X)
     (fault : CheckFault) : Type 0 where
   pub row : X
   pub first : FirstWrong IsRight rows row
   pub wrong : IsWrong row fault
 
 -- the first turn of a row that isn't met has the fault
-pub record FirstTurn (IsTurn Meets : ℕ → Type 0) (IsWrong : ℕ → CheckFault → Type 0) (fault : CheckFault) : Type 0 where
+pub record FirstTurn (IsTurn Meets : ℕ → Type 0) (IsWrong : ℕ → CheckFault → Type 0)
+    (fault : CheckFault) : Type 0 where
   pub turn : ℕ
   pub is_turn : IsTurn turn
   pub before : (earlier : ℕ) → earlier < turn → Meets earlier
   pub wrong : IsWrong turn fault
 
 -- the rows don't serve the turns that a labeller's row leaves after the pebble's answer
-abbrev pub IsWrongResult : PlainBoard → List AnswerRow → AnswerRow → ℕ → List ℕ → CheckFault → Type 0
+abbrev pub IsWrongResult : PlainBoard → List AnswerRow → AnswerRow → ℕ → List ℕ → CheckFault
+    → Type 0
 IsWrongResult board rows row pebble result fault =
     IsUnserved (HasRow (λ r. r.at) rows result) (IsListedFor rows result (one_less row.turns))
-    (faults.Unlisted Labeller (rank_of board row.at) pebble) (faults.TooSmall (rank_of board row.at) pebble) fault
+    (faults.Unlisted Labeller (rank_of board row.at) pebble)
+    (faults.TooSmall (rank_of board row.at) pebble) fault
 
 -- the fault of a labeller's row at a request of the pebble
 abbrev pub IsWrongAt : PlainBoard → List AnswerRow → AnswerRow → ℕ → CheckFault → Type 0
 IsWrongAt board rows row pebble fault = (label : ℕ) × (slice_get row.answers pebble ≡ Some label)
-    × ((¬ Legal board row.at pebble label × (fault ≡ faults.IllegalAnswer (rank_of board row.at) pebble))
+    × ((¬ Legal board row.at pebble label
+    × (fault ≡ faults.IllegalAnswer (rank_of board row.at) pebble))
     ⊎ (Legal board row.at pebble label × IsWanted (one_less row.turns)
     × IsWrongResult board rows row pebble (moved row.at pebble label) fault))
 
 -- the rows don't serve the number that an adversary's row has before the label is answered
-abbrev pub IsWrongNext : PlainBoard → List RequestRow → RequestRow → ℕ → List ℕ → CheckFault → Type 0
+abbrev pub IsWrongNext : PlainBoard → List RequestRow → RequestRow → ℕ → List ℕ → CheckFault
+    → Type 0
 IsWrongNext board rows row label result fault =
     IsUnserved (HasRow (λ r. r.at) rows result) (IsListedBelow rows result row.left)
-    (faults.Unlisted Adversary (rank_of board row.at) label) (faults.TooLarge (rank_of board row.at) label) fault
+    (faults.Unlisted Adversary (rank_of board row.at) label)
+    (faults.TooLarge (rank_of board row.at) label) fault
 
 -- the fault of an adversary's row at the label, which is a legal answer
 abbrev pub IsWrongAfter : PlainBoard → List RequestRow → RequestRow → ℕ → CheckFault → Type 0
@@ -72,11 +81,15 @@ IsWrongAfter board rows row label fault =
 
 -- the fault of a labeller's row, at its first faulty pebble
 abbrev pub IsWrongAnswer : PlainBoard → List AnswerRow → AnswerRow → CheckFault → Type 0
-IsWrongAnswer board rows row = FirstTurn (λ pebble. pebble < board.pebbles) (MeetsRequest board rows row) (IsWrongAt board rows row)
+IsWrongAnswer board rows row =
+    FirstTurn (λ pebble. pebble < board.pebbles) (MeetsRequest board rows row)
+    (IsWrongAt board rows row)
 
 -- the fault of an adversary's row, at its first faulty label
 abbrev pub IsWrongRequest : PlainBoard → List RequestRow → RequestRow → CheckFault → Type 0
-IsWrongRequest board rows row = FirstTurn (Legal board row.at row.request) (MeetsAnswer board rows row) (IsWrongAfter board rows row)
+IsWrongRequest board rows row =
+    FirstTurn (Legal board row.at row.request) (MeetsAnswer board rows row)
+    (IsWrongAfter board rows row)
 
 -- the first faulty labeller's row has the fault
 abbrev pub LabellerBreach : PlainBoard → List AnswerRow → CheckFault → Type 0
@@ -91,7 +104,8 @@ AdversaryBreach board rows = FirstFault (MeetsAnswers board rows) (IsWrongReques
 -- the fault of the start's number in the labeller's rows
 abbrev pub IsWrongStart : PlainBoard → PlainProof → CheckFault → Type 0
 IsWrongStart board proof fault = IsWanted (wanted_of proof.claim)
-    × IsUnserved (HasRow (λ r. r.at) proof.labeller board.start) (IsListedFor proof.labeller board.start (wanted_of proof.claim))
+    × IsUnserved (HasRow (λ r. r.at) proof.labeller board.start)
+    (IsListedFor proof.labeller board.start (wanted_of proof.claim))
     (faults.StartMissing Labeller) (faults.StartNumber Labeller) fault
 
 -- the bound of the claim from above, if it has one
@@ -104,7 +118,8 @@ bound_of Forever = None
 -- the fault of the start's number in the adversary's rows
 abbrev pub IsWrongBound : PlainBoard → PlainProof → CheckFault → Type 0
 IsWrongBound board proof fault = (number : ℕ) × (bound_of proof.claim ≡ Some number)
-    × IsUnserved (HasRow (λ r. r.at) proof.adversary board.start) (IsListedBelow proof.adversary board.start (suc number))
+    × IsUnserved (HasRow (λ r. r.at) proof.adversary board.start)
+    (IsListedBelow proof.adversary board.start (suc number))
     (faults.StartMissing Adversary) (faults.StartNumber Adversary) fault
 
 -- ---- the document
@@ -121,7 +136,8 @@ IsFirstFault board proof fault =
     IsWrongStart board proof fault
     ⊎ (Serves proof.labeller board.start (wanted_of proof.claim) × IsWrongBound board proof fault)
     ⊎ (StartServes board proof × LabellerBreach board proof.labeller fault)
-    ⊎ (StartServes board proof × LabellerObeys board proof.labeller × AdversaryBreach board proof.adversary fault)
+    ⊎ (StartServes board proof × LabellerObeys board proof.labeller
+    × AdversaryBreach board proof.adversary fault)
 
 -- The fault is the first one, or out of memory, at any place.
 abbrev pub IsCheckFault : PlainBoard → PlainProof → CheckFault → Type 0

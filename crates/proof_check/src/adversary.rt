@@ -19,7 +19,8 @@ impl CheckedRow for AdversaryRow {
 
     ghost meets = { λ c row. MeetsAnswers c.board c.proof.adversary (request_row c.board row) };
 
-    ghost is_wrong = { λ c row. IsWrongRequest c.board c.proof.adversary (request_row c.board row) };
+    ghost is_wrong = { λ c row. IsWrongRequest c.board c.proof.adversary
+        (request_row c.board row) };
 
     /// The fault of the row's first faulty label, if it has one.
     fn fault(&self, checker: &Checker<'_>) -> Option<CheckFault> {
@@ -39,11 +40,15 @@ impl Checker<'_> {
     /// The fault of `row` at the legal answer `label`, if it has one. The result's rank is `rank`.
     fn label_fault(&self, row: &AdversaryRow, label: u16, rank: u32) -> Option<CheckFault>
         requires row { IsRequesting self.now.board row.now }
-        requires legal { Legal self.now.board (configuration_at self.now.board row.now.at) row.now.ask label }
-        requires rank { rank ≡ rank_of self.now.board (moved (configuration_at self.now.board row.now.at) row.now.ask label) }
+        requires legal { Legal self.now.board
+            (configuration_at self.now.board row.now.at) row.now.ask label }
+        requires rank { rank ≡ rank_of self.now.board
+            (moved (configuration_at self.now.board row.now.at) row.now.ask label) }
         ensures { MatchOption result
-            (MeetsAnswer self.now.board self.now.proof.adversary (request_row self.now.board row.now) label)
-            (IsWrongAfter self.now.board self.now.proof.adversary (request_row self.now.board row.now) label) }
+            (MeetsAnswer self.now.board self.now.proof.adversary
+            (request_row self.now.board row.now) label)
+            (IsWrongAfter self.now.board self.now.proof.adversary
+            (request_row self.now.board row.now) label) }
     {
         if row.left == 0 {
             return Some(CheckFault::NotStuck { at: row.at, label });

@@ -23,7 +23,8 @@ pub(crate) trait CheckedRow {
     /// The fault of the row, if it has one.
     fn fault(&self, checker: &Checker<'_>) -> Option<CheckFault>
         requires { is_ready checker.now.board self.now }
-        ensures fault { MatchOption result (meets checker.now self.now) (is_wrong checker.now self.now) }
+        ensures fault { MatchOption result (meets checker.now self.now)
+            (is_wrong checker.now self.now) }
         ensures faulty { IsSome result → ¬ meets checker.now self.now };
 }
 
@@ -34,13 +35,15 @@ pub(crate) fn first_fault<R: CheckedRow + Sync>(
     rows: &[R],
 ) -> Option<CheckFault>
     requires { All (R.is_ready checker.now.board) rows.now }
-    ensures { MatchOption result (All (R.meets checker.now) rows.now) (FirstFault (R.meets checker.now) (R.is_wrong checker.now) rows.now) }
+    ensures { MatchOption result (All (R.meets checker.now) rows.now)
+        (FirstFault (R.meets checker.now) (R.is_wrong checker.now) rows.now) }
 {
     let faulty = rows.par_iter().find_first(
         rt,
         |row: &&R| -> bool
             requires { R.is_ready checker.now.board row.now.now }
-            ensures { MatchBool result (¬ R.meets checker.entry.now row.now.now) (R.meets checker.entry.now row.now.now) }
+            ensures { MatchBool result (¬ R.meets checker.entry.now row.now.now)
+                (R.meets checker.entry.now row.now.now) }
         { row.fault(checker).is_some() },
     );
     faulty?.fault(checker)

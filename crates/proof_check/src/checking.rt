@@ -40,9 +40,11 @@ pub fn check(
     // Only a document that breaks no rule is accepted.
     ensures rules { OnOk result (BreaksNoRule board.now (plain_proof board.now proof.now)) }
     // Each that breaks none is accepted, unless memory runs out.
-    ensures accepts { BreaksNoRule board.now (plain_proof board.now proof.now) → IfErr result (λ fault. fault ≡ OutOfMemory) }
+    ensures accepts { BreaksNoRule board.now (plain_proof board.now proof.now)
+        → IfErr result (λ fault. fault ≡ OutOfMemory) }
     // The fault is the first in the order of checking, or memory ran out.
-    ensures fault { IfErr result (λ fault. IsCheckFault board.now (plain_proof board.now proof.now) fault) }
+    ensures fault { IfErr result (λ fault. IsCheckFault board.now
+        (plain_proof board.now proof.now) fault) }
     // A fault names rows by ranks of the board.
     ensures named { IfErr result (NamesRanks board.now) }
 {

@@ -62,8 +62,10 @@ impl Checker<'_> {
         requires moves { moves.now ≡ position_at self.now.board row.now.at }
         requires pebble { pebble < self.now.board.pebbles }
         ensures { MatchOption result
-            (MeetsRequest self.now.board self.now.proof.labeller (answer_row self.now.board row.now) pebble)
-            (IsWrongAt self.now.board self.now.proof.labeller (answer_row self.now.board row.now) pebble) }
+            (MeetsRequest self.now.board self.now.proof.labeller
+            (answer_row self.now.board row.now) pebble)
+            (IsWrongAt self.now.board self.now.proof.labeller
+            (answer_row self.now.board row.now) pebble) }
     {
         let label = row.take[pebble as usize];
         if !moves.is_legal(pebble, label) {
@@ -82,7 +84,8 @@ impl Checker<'_> {
     /// The fault of the start's number in the labeller's rows, if it has one.
     pub(crate) fn start_fault(&self) -> Option<CheckFault>
         ensures { MatchOption result
-            (Serves self.now.proof.labeller self.now.board.start (rules.wanted_of self.now.proof.claim))
+            (Serves self.now.proof.labeller self.now.board.start
+            (rules.wanted_of self.now.proof.claim))
             (IsWrongStart self.now.board self.now.proof) }
     {
         let side = Side::Labeller;

@@ -11,18 +11,21 @@ ghost use Rattle.proof_check.specs.declared.fault.CheckFault.TheVariants.{Memory
 
 /// The rows of a document that breaks no rule show its claim.
 pub fn rules_show()
-    ensures { (board : PlainBoard) → (proof : PlainProof) → IsProof board proof → BreaksNoRule board proof
+    ensures { (board : PlainBoard) → (proof : PlainProof) → IsProof board proof
+        → BreaksNoRule board proof
         → Shows board proof.labeller proof.adversary proof.claim }
 {}
 
 /// A document that breaks no rule has no fault but out of memory.
 pub fn unbroken_rules_leave_no_fault()
-    ensures { (board : PlainBoard) → (proof : PlainProof) → (fault : Fault) → BreaksNoRule board proof → IsCheckFault board proof fault
+    ensures { (board : PlainBoard) → (proof : PlainProof) → (fault : Fault)
+        → BreaksNoRule board proof → IsCheckFault board proof fault
         → fault ≡ OutOfMemory }
 {}
 
 /// A document has one fault at most, apart from out of memory.
 pub fn one_check_fault()
-    ensures { (board : PlainBoard) → (proof : PlainProof) → (fault : Fault) → (other : Fault) → fault ≢ OutOfMemory → other ≢ OutOfMemory
+    ensures { (board : PlainBoard) → (proof : PlainProof) → (fault : Fault) → (other : Fault)
+        → fault ≢ OutOfMemory → other ≢ OutOfMemory
         → IsCheckFault board proof fault → IsCheckFault board proof other → fault ≡ other }
 {}

@@ -1,7 +1,8 @@
 //! The rows of a document by the ranks of their configurations.
 
 ghost use Rattle.std.specs.Prelude.{◌≡◌, List, IfOk, MatchOption};
-ghost use Rattle.proof_check.specs.Inside.RowIndex.{AreAscending, AreRanked, IsIndex, HasNone, IsRowOf};
+ghost use Rattle.proof_check.specs.Inside.RowIndex.{AreAscending, AreRanked, IsIndex, HasNone};
+ghost use Rattle.proof_check.specs.Inside.RowIndex.{IsRowOf};
 
 use proof_text::Ranked;
 use std::alloc::{AllocError, Global};
@@ -59,7 +60,8 @@ impl<'a, R: Ranked> RowIndex<'a, R> {
 
     /// The row of `rank`, if there is one.
     pub(crate) fn find(&self, rank: u32) -> Option<&'a R>
-        ensures { MatchOption result (HasNone R.rank self.now rank) (λ row. IsRowOf R.rank self.now rank row.now) }
+        ensures { MatchOption result (HasNone R.rank self.now rank)
+            (λ row. IsRowOf R.rank self.now rank row.now) }
     {
         match self.numbers.get(rank as usize) {
             Some(number) => self.rows.get(*number as usize),
@@ -71,7 +73,8 @@ impl<'a, R: Ranked> RowIndex<'a, R> {
 /// The row of `rank`, if there is one, among `rows`, whose ranks ascend.
 fn search<R: Ranked>(rows: &[R], rank: u32) -> Option<&R>
     requires { AreAscending R.rank rows.now }
-    ensures { MatchOption result (HasNone R.rank rows.now rank) (λ row. IsRowOf R.rank rows.now rank row.now) }
+    ensures { MatchOption result (HasNone R.rank rows.now rank)
+        (λ row. IsRowOf R.rank rows.now rank row.now) }
 {
     match rows.binary_search_by_key(&rank, |row| row.rank()) {
         Ok(number) => Some(&rows[number]),

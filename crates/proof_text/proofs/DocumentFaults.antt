@@ -66,7 +66,8 @@ pub record HeadRead (claim : Claim) (text rest : List ℕ) : Type 0 where
 pub head_read : (claim : Claim) (text a b : List ℕ) → text ≡ proof_version_line ++ a
     → IsClaim claim × (a ≡ claim_line claim ++ b)
     → HeadRead claim text b
-head_read claim text a b e (is, f) = record { is_claim = is; spelled = rw (e, f) (sym (append_assoc proof_version_line (claim_line claim) b)) }
+head_read claim text a b e (is, f) =
+    record { is_claim = is; spelled = rw (e, f) (sym (append_assoc proof_version_line (claim_line claim) b)) }
 
 -- all lines before the last
 pub record FrontRead (board : PlainBoard) (proof : PlainProof) (text rest : List ℕ) : Type 0 where
@@ -87,7 +88,8 @@ module _ (board : PlainBoard) {claim : Claim} {text a : List ℕ} (start : HeadR
         is_claim = start.is_claim;
         asked = asked;
         spelled = start.spelled;
-        fault = fault_seen board (answer_row board) (labeller_form board claim).IsRow (IsAnswerRow board claim) (λ row. row.at)
+        fault = fault_seen board (answer_row board) (labeller_form board claim).IsRow (IsAnswerRow board claim)
+            (λ row. row.at)
             (answer_line board) (λ row is. is.0) (number_line (codes "labeller"))
             (AnswerMisread board claim) a 3 line kind fault;
       }))
@@ -95,7 +97,8 @@ module _ (board : PlainBoard) {claim : Claim} {text a : List ℕ} (start : HeadR
   module _ {labeller : List LabellerRow} {b : List ℕ}
       (part : PartRead board (labeller_form board claim) labeller a b) where
     are_answers : AreAnswerRows board claim (answer_rows board labeller)
-    are_answers = rows_seen board (answer_row board) (labeller_form board claim).IsRow (IsAnswerRow board claim) (λ row. row.at)
+    are_answers =
+        rows_seen board (answer_row board) (labeller_form board claim).IsRow (IsAnswerRow board claim) (λ row. row.at)
         (answer_line board) (λ row is. is.0) labeller part.are_rows
 
     answers_stand : a ≡ labeller_section board claim (answer_rows board labeller) ++ b
@@ -116,19 +119,25 @@ module _ (board : PlainBoard) {claim : Claim} {text a : List ℕ} (start : HeadR
           none = λ not. ap (map (answer_row board)) (part.none not);
           spelled = rw (← answers_stand) start.spelled;
           fault = subst (λ (n : ℕ). InAdversary board b (3 + n) line kind) same
-              (fault_seen board (request_row board) (adversary_form board claim).IsRow (IsRequestRow board) (λ row. row.at)
+              (fault_seen board (request_row board) (adversary_form board claim).IsRow (IsRequestRow board)
+              (λ row. row.at)
               (request_line board) (λ row is. is) (number_line (codes "adversary")) (RequestMisread board) b
               (3 + lines) line kind fault);
         }))
 
     pub front_read : {adversary : List AdversaryRow} {d : List ℕ}
         → PartRead board (adversary_form board claim) adversary b d
-        → FrontRead board (record { claim = claim; labeller = answer_rows board labeller; adversary = request_rows board adversary }) text d
+        → FrontRead board (record {
+          claim = claim;
+          labeller = answer_rows board labeller;
+          adversary = request_rows board adversary;
+        }) text d
     front_read {adversary} {d} other = record {
       is_proof = record {
         claim = start.is_claim;
         labeller = are_answers;
-        adversary = rows_seen board (request_row board) (adversary_form board claim).IsRow (IsRequestRow board) (λ row. row.at)
+        adversary =
+            rows_seen board (request_row board) (adversary_form board claim).IsRow (IsRequestRow board) (λ row. row.at)
             (request_line board) (λ row is. is) adversary other.are_rows;
         no_labeller = λ not. ap (map (answer_row board)) (part.none not);
         no_adversary = λ not. ap (map (request_row board)) (other.none not);

@@ -1,5 +1,6 @@
 -- A text is the text of one document at most, or has one fault.
-use Rattle.std.proofs.Common.{◌≡◌, ◌≢◌, ◌⊎◌, ℕ, ◌+◌, List, [], ◌∷◌, ◌++◌, get_or, Result, Ok, Err, refl, sym, ap, ◌∙◌, append-nil, append_assoc, arith, inl, inr}
+use Rattle.std.proofs.Common.{◌≡◌, ◌≢◌, ◌⊎◌, ℕ, ◌+◌, List, [], ◌∷◌, ◌++◌, get_or, Result, Ok, Err, refl, sym, ap, ◌∙◌}
+use Rattle.std.proofs.Common.{append-nil, append_assoc, arith, inl, inr}
 use Rattle.std.specs.Prelude.{codes, IfOk, IfErr, MatchResult}
 use Rattle.std.proofs.lemmas.List.{append_cancel_left}
 use Rattle.board_text.specs.PlainBoard.{PlainBoard, IsBoard}
@@ -12,9 +13,13 @@ use Rattle.proof_text.specs.declared.fault.ProofFault.{ProofFault}
 use Rattle.proof_text.specs.declared.fault.ProofKind.{ProofKind}
 use Rattle.proof_text.specs.declared.fault.ProofKind.TheVariants as kinds
 use Rattle.proof_text.specs.declared.proof.Proof.{Proof}
-use Rattle.proof_text.specs.Proof.{PlainProof, IsProof, IsDocument, plain_proof, IsClaim, IsAnswerRow, IsRequestRow, asks_labeller, asks_adversary}
-use Rattle.proof_text.specs.ProofText.{proof_version_line, claim_line, first_two_lines, answer_line, request_line, labeller_section, adversary_section, labeller_lines, proof_text_before_end, proof_text}
-use Rattle.proof_text.specs.ProofFaults.{AdversaryFault, AnswerMisread, HasProofFault, LabellerFault, RequestMisread, end_number}
+use Rattle.proof_text.specs.Proof.{PlainProof, IsProof, IsDocument, plain_proof, IsClaim, IsAnswerRow, IsRequestRow}
+use Rattle.proof_text.specs.Proof.{asks_labeller, asks_adversary}
+use Rattle.proof_text.specs.ProofText.{proof_version_line, claim_line, first_two_lines, answer_line, request_line}
+use Rattle.proof_text.specs.ProofText.{labeller_section, adversary_section, labeller_lines, proof_text_before_end}
+use Rattle.proof_text.specs.ProofText.{proof_text}
+use Rattle.proof_text.specs.ProofFaults.{AdversaryFault, AnswerMisread, HasProofFault, LabellerFault, RequestMisread}
+use Rattle.proof_text.specs.ProofFaults.{end_number}
 use Rattle.proof_text.proofs.OneStep.{OneReading, Line, one_line}
 use Rattle.proof_text.proofs.OneRow.{answer_laws, request_laws}
 use Rattle.proof_text.proofs.OneSection.{Part, one_part}
@@ -37,7 +42,8 @@ one_claim (AtMost m) (AtMost n) x y p q e =
     let s = number_line_unique (codes "most") m n x y (omega (arith, p)) (omega (arith, q)) e in (ap AtMost s.0, s.1)
 one_claim Forever Forever x y p q e = (refl, append_cancel_left (claim_line Forever) x y e)
 one_claim c d x y p q e =
-    let heads : get_or (claim_line c ++ x) 0 0 ≡ get_or (claim_line d ++ y) 0 0 = ap (λ (text : List ℕ). get_or text 0 0) e in
+    let heads : get_or (claim_line c ++ x) 0 0 ≡ get_or (claim_line d ++ y) 0 0 =
+    ap (λ (text : List ℕ). get_or text 0 0) e in
     absurd (omega (arith, heads))
 
 -- ---- a finding: the reading of a text
@@ -57,7 +63,8 @@ Behind proof [] found = found ≡ Ok proof
 Behind proof (first ∷ more) found = found ≡ fault (1 + end_number proof) kinds.Trailing
 
 abbrev AfterFront : PlainProof → List ℕ → Finding → Type 0
-AfterFront proof text found = Line NoCondition (λ u. end_line) text (fault (end_number proof) kinds.End) (λ u more. Behind proof more) found
+AfterFront proof text found =
+    Line NoCondition (λ u. end_line) text (fault (end_number proof) kinds.End) (λ u more. Behind proof more) found
 
 module _ (board : PlainBoard) where
   abbrev AfterLabeller : Claim → List AnswerRow → List ℕ → Finding → Type 0
@@ -69,35 +76,42 @@ module _ (board : PlainBoard) where
 
   abbrev AfterClaim : Claim → List ℕ → Finding → Type 0
   AfterClaim claim text found =
-      Part board (IsAnswerRow board claim) (λ row. row.at) (codes "labeller") (answer_line board) (AnswerMisread board claim)
+      Part board (IsAnswerRow board claim) (λ row. row.at) (codes "labeller") (answer_line board)
+      (AnswerMisread board claim)
       fault (asks_labeller claim) text 3 (AfterLabeller claim) found
 
   abbrev AfterVersion : List ℕ → Finding → Type 0
   AfterVersion text found = Line IsClaim claim_line text (fault 2 kinds.Claim) AfterClaim found
 
   abbrev Reading : List ℕ → Finding → Type 0
-  Reading text found = Line NoCondition (λ u. proof_version_line) text (fault 1 kinds.Version) (λ u more. AfterVersion more) found
+  Reading text found =
+      Line NoCondition (λ u. proof_version_line) text (fault 1 kinds.Version) (λ u more. AfterVersion more) found
 
 one_behind : (proof : PlainProof) (text : List ℕ) (v w : Finding) → Behind proof text v → Behind proof text w → v ≡ w
 one_behind proof [] v w e f = e ∙ sym f
 one_behind proof (first ∷ more) v w e f = e ∙ sym f
 
-one_after_front : (proof : PlainProof) (text : List ℕ) (v w : Finding) → AfterFront proof text v → AfterFront proof text w → v ≡ w
+one_after_front : (proof : PlainProof) (text : List ℕ) (v w : Finding) → AfterFront proof text v
+    → AfterFront proof text w → v ≡ w
 one_after_front proof text =
-    one_line NoCondition (λ u. end_line) text (fault (end_number proof) kinds.End) (λ u more. Behind proof more) (one_constant end_line)
+    one_line NoCondition (λ u. end_line) text (fault (end_number proof) kinds.End) (λ u more. Behind proof more)
+    (one_constant end_line)
     (λ u more yes. one_behind proof more)
 
 module _ (board : PlainBoard) (is_board : IsBoard board) where
-  one_after_claim : (claim : Claim) (text : List ℕ) (v w : Finding) → AfterClaim board claim text v → AfterClaim board claim text w → v ≡ w
+  one_after_claim : (claim : Claim) (text : List ℕ) (v w : Finding) → AfterClaim board claim text v
+      → AfterClaim board claim text w → v ≡ w
   one_after_claim claim text =
       one_part board _ _ (codes "labeller") _ _ (answer_laws board claim is_board) text 3 fault (asks_labeller claim)
       (AfterLabeller board claim)
-      (λ labeller rest. one_part board _ _ (codes "adversary") _ _ (request_laws board is_board) rest (3 + labeller_lines claim labeller)
+      (λ labeller rest. one_part board _ _ (codes "adversary") _ _ (request_laws board is_board) rest
+      (3 + labeller_lines claim labeller)
       fault (asks_adversary claim) _ (λ adversary more. one_after_front _ more))
 
   one_reading : (text : List ℕ) (v w : Finding) → Reading board text v → Reading board text w → v ≡ w
   one_reading text =
-      one_line NoCondition (λ u. proof_version_line) text (fault 1 kinds.Version) (λ u more. AfterVersion board more) (one_constant proof_version_line)
+      one_line NoCondition (λ u. proof_version_line) text (fault 1 kinds.Version) (λ u more. AfterVersion board more)
+      (one_constant proof_version_line)
       (λ u rest yes. one_line IsClaim claim_line rest (fault 2 kinds.Claim) (AfterClaim board) one_claim
       (λ claim more is. one_after_claim claim more))
 
@@ -109,9 +123,15 @@ regroup a b c d = simp append_assoc
 head_read : (board : PlainBoard) (text : List ℕ) (claim : Claim) (rest : List ℕ) (found : Finding) → IsClaim claim
     → text ≡ first_two_lines claim ++ rest → AfterClaim board claim rest found → Reading board text found
 head_read board text claim rest found is e after =
-    inr (tt, claim_line claim ++ rest, (tt, e ∙ append_assoc proof_version_line (claim_line claim) rest), inr (claim, rest, (is, refl), after))
+    inr (
+      tt,
+      claim_line claim ++ rest,
+      (tt, e ∙ append_assoc proof_version_line (claim_line claim) rest),
+      inr (claim, rest, (is, refl), after),
+    )
 
-front_read : (board : PlainBoard) (text : List ℕ) (proof : PlainProof) (rest : List ℕ) (found : Finding) → IsProof board proof
+front_read : (board : PlainBoard) (text : List ℕ) (proof : PlainProof) (rest : List ℕ) (found : Finding)
+    → IsProof board proof
     → text ≡ proof_text_before_end board proof ++ rest → AfterFront proof rest found → Reading board text found
 front_read board text proof rest found is e after =
     let labeller = labeller_section board proof.claim proof.labeller in
@@ -133,7 +153,8 @@ section_fault_read board text line kind not (inr f) =
     head_read board text f.claim _ _ f.is_claim f.spelled
     (inr (f.labeller, f.rest, (f.are_rows, f.none, refl), inl (f.asked, line, kind, not, f.fault, refl)))
 
-fault_read : (board : PlainBoard) (text : List ℕ) (line : ℕ) (kind : ProofKind) → kind ≢ kinds.Memory → HasProofFault board text line kind
+fault_read : (board : PlainBoard) (text : List ℕ) (line : ℕ) (kind : ProofKind) → kind ≢ kinds.Memory
+    → HasProofFault board text line kind
     → Reading board text (fault line kind)
 fault_read board text line kinds.Version not (e, lacks) = inl (lacks, ap (λ (n : ℕ). fault n kinds.Version) e)
 fault_read board text line kinds.Claim not (e, rest, stands, lacks) =
@@ -141,12 +162,14 @@ fault_read board text line kinds.Claim not (e, rest, stands, lacks) =
 fault_read board text line kinds.End not (proof, rest, is, stands, e, lacks) =
     front_read board text proof rest _ is stands (inl (lacks, ap (λ (n : ℕ). fault n kinds.End) e))
 fault_read board text line kinds.Trailing not (proof, first, more, is, stands, e) =
-    front_read board text proof (end_line ++ first ∷ more) _ is (stands ∙ append_assoc (proof_text_before_end board proof) end_line (first ∷ more))
+    front_read board text proof (end_line ++ first ∷ more) _ is
+    (stands ∙ append_assoc (proof_text_before_end board proof) end_line (first ∷ more))
     (inr (tt, first ∷ more, (tt, refl), ap (λ (n : ℕ). fault n kinds.Trailing) e))
 fault_read board text line kinds.Memory not h = absurd (not refl)
 fault_read board text line kind not h = section_fault_read board text line kind not h
 
-document_read : (board : PlainBoard) (text : List ℕ) (proof : PlainProof) → IsProof board proof → text ≡ proof_text board proof
+document_read : (board : PlainBoard) (text : List ℕ) (proof : PlainProof) → IsProof board proof
+    → text ≡ proof_text board proof
     → Reading board text (Ok proof)
 document_read board text proof is e =
     front_read board text proof end_line (Ok proof) is e (inr (tt, [], (tt, sym (append-nil end_line)), refl))
@@ -158,11 +181,13 @@ pub one_document : (board : PlainBoard) (a b : PlainProof) → IsBoard board →
     → proof_text board a ≡ proof_text board b → a ≡ b
 one_document board a b is is_a is_b e =
     let text = proof_text board a in
-    let same = one_reading board is text (Ok a) (Ok b) (document_read board text a is_a refl) (document_read board text b is_b e) in cc
+    let same = one_reading board is text (Ok a) (Ok b) (document_read board text a is_a refl)
+    (document_read board text b is_b e) in cc
 
 -- A text has one fault.
 pub one_fault : (board : PlainBoard) (text : List ℕ) (line other_line : ℕ) (kind other : ProofKind) → IsBoard board
-    → kind ≢ kinds.Memory → other ≢ kinds.Memory → HasProofFault board text line kind → HasProofFault board text other_line other
+    → kind ≢ kinds.Memory → other ≢ kinds.Memory → HasProofFault board text line kind
+    → HasProofFault board text other_line other
     → (line ≡ other_line) × (kind ≡ other)
 one_fault board text line other_line kind other is not not_too h g =
     let same = one_reading board is text (fault line kind) (fault other_line other)
@@ -171,7 +196,8 @@ one_fault board text line other_line kind other is not not_too h g =
     (ap (λ (f : ProofFault). f.line) one, ap (λ (f : ProofFault). f.kind) one)
 
 -- In the text of a document no line has a fault.
-pub no_fault : (board : PlainBoard) (text : List ℕ) (line : ℕ) (kind : ProofKind) (b : PlainProof) → IsBoard board → IsProof board b
+pub no_fault : (board : PlainBoard) (text : List ℕ) (line : ℕ) (kind : ProofKind) (b : PlainProof) → IsBoard board
+    → IsProof board b
     → text ≡ proof_text board b → HasProofFault board text line kind → kind ≡ kinds.Memory
 no_fault board text line kinds.Memory b is_board is e h = refl
 no_fault board text line kind b is_board is e h = absurd (not_both kind (λ e. absurd cc) h)
@@ -185,7 +211,8 @@ no_fault board text line kind b is_board is e h = absurd (not_both kind (λ e. a
 pub only : (board : PlainBoard) (text : List ℕ) (b : PlainProof) (r : Result Proof ProofFault) → IsBoard board
     → IfOk r (λ a. IsDocument board a × (text ≡ proof_text board (plain_proof board a)))
     → IfErr r (λ f. HasProofFault board text f.line f.kind)
-    → IsProof board b → text ≡ proof_text board b → MatchResult r (λ a. plain_proof board a ≡ b) (λ f. f.kind ≡ kinds.Memory)
+    → IsProof board b → text ≡ proof_text board b
+    → MatchResult r (λ a. plain_proof board a ≡ b) (λ f. f.kind ≡ kinds.Memory)
 only board text b (Ok a) is_board found fault is e =
     one_document board (plain_proof board a) b is_board found.0.is_proof is (sym found.1 ∙ e)
 only board text b (Err f) is_board found fault is e = no_fault board text f.line f.kind b is_board is e fault

@@ -1,5 +1,6 @@
 -- A row has one reading, or one fault.
-use Rattle.std.proofs.Common.{◌≡◌, ◌⊎◌, ℕ, ◌^◌, ◌+◌, ◌<◌, ◌≤◌, List, [], ◌∷◌, ◌++◌, Option, Some, None, map, refl, sym, ap, subst, ◌∙◌, arith, inl, inr}
+use Rattle.std.proofs.Common.{◌≡◌, ◌⊎◌, ℕ, ◌^◌, ◌+◌, ◌<◌, ◌≤◌, List, [], ◌∷◌, ◌++◌, Option, Some, None, map, refl, sym}
+use Rattle.std.proofs.Common.{ap, subst, ◌∙◌, arith, inl, inr}
 use Rattle.std.specs.Prelude.{codes}
 use Rattle.std.specs.Fmt.{decimal}
 use Rattle.std.proofs.lemmas.Fmt.{decimal_is_IsNumeral, decimal_injective}
@@ -18,19 +19,24 @@ use Rattle.proof_text.specs.declared.fault.ProofKind.TheVariants as kinds
 use Rattle.proof_text.specs.declared.proof.TheConstants.{MOST_TURNS}
 use Rattle.proof_text.specs.Proof.{AreTurns, IsAnswerRow, IsRequestRow}
 use Rattle.proof_text.specs.ProofText.{turns_text, answer_line, request_line}
-use Rattle.proof_text.specs.RowWords.{AnswerWords, RequestWords, IsTurnsText, AreAnswerWords, AreRequestWords, answer_words_line, request_words_line}
-use Rattle.proof_text.specs.ProofFaults.{RowFault, AnswerMisread, RequestMisread, SpellConfiguration, SpellLabels, SpellsTurns}
+use Rattle.proof_text.specs.RowWords.{AnswerWords, RequestWords, IsTurnsText, AreAnswerWords, AreRequestWords}
+use Rattle.proof_text.specs.RowWords.{answer_words_line, request_words_line}
+use Rattle.proof_text.specs.ProofFaults.{RowFault, AnswerMisread, RequestMisread, SpellConfiguration, SpellLabels}
+use Rattle.proof_text.specs.ProofFaults.{SpellsTurns}
 use Rattle.proof_text.proofs.OneStep.{OneReading, Line, Unless, one_line, one_unless}
-use Rattle.proof_text.proofs.RowWords.{no_digit_space, no_digit_lf, turns_unique, position_unique, numerals_unique, answer_parts, request_parts}
+use Rattle.proof_text.proofs.RowWords.{no_digit_space, no_digit_lf, turns_unique, position_unique, numerals_unique}
+use Rattle.proof_text.proofs.RowWords.{answer_parts, request_parts}
 use Rattle.proof_text.proofs.SpelledRows.{count_small, star_is_no_number}
 
 -- ---- rows of either side
 
 -- A text begins with one row at most or has one fault, and never both.
-pub record RowLaws {X : Type 0} (IsRow : X → Type 0) (at line : X → List ℕ) (Misread : List ℕ → ProofKind → Type 0) : Type 1 where
+pub record RowLaws {X : Type 0} (IsRow : X → Type 0) (at line : X → List ℕ)
+    (Misread : List ℕ → ProofKind → Type 0) : Type 1 where
   pub one : OneReading IsRow line
   pub one_kind : (MayStand : List ℕ → Type 0) (rest : List ℕ) (kind other : ProofKind)
-      → RowFault IsRow at line Misread MayStand rest kind → RowFault IsRow at line Misread MayStand rest other → kind ≡ other
+      → RowFault IsRow at line Misread MayStand rest kind → RowFault IsRow at line Misread MayStand rest other
+      → kind ≡ other
   pub sound : (MayStand : List ℕ → Type 0) (row : X) (rest more : List ℕ) (kind : ProofKind)
       → IsRow row → MayStand (at row) → rest ≡ line row ++ more → RowFault IsRow at line Misread MayStand rest kind → ⊥
 
@@ -41,7 +47,8 @@ module _ {X : Type 0} (IsRow : X → Type 0) (at line : X → List ℕ) (Misread
     (one_read : (rest : List ℕ) (v w : Option ProofKind) → Read rest v → Read rest w → v ≡ w)
     (misread : (rest : List ℕ) (kind : ProofKind) → Misread rest kind → Read rest (Some kind))
     (right : (row : X) (rest more : List ℕ) → IsRow row → rest ≡ line row ++ more → Read rest None) where
-  not_misread : (row : X) (rest more : List ℕ) (kind : ProofKind) → IsRow row → rest ≡ line row ++ more → Misread rest kind → ⊥
+  not_misread : (row : X) (rest more : List ℕ) (kind : ProofKind) → IsRow row → rest ≡ line row ++ more
+      → Misread rest kind → ⊥
   not_misread row rest more kind is e h =
       let same = one_read rest None (Some kind) (right row rest more is e) (misread rest kind h) in absurd cc
 
@@ -50,16 +57,20 @@ module _ {X : Type 0} (IsRow : X → Type 0) (at line : X → List ℕ) (Misread
     Fault kind = RowFault IsRow at line Misread MayStand rest kind
 
     abbrev Early : ProofKind → Type 0
-    Early kind = (kind ≡ kinds.Order) × ((row : X) × IsRow row × (more : List ℕ) × (rest ≡ line row ++ more) × ¬ MayStand (at row))
+    Early kind = (kind ≡ kinds.Order)
+        × ((row : X) × IsRow row × (more : List ℕ) × (rest ≡ line row ++ more) × ¬ MayStand (at row))
 
     early_or_misread : (kind : ProofKind) → Fault kind → Early kind ⊎ Misread rest kind
     early_or_misread kinds.Order h = inl (refl, h)
     early_or_misread kind h = inr h
 
-    same_kind : (kind other : ProofKind) → Early kind ⊎ Misread rest kind → Early other ⊎ Misread rest other → kind ≡ other
+    same_kind : (kind other : ProofKind) → Early kind ⊎ Misread rest kind → Early other ⊎ Misread rest other
+        → kind ≡ other
     same_kind kind other (inl f) (inl g) = f.0 ∙ sym g.0
-    same_kind kind other (inl (e, (row, is, more, stands, early))) (inr g) = absurd (not_misread row rest more other is stands g)
-    same_kind kind other (inr f) (inl (e, (row, is, more, stands, early))) = absurd (not_misread row rest more kind is stands f)
+    same_kind kind other (inl (e, (row, is, more, stands, early))) (inr g) =
+        absurd (not_misread row rest more other is stands g)
+    same_kind kind other (inr f) (inl (e, (row, is, more, stands, early))) =
+        absurd (not_misread row rest more kind is stands f)
     same_kind kind other (inr f) (inr g) =
         let same = one_read rest (Some kind) (Some other) (misread rest kind f) (misread rest other g) in cc
 
@@ -76,12 +87,14 @@ module _ {X : Type 0} (IsRow : X → Type 0) (at line : X → List ℕ) (Misread
   row_laws = record {
     one = one;
     one_kind = one_kind;
-    sound = λ MayStand row rest more kind is may e h. sound MayStand rest row more kind is may e (early_or_misread MayStand rest kind h);
+    sound = λ MayStand row rest more kind is may e h. sound MayStand rest row more kind is may e
+        (early_or_misread MayStand rest kind h);
   }
 
 -- ---- the words of a row that was written
 
-same_places : (count bound labels : ℕ) (ms ns : List ℕ) → bound ≤ 2 ^ 32 → AreNumbers count bound ms → AreNumbers count bound ns
+same_places : (count bound labels : ℕ) (ms ns : List ℕ) → bound ≤ 2 ^ 32 → AreNumbers count bound ms
+    → AreNumbers count bound ns
     → map (place_word labels) ms ≡ map (place_word labels) ns → ms ≡ ns
 same_places count bound labels ms ns small are_ms are_ns e =
     same_words labels ms ns (small_numbers bound ms small are_ms.1) (small_numbers bound ns small are_ns.1) e
@@ -95,9 +108,11 @@ module _ (board : PlainBoard) (is_board : IsBoard board) where
 
   position_texts : (at : List ℕ) → IsConfiguration board at
       → ArePlaceTexts board.pebbles board.labels (places board) (map (place_word board.labels) at)
-  position_texts at is = words_are_texts board.pebbles board.labels (places board) at few_all (is.each_pebble, is.each_place)
+  position_texts at is =
+      words_are_texts board.pebbles board.labels (places board) at few_all (is.each_pebble, is.each_place)
 
-  position_spelled : (at : List ℕ) → IsConfiguration board at → SpellConfiguration board (map (place_word board.labels) at)
+  position_spelled : (at : List ℕ) → IsConfiguration board at
+      → SpellConfiguration board (map (place_word board.labels) at)
   position_spelled at is = words_spell board.pebbles board.labels (places board) at (is.each_pebble, is.each_place)
 
   same_position : (at other : List ℕ) → IsConfiguration board at → IsConfiguration board other
@@ -123,14 +138,17 @@ one_answer_words : (pebbles labels bound : ℕ) → OneReading (AreAnswerWords p
 one_answer_words pebbles labels bound first second x y p q e =
     let one = codes " take" ++ (spaced_texts first.take ++ 10 ∷ x) in
     let other = codes " take" ++ (spaced_texts second.take ++ 10 ∷ y) in
-    let a = position_unique pebbles labels bound first.at second.at (first.turns ++ one) (second.turns ++ other) p.at q.at
+    let a = position_unique pebbles labels bound first.at second.at (first.turns ++ one)
+    (second.turns ++ other) p.at q.at
     (sym (answer_parts first x) ∙ e ∙ answer_parts second y) in
     let t = turns_unique first.turns second.turns one other p.turns q.turns
     (inl (no_digit_space (codes "take" ++ (spaced_texts first.take ++ 10 ∷ x))))
     (no_digit_space (codes "take" ++ (spaced_texts second.take ++ 10 ∷ y))) a.1 in
-    let s = texts_unique pebbles labels labels first.take second.take (10 ∷ x) (10 ∷ y) p.take q.take (no_digit_lf x) (no_digit_lf y)
+    let s = texts_unique pebbles labels labels first.take second.take (10 ∷ x) (10 ∷ y) p.take q.take (no_digit_lf x)
+    (no_digit_lf y)
     (append_cancel_left (codes " take") _ _ t.1) in
-    let same : ◌≡◌ {A = AnswerWords} (record { at = first.at; turns = first.turns; take = first.take }) second = rw (a.0, t.0, s.0) refl in
+    let same : ◌≡◌ {A = AnswerWords} (record { at = first.at; turns = first.turns; take = first.take }) second =
+    rw (a.0, t.0, s.0) refl in
     (same, append_cancel_left (10 ∷ []) x y s.1)
 
 abbrev answer_words : PlainBoard → AnswerRow → AnswerWords
@@ -148,10 +166,12 @@ AnswerRead board claim rest found =
     (Unless (Some kinds.Number) (SpellsTurns claim words.turns) (λ v. v ≡ None)))
     found
 
-answer_misread : (board : PlainBoard) (claim : Claim) (rest : List ℕ) (kind : ProofKind) → AnswerMisread board claim rest kind
+answer_misread : (board : PlainBoard) (claim : Claim) (rest : List ℕ) (kind : ProofKind)
+    → AnswerMisread board claim rest kind
     → AnswerRead board claim rest (Some kind)
 answer_misread board claim rest kinds.Row h = inl (h, refl)
-answer_misread board claim rest kinds.Label (words, (are, more, e), wrong) = inr (words, more, (are, e), inl (wrong, refl))
+answer_misread board claim rest kinds.Label (words, (are, more, e), wrong) =
+    inr (words, more, (are, e), inl (wrong, refl))
 answer_misread board claim rest kinds.Number (words, (are, more, e), at, take, wrong) =
     inr (words, more, (are, e), inr ((at, take), inl (wrong, refl)))
 answer_misread board claim rest kind h = absurd h
@@ -167,19 +187,24 @@ module _ (board : PlainBoard) (claim : Claim) (is_board : IsBoard board) where
 
   one_answer : OneReading (IsAnswerRow board claim) (answer_line board)
   one_answer p q x y is_p is_q e =
-      let s = one_answer_words board.pebbles board.labels (places board) (answer_words board p) (answer_words board q) x y
+      let s = one_answer_words board.pebbles board.labels (places board) (answer_words board p)
+      (answer_words board q) x y
       (are_answer_words p is_p) (are_answer_words q is_q) e in
       let at = same_position board is_board p.at q.at is_p.at is_q.at (ap (λ (words : AnswerWords). words.at) s.0) in
-      let turns = same_turns claim p.turns q.turns is_p.turns is_q.turns (ap (λ (words : AnswerWords). words.turns) s.0) in
-      let answers = same_places board.pebbles board.labels board.labels p.answers q.answers (omega (arith, few_labels board is_board))
+      let turns = same_turns claim p.turns q.turns is_p.turns is_q.turns
+      (ap (λ (words : AnswerWords). words.turns) s.0) in
+      let answers = same_places board.pebbles board.labels board.labels p.answers q.answers
+      (omega (arith, few_labels board is_board))
       is_p.answers is_q.answers
       (ap (λ (words : AnswerWords). words.take) s.0) in
-      let same : ◌≡◌ {A = AnswerRow} (record { at = p.at; turns = p.turns; answers = p.answers }) q = rw (at, turns, answers) refl in
+      let same : ◌≡◌ {A = AnswerRow} (record { at = p.at; turns = p.turns; answers = p.answers }) q =
+      rw (at, turns, answers) refl in
       (same, s.1)
 
   pub answer_laws : RowLaws (IsAnswerRow board claim) (λ row. row.at) (answer_line board) (AnswerMisread board claim)
   answer_laws =
-      row_laws (IsAnswerRow board claim) (λ row. row.at) (answer_line board) (AnswerMisread board claim) (AnswerRead board claim) one_answer
+      row_laws (IsAnswerRow board claim) (λ row. row.at) (answer_line board) (AnswerMisread board claim)
+      (AnswerRead board claim) one_answer
       (λ rest. one_line _ answer_words_line rest _ _ (one_answer_words board.pebbles board.labels (places board))
       (λ words more are. one_unless _ _ _ (one_unless _ _ _ (λ v w e f. e ∙ sym f))))
       (answer_misread board claim)
@@ -188,7 +213,10 @@ module _ (board : PlainBoard) (claim : Claim) (is_board : IsBoard board) where
         more,
         (are_answer_words row is, e),
         inr (
-          (position_spelled board is_board row.at is.at, words_spell board.pebbles board.labels board.labels row.answers is.answers),
+          (
+            position_spelled board is_board row.at is.at,
+            words_spell board.pebbles board.labels board.labels row.answers is.answers,
+          ),
           inr ((row.turns, is.turns, refl), refl),
         ),
       ))
@@ -202,14 +230,17 @@ one_request_words pebbles labels bound first second x y p q e =
     let a = position_unique pebbles labels bound first.at second.at (first.left ++ one) (second.left ++ other) p.at q.at
     (sym (request_parts first x) ∙ e ∙ request_parts second y) in
     let t = numerals_unique first.left second.left one other p.left q.left
-    (no_digit_space (codes "ask " ++ (first.ask ++ 10 ∷ x))) (no_digit_space (codes "ask " ++ (second.ask ++ 10 ∷ y))) a.1 in
+    (no_digit_space (codes "ask " ++ (first.ask ++ 10 ∷ x)))
+    (no_digit_space (codes "ask " ++ (second.ask ++ 10 ∷ y))) a.1 in
     let s = numerals_unique first.ask second.ask (10 ∷ x) (10 ∷ y) p.ask q.ask (no_digit_lf x) (no_digit_lf y)
     (append_cancel_left (codes " ask ") _ _ t.1) in
-    let same : ◌≡◌ {A = RequestWords} (record { at = first.at; left = first.left; ask = first.ask }) second = rw (a.0, t.0, s.0) refl in
+    let same : ◌≡◌ {A = RequestWords} (record { at = first.at; left = first.left; ask = first.ask }) second =
+    rw (a.0, t.0, s.0) refl in
     (same, append_cancel_left (10 ∷ []) x y s.1)
 
 abbrev request_words : PlainBoard → RequestRow → RequestWords
-request_words board row = record { at = map (place_word board.labels) row.at; left = decimal row.left; ask = decimal row.request }
+request_words board row =
+    record { at = map (place_word board.labels) row.at; left = decimal row.left; ask = decimal row.request }
 
 -- The reading of an adversary's row.
 abbrev RequestRead : PlainBoard → List ℕ → Option ProofKind → Type 0
@@ -224,7 +255,8 @@ request_misread : (board : PlainBoard) (rest : List ℕ) (kind : ProofKind) → 
     → RequestRead board rest (Some kind)
 request_misread board rest kinds.Row h = inl (h, refl)
 request_misread board rest kinds.Label (words, (are, more, e), wrong) = inr (words, more, (are, e), inl (wrong, refl))
-request_misread board rest kinds.Pebble (words, (are, more, e), at, wrong) = inr (words, more, (are, e), inr (at, inl (wrong, refl)))
+request_misread board rest kinds.Pebble (words, (are, more, e), at, wrong) =
+    inr (words, more, (are, e), inr (at, inl (wrong, refl)))
 request_misread board rest kinds.Number (words, (are, more, e), at, ask, wrong) =
     inr (words, more, (are, e), inr (at, inr (ask, inl (wrong, refl))))
 request_misread board rest kind h = absurd h
@@ -246,18 +278,22 @@ module _ (board : PlainBoard) (is_board : IsBoard board) where
 
   one_request : OneReading (IsRequestRow board) (request_line board)
   one_request p q x y is_p is_q e =
-      let s = one_request_words board.pebbles board.labels (places board) (request_words board p) (request_words board q) x y
+      let s = one_request_words board.pebbles board.labels (places board) (request_words board p)
+      (request_words board q) x y
       (are_request_words p is_p) (are_request_words q is_q) e in
       let at = same_position board is_board p.at q.at is_p.at is_q.at (ap (λ (words : RequestWords). words.at) s.0) in
-      let left = decimal_injective p.left q.left (small_left p is_p) (small_left q is_q) (ap (λ (words : RequestWords). words.left) s.0) in
+      let left = decimal_injective p.left q.left (small_left p is_p) (small_left q is_q)
+      (ap (λ (words : RequestWords). words.left) s.0) in
       let ask = decimal_injective p.request q.request (small_request p is_p) (small_request q is_q)
       (ap (λ (words : RequestWords). words.ask) s.0) in
-      let same : ◌≡◌ {A = RequestRow} (record { at = p.at; left = p.left; request = p.request }) q = rw (at, left, ask) refl in
+      let same : ◌≡◌ {A = RequestRow} (record { at = p.at; left = p.left; request = p.request }) q =
+      rw (at, left, ask) refl in
       (same, s.1)
 
   pub request_laws : RowLaws (IsRequestRow board) (λ row. row.at) (request_line board) (RequestMisread board)
   request_laws =
-      row_laws (IsRequestRow board) (λ row. row.at) (request_line board) (RequestMisread board) (RequestRead board) one_request
+      row_laws (IsRequestRow board) (λ row. row.at) (request_line board) (RequestMisread board)
+      (RequestRead board) one_request
       (λ rest. one_line _ request_words_line rest _ _ (one_request_words board.pebbles board.labels (places board))
       (λ words more are. one_unless _ _ _ (one_unless _ _ _ (one_unless _ _ _ (λ v w e f. e ∙ sym f)))))
       (request_misread board)

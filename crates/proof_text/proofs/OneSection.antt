@@ -1,5 +1,7 @@
 -- A section has one reading, or one fault.
-use Rattle.std.proofs.Common.{◌≡◌, ◌≢◌, ◌⊎◌, ℕ, ◌+◌, ◌<◌, ◌≤◌, Bool, true, false, true≢false, cond, List, [], ◌∷◌, ◌++◌, length, get_or, All, AllPairs, refl, sym, ap, subst, ◌∙◌, append-nil, append_assoc, arith, inl, inr}
+use Rattle.std.proofs.Common.{◌≡◌, ◌≢◌, ◌⊎◌, ℕ, ◌+◌, ◌<◌, ◌≤◌, Bool, true, false, true≢false, cond, List, [], ◌∷◌, ◌++◌}
+use Rattle.std.proofs.Common.{length, get_or, All, AllPairs, refl, sym, ap, subst, ◌∙◌, append-nil, append_assoc, arith}
+use Rattle.std.proofs.Common.{inl, inr}
 use Rattle.std.specs.List.{flat_map, AllByRecursion}
 use Rattle.std.proofs.lemmas.Bool.{cases_order}
 use Rattle.std.proofs.lemmas.List.{length-append, get_or_at}
@@ -22,8 +24,10 @@ record Follow {X : Type 0} (line : X → List ℕ) (rows all : List X) (rest y :
   parts : all ≡ rows ++ more
   spelled : rest ≡ flat_map line more ++ y
 
-rows_split : {X : Type 0} (IsRow : X → Type 0) (line : X → List ℕ) (ps qs : List X) (x y : List ℕ) → OneReading IsRow line
-    → AllByRecursion IsRow ps → AllByRecursion IsRow qs → length ps ≤ length qs → flat_map line ps ++ x ≡ flat_map line qs ++ y
+rows_split : {X : Type 0} (IsRow : X → Type 0) (line : X → List ℕ) (ps qs : List X) (x y : List ℕ)
+    → OneReading IsRow line
+    → AllByRecursion IsRow ps → AllByRecursion IsRow qs → length ps ≤ length qs
+    → flat_map line ps ++ x ≡ flat_map line qs ++ y
     → Follow line ps qs x y
 rows_split {X} IsRow line [] qs x y one is_p is_q le e = record { more = qs; parts = refl; spelled = e }
 rows_split {X} IsRow line (p ∷ ps) [] x y one is_p is_q le e = absurd (omega arith)
@@ -31,19 +35,25 @@ rows_split {X} IsRow line (p ∷ ps) (q ∷ qs) x y one is_p is_q le e =
     let s = one p q (flat_map line ps ++ x) (flat_map line qs ++ y) is_p.0 is_q.0
     (sym (append_assoc (line p) (flat_map line ps) x) ∙ e ∙ append_assoc (line q) (flat_map line qs) y) in
     let f = rows_split IsRow line ps qs x y one is_p.1 is_q.1 (omega arith) s.1 in
-    record { more = f.more; parts = ap (λ (r : X). r ∷ qs) (sym s.0) ∙ ap (λ (rs : List X). p ∷ rs) f.parts; spelled = f.spelled }
+    record {
+      more = f.more;
+      parts = ap (λ (r : X). r ∷ qs) (sym s.0) ∙ ap (λ (rs : List X). p ∷ rs) f.parts;
+      spelled = f.spelled;
+    }
 
 abbrev Ascend : {X : Type 0} → PlainBoard → (X → List ℕ) → List X → Type 0
 Ascend board at rows = AllPairs (λ first second. IsBefore board (at first) (at second)) rows
 
-may_follow : {X : Type 0} (board : PlainBoard) (at : X → List ℕ) (rows : List X) (m : X) (ms : List X) → Ascend board at (rows ++ m ∷ ms)
+may_follow : {X : Type 0} (board : PlainBoard) (at : X → List ℕ) (rows : List X) (m : X) (ms : List X)
+    → Ascend board at (rows ++ m ∷ ms)
     → MayFollow board at rows (at m)
 may_follow {X} board at rows m ms ascending before last e =
     let whole : rows ++ m ∷ ms ≡ before ++ last ∷ (m ∷ ms) =
     ap (λ (ps : List X). ps ++ m ∷ ms) e ∙ append_assoc before (last ∷ []) (m ∷ ms) in
     let len : length rows ≡ length before + 1 = omega (arith, ap length e, length-append before (last ∷ [])) in
     let h = ascending (length before) (length rows) m (omega arith) (omega (arith, length-append rows (m ∷ ms))) in
-    let at_last = ap (λ (ps : List X). get_or ps (length before) m) whole ∙ get_or_at before last (m ∷ ms) m (length before) refl in
+    let at_last = ap (λ (ps : List X). get_or ps (length before) m) whole
+    ∙ get_or_at before last (m ∷ ms) m (length before) refl in
     rw (at_last, get_or_at rows m ms m (length rows) refl) at h
 
 is_row : {X : Type 0} (IsRow : X → Type 0) (rows : List X) (m : X) (ms : List X) → All IsRow (rows ++ m ∷ ms) → IsRow m
@@ -52,7 +62,8 @@ is_row {X} IsRow rows m ms each =
     rw (get_or_at rows m ms m (length rows) refl) at h
 
 -- the rows of a section up to a faulty one
-record FaultyRow {X : Type 0} (board : PlainBoard) (IsRow : X → Type 0) (at : X → List ℕ) (word : List ℕ) (line : X → List ℕ)
+record FaultyRow {X : Type 0} (board : PlainBoard) (IsRow : X → Type 0) (at : X → List ℕ) (word : List ℕ)
+    (line : X → List ℕ)
     (Misread : List ℕ → ProofKind → Type 0) (text : List ℕ) (head number : ℕ) (kind : ProofKind) : Type 0 where
   count : ℕ
   rows : List X
@@ -69,14 +80,17 @@ module _ {X : Type 0} (board : PlainBoard) (IsRow : X → Type 0) (at : X → Li
 
   module _ {F : Type 0} (fault : ℕ → ProofKind → F) (asked : Bool) (text : List ℕ) where
     abbrev InPart : ℕ → ℕ → ProofKind → Type 0
-    InPart head number kind = InSection board IsRow at (number_line word) line (RowFault IsRow at line Misread) text head number kind
+    InPart head number kind =
+        InSection board IsRow at (number_line word) line (RowFault IsRow at line Misread) text head number kind
 
     abbrev PartFault : ℕ → F → Type 0
     PartFault head found =
-        (asked ≡ true) × (number : ℕ) × (kind : ProofKind) × (kind ≢ kinds.Memory) × InPart head number kind × (found ≡ fault number kind)
+        (asked ≡ true) × (number : ℕ) × (kind : ProofKind) × (kind ≢ kinds.Memory) × InPart head number kind
+        × (found ≡ fault number kind)
 
     abbrev PartStands : List X → List ℕ → Type 0
-    PartStands rows more = AreRows board IsRow at rows × (asked ≡ false → rows ≡ []) × (text ≡ cond asked (section rows) [] ++ more)
+    PartStands rows more =
+        AreRows board IsRow at rows × (asked ≡ false → rows ≡ []) × (text ≡ cond asked (section rows) [] ++ more)
 
     -- The finding at a section: its fault, or the finding after its rows. A section that isn't asked for is left out.
     abbrev pub Part : ℕ → (List X → List ℕ → F → Type 0) → F → Type 0
@@ -87,7 +101,8 @@ module _ {X : Type 0} (board : PlainBoard) (IsRow : X → Type 0) (at : X → Li
     Come count rows rest = RowsCome board IsRow at (number_line word) line text count rows rest
 
     -- all rows of a section have come
-    all_come : (rows : List X) (tail : List ℕ) → AreRows board IsRow at rows → text ≡ section rows ++ tail → Come (length rows) rows tail
+    all_come : (rows : List X) (tail : List ℕ) → AreRows board IsRow at rows → text ≡ section rows ++ tail
+        → Come (length rows) rows tail
     all_come rows tail are e = record {
       few = are.few;
       come = omega arith;
@@ -99,14 +114,16 @@ module _ {X : Type 0} (board : PlainBoard) (IsRow : X → Type 0) (at : X → Li
     alike : (m n : ℕ) (ps qs : List X) (x y : List ℕ) → Come m ps x → Come n qs y
         → (m ≡ n) × (length ps ≤ length qs → Follow line ps qs x y)
     alike m n ps qs x y p q =
-        let s = number_line_unique word m n (flat_map line ps ++ x) (flat_map line qs ++ y) (omega (arith, p.few)) (omega (arith, q.few))
+        let s = number_line_unique word m n (flat_map line ps ++ x) (flat_map line qs ++ y) (omega (arith, p.few))
+        (omega (arith, q.few))
         (sym p.spelled ∙ q.spelled) in (
           s.0,
           λ le. rows_split IsRow line ps qs x y laws.one
               (recursion_from_All IsRow ps p.are_rows.each) (recursion_from_All IsRow qs q.are_rows.each) le s.1,
         )
 
-    same_rows : (m n : ℕ) (ps qs : List X) (x y : List ℕ) → Come m ps x → Come n qs y → length ps ≡ length qs → (ps ≡ qs) × (x ≡ y)
+    same_rows : (m n : ℕ) (ps qs : List X) (x y : List ℕ) → Come m ps x → Come n qs y → length ps ≡ length qs
+        → (ps ≡ qs) × (x ≡ y)
     same_rows m n ps qs x y p q same = go f.more f.parts f.spelled
       where
         f : Follow line ps qs x y
@@ -117,7 +134,8 @@ module _ {X : Type 0} (board : PlainBoard) (IsRow : X → Type 0) (at : X → Li
         go (r ∷ rs) parts spelled = absurd (omega (arith, ap length parts, length-append ps (r ∷ rs), same))
 
     -- no row comes after a faulty one
-    no_more : (m n : ℕ) (ps qs : List X) (x y : List ℕ) (kind : ProofKind) → Come m ps x → Come n qs y → length ps < length qs
+    no_more : (m n : ℕ) (ps qs : List X) (x y : List ℕ) (kind : ProofKind) → Come m ps x → Come n qs y
+        → length ps < length qs
         → RowFault IsRow at line Misread (MayFollow board at ps) x kind → ⊥
     no_more m n ps qs x y kind p q short faulty = go f.more f.parts f.spelled
       where
@@ -132,7 +150,8 @@ module _ {X : Type 0} (board : PlainBoard) (IsRow : X → Type 0) (at : X → Li
             (may_follow board at ps r rs (subst (λ (rows : List X). Ascend board at rows) parts q.are_rows.ascending))
             (spelled ∙ append_assoc (line r) (flat_map line rs) y) faulty
 
-    same_section : (ps qs : List X) (x y : List ℕ) → AreRows board IsRow at ps → AreRows board IsRow at qs → text ≡ section ps ++ x
+    same_section : (ps qs : List X) (x y : List ℕ) → AreRows board IsRow at ps → AreRows board IsRow at qs
+        → text ≡ section ps ++ x
         → text ≡ section qs ++ y → (ps ≡ qs) × (x ≡ y)
     same_section ps qs x y are_p are_q e f =
         let p = all_come ps x are_p e in
@@ -144,7 +163,8 @@ module _ {X : Type 0} (board : PlainBoard) (IsRow : X → Type 0) (at : X → Li
       Faulty number kind = FaultyRow board IsRow at word line Misread text head number kind
 
       abbrev NoHead : ℕ → ProofKind → Type 0
-      NoHead number kind = (kind ≡ kinds.Section) × (number ≡ head) × Lacks (InRange 0 MAX_CONFIGURATIONS) (number_line word) text
+      NoHead number kind =
+          (kind ≡ kinds.Section) × (number ≡ head) × Lacks (InRange 0 MAX_CONFIGURATIONS) (number_line word) text
 
       -- the fault of a section is in its head or in a row
       head_or_row : (number : ℕ) (kind : ProofKind) → kind ≢ kinds.Memory
@@ -156,17 +176,21 @@ module _ {X : Type 0} (board : PlainBoard) (IsRow : X → Type 0) (at : X → Li
           inr (record { count = h.0; rows = h.1; rest = h.2; come = h.3; short = h.4; number_is = h.5; fault = h.6 })
 
       -- if rows have come, the head isn't at fault
-      head_stands : (number count : ℕ) (kind : ProofKind) (rows : List X) (rest : List ℕ) → NoHead number kind → Come count rows rest → ⊥
-      head_stands number count kind rows rest f come = f.2 count (flat_map line rows ++ rest) (omega arith, come.few) come.spelled
+      head_stands : (number count : ℕ) (kind : ProofKind) (rows : List X) (rest : List ℕ) → NoHead number kind
+          → Come count rows rest → ⊥
+      head_stands number count kind rows rest f come =
+          f.2 count (flat_map line rows ++ rest) (omega arith, come.few) come.spelled
 
-      same_row : (m n : ℕ) (kind other : ProofKind) (a : Faulty m kind) (b : Faulty n other) → length a.rows ≡ length b.rows
+      same_row : (m n : ℕ) (kind other : ProofKind) (a : Faulty m kind) (b : Faulty n other)
+          → length a.rows ≡ length b.rows
           → (m ≡ n) × (kind ≡ other)
       same_row m n kind other a b same =
           let s = same_rows a.count b.count a.rows b.rows a.rest b.rest a.come b.come same in (
             omega (arith, a.number_is, b.number_is, same),
             laws.one_kind (MayFollow board at b.rows) b.rest kind other
                 (subst (λ (rest : List ℕ). RowFault IsRow at line Misread (MayFollow board at b.rows) rest kind) s.1
-                (subst (λ (rows : List X). RowFault IsRow at line Misread (MayFollow board at rows) a.rest kind) s.0 a.fault))
+                (subst (λ (rows : List X). RowFault IsRow at line Misread
+                (MayFollow board at rows) a.rest kind) s.0 a.fault))
                 b.fault,
           )
 
@@ -178,8 +202,10 @@ module _ {X : Type 0} (board : PlainBoard) (IsRow : X → Type 0) (at : X → Li
       one_fault m n kind other (inr a) (inr b) =
           elim (cases_order (length a.rows) (length b.rows)) [
             | inl same ↦ same_row m n kind other a b same
-            | inr (inl before) ↦ absurd (no_more a.count b.count a.rows b.rows a.rest b.rest kind a.come b.come before a.fault)
-            | inr (inr after) ↦ absurd (no_more b.count a.count b.rows a.rows b.rest a.rest other b.come a.come after b.fault)
+            | inr (inl before) ↦
+                absurd (no_more a.count b.count a.rows b.rows a.rest b.rest kind a.come b.come before a.fault)
+            | inr (inr after) ↦
+                absurd (no_more b.count a.count b.rows a.rows b.rest a.rest other b.come a.come after b.fault)
           ]
 
       no_fault : (number : ℕ) (kind : ProofKind) (rows : List X) (tail : List ℕ) → Come (length rows) rows tail
@@ -208,4 +234,5 @@ module _ {X : Type 0} (board : PlainBoard) (IsRow : X → Type 0) (at : X → Li
       pub one_part : {F : Type 0} (fault : ℕ → ProofKind → F) (asked : Bool) (After : List X → List ℕ → F → Type 0)
           → ((rows : List X) (more : List ℕ) (v w : F) → After rows more v → After rows more w → v ≡ w)
           → (v w : F) → Part fault asked text head After v → Part fault asked text head After w → v ≡ w
-      one_part fault asked After one_after = one_step (part_step fault asked) After (λ rows more stands. one_after rows more)
+      one_part fault asked After one_after =
+          one_step (part_step fault asked) After (λ rows more stands. one_after rows more)

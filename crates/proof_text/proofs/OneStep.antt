@@ -26,7 +26,8 @@ module _ {X F : Type 0} {Faulty : F → Type 0} {Taken : X → List ℕ → Type
   one_step v w (inr (x, a, taken, after)) (inl g) = absurd (step.apart w x a g taken)
   one_step v w (inr (x, a, taken, after)) (inr (y, b, taken_too, later)) =
       let s = step.same x y a b taken taken_too in
-      one_after y b taken_too v w (subst (λ (more : List ℕ). After y more v) s.1 (subst (λ (z : X). After z a v) s.0 after)) later
+      one_after y b taken_too v w (subst (λ (more : List ℕ). After y more v) s.1
+      (subst (λ (z : X). After z a v) s.0 after)) later
 
 -- The finding at a line of a form: a fault if the text doesn't begin with one, or the finding after it.
 abbrev Wanting : {X F : Type 0} → (X → Type 0) → (X → List ℕ) → List ℕ → F → F → Type 0
@@ -55,7 +56,8 @@ module _ {X F : Type 0} (P : X → Type 0) (form : X → List ℕ) (text : List 
 abbrev pub Unless : {F : Type 0} → F → Type 0 → (F → Type 0) → F → Type 0
 Unless fault Right Later found = ((¬ Right) × (found ≡ fault)) ⊎ (Right × Later found)
 
-pub one_unless : {F : Type 0} (fault : F) (Right : Type 0) (Later : F → Type 0) → ((v w : F) → Later v → Later w → v ≡ w)
+pub one_unless : {F : Type 0} (fault : F) (Right : Type 0) (Later : F → Type 0)
+    → ((v w : F) → Later v → Later w → v ≡ w)
     → (v w : F) → Unless fault Right Later v → Unless fault Right Later w → v ≡ w
 one_unless fault Right Later one v w (inl f) (inl g) = f.1 ∙ sym g.1
 one_unless fault Right Later one v w (inl f) (inr g) = absurd (f.0 g.0)

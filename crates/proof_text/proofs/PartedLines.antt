@@ -43,25 +43,31 @@ module _ (E : Type 0) {R S : Type 0} (line : R → List ℕ) (bytes : S → List
       ∙ ap (flat_map line) (sym (flat_map-cons (λ l. l) x.now (map (λ (y : Bor (List R)). y.now) parts)))
 
 -- so they are those of all rows, for each claim, unless a part was refused memory
-pub joined : {R S E V : Type 0} (line : Claim → R → List ℕ) (bytes : S → List ℕ) (items : V → List S) (rows : List R) (size : ℕ) → 0 < size
+pub joined : {R S E V : Type 0} (line : Claim → R → List ℕ) (bytes : S → List ℕ) (items : V → List S) (rows : List R)
+    (size : ℕ)
+    → 0 < size
     → (parts : List (Bor (List R))) → map (λ (x : Bor (List R)). x.now) parts ≡ chunks_of size rows
     → (made : List (Result S E))
-    → AllZip (λ (x : Bor (List R)) (y : Result S E). IfOk y (λ s. (claim : Claim) → bytes s ≡ flat_map (line claim) x.now)) parts made
+    → AllZip (λ (x : Bor (List R)) (y : Result S E). IfOk y
+    (λ s. (claim : Claim) → bytes s ≡ flat_map (line claim) x.now)) parts made
     → (lines : Result V E)
     → MatchResult lines (λ v. (texts : List S) × (made ≡ map Ok texts) × (items v ≡ texts)) (λ e. Contains made (Err e))
     → IfOk lines (λ v. (claim : Claim) → flat_map bytes (items v) ≡ flat_map (line claim) rows)
 joined line bytes items rows size some parts parts_are made are (Err e) gathered = tt
 joined {R} {S} {E} line bytes items rows size some parts parts_are made are (Ok v) gathered = λ claim.
     let texts : List S = gathered.0 in
-    let each = of_claim claim parts texts (subst (λ (l : List (Result S E)). AllZip (λ (x : Bor (List R)) (y : Result S E).
+    let each = of_claim claim parts texts
+    (subst (λ (l : List (Result S E)). AllZip (λ (x : Bor (List R)) (y : Result S E).
     IfOk y (λ s. (other : Claim) → bytes s ≡ flat_map (line other) x.now)) parts l) gathered.1 are) in
     ap (flat_map bytes) gathered.2 ∙ side_by_side E (line claim) bytes parts texts each
     ∙ ap (λ (l : List (List R)). flat_map (line claim) (flat_map (λ x. x) l)) parts_are
     ∙ ap (flat_map (line claim)) (chunks_of-concat size rows some)
   where
     of_claim : (claim : Claim) (xs : List (Bor (List R))) (ss : List S)
-        → AllZip (λ (x : Bor (List R)) (y : Result S E). IfOk y (λ s. (other : Claim) → bytes s ≡ flat_map (line other) x.now)) xs (map Ok ss)
-        → AllZip (λ (x : Bor (List R)) (y : Result S E). IfOk y (λ s. bytes s ≡ flat_map (line claim) x.now)) xs (map Ok ss)
+        → AllZip (λ (x : Bor (List R)) (y : Result S E). IfOk y
+        (λ s. (other : Claim) → bytes s ≡ flat_map (line other) x.now)) xs (map Ok ss)
+        → AllZip (λ (x : Bor (List R)) (y : Result S E). IfOk y (λ s. bytes s ≡ flat_map (line claim) x.now)) xs
+        (map Ok ss)
     of_claim claim [] [] h = tt
     of_claim claim [] (s ∷ ss) h = absurd h
     of_claim claim (x ∷ xs) [] h = absurd h

@@ -1,5 +1,6 @@
 -- Rows that name their configuration by its rank.
-use Rattle.std.proofs.Common.{◌≡◌, ℕ, zero, suc, ◌/◌, ◌%◌, ◌^◌, ◌<◌, ◌≤◌, List, get_or, map, slice_index, take, refl, inl, inr, sym, ap, ◌∙◌, subst, arith, div-lt_iff_lt-mul}
+use Rattle.std.proofs.Common.{◌≡◌, ℕ, zero, suc, ◌/◌, ◌%◌, ◌^◌, ◌<◌, ◌≤◌, List, get_or, map, slice_index, take, refl}
+use Rattle.std.proofs.Common.{inl, inr, sym, ap, ◌∙◌, subst, arith, div-lt_iff_lt-mul}
 use Rattle.std.specs.List.{All}
 use Rattle.std.proofs.lemmas.Bool.{cases_lt}
 use Rattle.std.proofs.Math.Nat.{one-le-pow, pow-succ'}
@@ -13,17 +14,22 @@ use Rattle.positions.specs.declared.claim.Claim.{Claim}
 use Rattle.positions.proofs.Cited.{rank_of-configuration_at}
 use Rattle.proof_text.specs.declared.proof.LabellerRow.{LabellerRow}
 use Rattle.proof_text.specs.declared.proof.AdversaryRow.{AdversaryRow}
-use Rattle.proof_text.specs.Proof.{IsAnswerRow, IsRequestRow, AreAnswerRows, AreRequestRows, IsPadded, answer_row, request_row, answer_rows, request_rows}
+use Rattle.proof_text.specs.Proof.{IsAnswerRow, IsRequestRow, AreAnswerRows, AreRequestRows, IsPadded, answer_row}
+use Rattle.proof_text.specs.Proof.{request_row, answer_rows, request_rows}
 
 -- digits below the base have a number below the base's power
-number_small : (base count number : ℕ) → 1 ≤ base → 1 ≤ count → All (λ label. label < base) (digits_of base count number) → number < base ^ count
+number_small : (base count number : ℕ) → 1 ≤ base → 1 ≤ count
+    → All (λ label. label < base) (digits_of base count number) → number < base ^ count
 number_small base zero number some one each = absurd (omega arith)
 number_small base (suc count) number some one each =
-    let first : number / base ^ count < base = All-head (λ l. l < base) (number / base ^ count) (digits_of base count (number % base ^ count)) each in
+    let first : number / base ^ count < base =
+    All-head (λ l. l < base) (number / base ^ count) (digits_of base count (number % base ^ count)) each in
     subst (λ n. number < n) (sym (pow-succ' base count)) ((div-lt_iff_lt-mul (one-le-pow count base some)).0 first)
 
-pub rank_small : (board : PlainBoard) (rank : ℕ) → IsBoard board → IsConfiguration board (configuration_at board rank) → rank < configurations board
-rank_small board rank is_board is = number_small (places board) board.pebbles rank (some_places board is_board) is_board.pebbles.0 is.each_place
+pub rank_small : (board : PlainBoard) (rank : ℕ) → IsBoard board → IsConfiguration board (configuration_at board rank)
+    → rank < configurations board
+rank_small board rank is_board is =
+    number_small (places board) board.pebbles rank (some_places board is_board) is_board.pebbles.0 is.each_place
 
 -- each row whose shown row has a configuration of the board has a rank of the board
 ranks_below : {R X : Type 0} (board : PlainBoard) (IsRow : X → Type 0) (shown : R → X) (rank : R → ℕ)
@@ -31,41 +37,53 @@ ranks_below : {R X : Type 0} (board : PlainBoard) (IsRow : X → Type 0) (shown 
     → (rows : List R) → IsBoard board → All IsRow (map shown rows) → All (λ row. rank row < configurations board) rows
 ranks_below board IsRow shown rank is_rank rows is_board each = λ k d below.
     let row = get_or rows k d in
-    let is = subst IsRow (get_or-map shown rows k d (shown d) below) (each k (shown d) (omega (arith, length-map rows shown, below))) in
+    let is = subst IsRow (get_or-map shown rows k d (shown d) below)
+    (each k (shown d) (omega (arith, length-map rows shown, below))) in
     rank_small board (rank row) is_board (is_rank row is)
 
 pub answer_ranks : (board : PlainBoard) (claim : Claim) (rows : List LabellerRow) → IsBoard board
     → AreAnswerRows board claim (answer_rows board rows) → All (λ row. row.at < configurations board) rows
 answer_ranks board claim rows is_board are =
-    ranks_below board (IsAnswerRow board claim) (answer_row board) (λ row. row.at) (λ row is. is.at) rows is_board are.each
+    ranks_below board (IsAnswerRow board claim) (answer_row board) (λ row. row.at)
+    (λ row is. is.at) rows is_board are.each
 
 pub request_ranks : (board : PlainBoard) (rows : List AdversaryRow) → IsBoard board
     → AreRequestRows board (request_rows board rows) → All (λ row. row.at < configurations board) rows
 request_ranks board rows is_board are =
     ranks_below board (IsRequestRow board) (request_row board) (λ row. row.at) (λ row is. is.at) rows is_board are.each
 
-same_rank : (board : PlainBoard) (a b : ℕ) → a < configurations board → b < configurations board → configuration_at board a ≡ configuration_at board b → a ≡ b
-same_rank board a b first second same = sym (rank_of-configuration_at board a first) ∙ ap (rank_of board) same ∙ rank_of-configuration_at board b second
+same_rank : (board : PlainBoard) (a b : ℕ) → a < configurations board → b < configurations board
+    → configuration_at board a ≡ configuration_at board b → a ≡ b
+same_rank board a b first second same =
+    sym (rank_of-configuration_at board a first) ∙ ap (rank_of board) same ∙ rank_of-configuration_at board b second
 
 -- places that agree up to the pebbles of the board, and are 0 from there on
-same_places : (pebbles : ℕ) (xs ys : List ℕ) → take pebbles xs ≡ take pebbles ys → ((k : ℕ) → pebbles ≤ k → slice_index xs k ≡ 0) → ((k : ℕ) → pebbles ≤ k → slice_index ys k ≡ 0) → (k : ℕ) → slice_index xs k ≡ slice_index ys k
+same_places : (pebbles : ℕ) (xs ys : List ℕ) → take pebbles xs ≡ take pebbles ys
+    → ((k : ℕ) → pebbles ≤ k → slice_index xs k ≡ 0) → ((k : ℕ) → pebbles ≤ k → slice_index ys k ≡ 0) → (k : ℕ)
+    → slice_index xs k ≡ slice_index ys k
 same_places pebbles xs ys same zeros others k = elim (cases_lt k pebbles) [
-  | inl below ↦ sym (get_or-take pebbles xs k 0 below) ∙ ap (λ (l : List ℕ). get_or l k 0) same ∙ get_or-take pebbles ys k 0 below
+  | inl below ↦ sym (get_or-take pebbles xs k 0 below) ∙ ap (λ (l : List ℕ). get_or l k 0) same
+      ∙ get_or-take pebbles ys k 0 below
   | inr beyond ↦ zeros k beyond ∙ sym (others k beyond)
 ]
 
-pub same_answers : (board : PlainBoard) (first second : LabellerRow) → first.at < configurations board → second.at < configurations board → IsPadded board first → IsPadded board second → answer_row board first ≡ answer_row board second
-    → (first.at ≡ second.at) × (first.turns ≡ second.turns) × ((pebble : ℕ) → slice_index first.take pebble ≡ slice_index second.take pebble)
+pub same_answers : (board : PlainBoard) (first second : LabellerRow) → first.at < configurations board
+    → second.at < configurations board → IsPadded board first → IsPadded board second
+    → answer_row board first ≡ answer_row board second
+    → (first.at ≡ second.at) × (first.turns ≡ second.turns)
+    × ((pebble : ℕ) → slice_index first.take pebble ≡ slice_index second.take pebble)
 same_answers board first second one other zeros others same = (
   same_rank board first.at second.at one other (ap (λ (r : AnswerRow). r.at) same),
   ap (λ (r : AnswerRow). r.turns) same,
   same_places board.pebbles first.take second.take (ap (λ (r : AnswerRow). r.answers) same) zeros others,
 )
 
-pub same_request : (board : PlainBoard) (first second : AdversaryRow) → first.at < configurations board → second.at < configurations board → request_row board first ≡ request_row board second → first ≡ second
+pub same_request : (board : PlainBoard) (first second : AdversaryRow) → first.at < configurations board
+    → second.at < configurations board → request_row board first ≡ request_row board second → first ≡ second
 same_request board first second one other same =
     let at : first.at ≡ second.at = same_rank board first.at second.at one other (ap (λ (r : RequestRow). r.at) same) in
     let left : first.left ≡ second.left = ap (λ (r : RequestRow). r.left) same in
     let ask : first.ask ≡ second.ask = ap (λ (r : RequestRow). r.request) same in
-    let e : ◌≡◌ {A = AdversaryRow} (record { at = first.at; left = first.left; ask = first.ask }) second = rw (at, left, ask) refl in
+    let e : ◌≡◌ {A = AdversaryRow} (record { at = first.at; left = first.left; ask = first.ask }) second =
+    rw (at, left, ask) refl in
     e

@@ -1,5 +1,6 @@
 -- A strategy document as plain data, and the rules of its format.
-use Rattle.std.specs.Prelude.{◌≡◌, ℕ, ◌<◌, ◌≤◌, Bool, true, false, List, [], length, map, take, slice_index, All, AllPairs}
+use Rattle.std.specs.Prelude.{◌≡◌, ℕ, ◌<◌, ◌≤◌, Bool, true, false, List, [], length, map, take}
+use Rattle.std.specs.Prelude.{slice_index, All, AllPairs}
 use Rattle.board_text.specs.Ranges.{InRange, AreNumbers}
 use Rattle.board_text.specs.PlainBoard.{PlainBoard, IsConfiguration}
 use Rattle.positions.specs.declared.claim.Claim.{Claim}
@@ -67,7 +68,8 @@ IsBefore board first second = rank_of board first < rank_of board second
 
 -- the rows of a section: not too many, each as the format has it, and their configurations in
 -- ascending order of rank
-pub record AreRows {X : Type 0} (board : PlainBoard) (IsRow : X → Type 0) (at : X → List ℕ) (rows : List X) : Type 0 where
+pub record AreRows {X : Type 0} (board : PlainBoard) (IsRow : X → Type 0) (at : X → List ℕ)
+    (rows : List X) : Type 0 where
   pub few : length rows ≤ MAX_CONFIGURATIONS
   pub each : All IsRow rows
   pub ascending : AllPairs (λ first second. IsBefore board (at first) (at second)) rows
@@ -91,14 +93,20 @@ pub record IsProof (board : PlainBoard) (proof : PlainProof) : Type 0 where
 
 -- ---- rows that name their configuration by its rank
 
--- a labeller's row with its configuration in place of the rank, and an answer for each pebble of
--- the board
+-- a labeller's row with its configuration in place of the rank,
+-- and an answer for each pebble of the board
 abbrev pub answer_row : PlainBoard → LabellerRow → AnswerRow
-answer_row board row = record { at = configuration_at board row.at; turns = row.turns; answers = take board.pebbles row.take }
+answer_row board row =
+    record {
+      at = configuration_at board row.at;
+      turns = row.turns;
+      answers = take board.pebbles row.take;
+    }
 
 -- an adversary's row with its configuration in place of the rank
 abbrev pub request_row : PlainBoard → AdversaryRow → RequestRow
-request_row board row = record { at = configuration_at board row.at; left = row.left; request = row.ask }
+request_row board row =
+    record { at = configuration_at board row.at; left = row.left; request = row.ask }
 
 abbrev pub answer_rows : PlainBoard → List LabellerRow → List AnswerRow
 answer_rows board rows = map (answer_row board) rows

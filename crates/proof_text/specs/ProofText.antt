@@ -35,12 +35,14 @@ turns_text Always = codes "*"
 abbrev pub answer_line : PlainBoard → AnswerRow → List ℕ
 answer_line board row =
     with_line_feed (codes "at" ++ (spaced_places board.labels row.at
-    ++ (codes " for " ++ (turns_text row.turns ++ (codes " take" ++ spaced_places board.labels row.answers)))))
+    ++ (codes " for " ++ (turns_text row.turns
+    ++ (codes " take" ++ spaced_places board.labels row.answers)))))
 
 -- `at l0 .. for m ask p`
 abbrev pub request_line : PlainBoard → RequestRow → List ℕ
 request_line board row = with_line_feed
-    (codes "at" ++ (spaced_places board.labels row.at ++ (codes " for " ++ (decimal row.left ++ (codes " ask " ++ decimal row.request)))))
+    (codes "at" ++ (spaced_places board.labels row.at
+    ++ (codes " for " ++ (decimal row.left ++ (codes " ask " ++ decimal row.request)))))
 
 -- the first two lines
 abbrev pub first_two_lines : Claim → List ℕ
@@ -49,18 +51,21 @@ first_two_lines claim = proof_version_line ++ claim_line claim
 -- the labeller's section, if the claim asks for it
 abbrev pub labeller_section : PlainBoard → Claim → List AnswerRow → List ℕ
 labeller_section board claim rows =
-    if asks_labeller claim then number_line (codes "labeller") (length rows) ++ flat_map (answer_line board) rows else []
+    if asks_labeller claim then number_line (codes "labeller") (length rows)
+    ++ flat_map (answer_line board) rows else []
 
 -- the adversary's section, if the claim asks for it
 abbrev pub adversary_section : PlainBoard → Claim → List RequestRow → List ℕ
 adversary_section board claim rows =
-    if asks_adversary claim then number_line (codes "adversary") (length rows) ++ flat_map (request_line board) rows else []
+    if asks_adversary claim then number_line (codes "adversary") (length rows)
+    ++ flat_map (request_line board) rows else []
 
 -- the text up to its last row
 abbrev pub proof_text_before_end : PlainBoard → PlainProof → List ℕ
 proof_text_before_end board proof =
     (with_line_feed (codes "proof 1") ++ with_line_feed (claim_words proof.claim))
-    ++ (labeller_section board proof.claim proof.labeller ++ adversary_section board proof.claim proof.adversary)
+    ++ (labeller_section board proof.claim proof.labeller
+    ++ adversary_section board proof.claim proof.adversary)
 
 -- the text of a document of the board
 abbrev pub proof_text : PlainBoard → PlainProof → List ℕ

@@ -21,8 +21,8 @@ pub record RequestWords : Type 0 where
 abbrev pub IsTurnsText : List ℕ → Type 0
 IsTurnsText text = IsNumeral 10 text ⊎ (text ≡ codes "*")
 
--- as many places below the bound and as many labels as there are pebbles, each in digits, or a
--- place as a hyphen
+-- as many places below the bound and as many labels as there are pebbles,
+-- each in digits, or a place as a hyphen
 pub record AreAnswerWords (pebbles labels bound : ℕ) (words : AnswerWords) : Type 0 where
   pub at : ArePlaceTexts pebbles labels bound words.at
   pub turns : IsTurnsText words.turns
@@ -35,7 +35,10 @@ pub record AreRequestWords (pebbles labels bound : ℕ) (words : RequestWords) :
 
 abbrev pub answer_words_line : AnswerWords → List ℕ
 answer_words_line words = with_line_feed
-    (codes "at" ++ (spaced_texts words.at ++ (codes " for " ++ (words.turns ++ (codes " take" ++ spaced_texts words.take)))))
+    (codes "at" ++ (spaced_texts words.at
+    ++ (codes " for " ++ (words.turns ++ (codes " take" ++ spaced_texts words.take)))))
 
 abbrev pub request_words_line : RequestWords → List ℕ
-request_words_line words = with_line_feed (codes "at" ++ (spaced_texts words.at ++ (codes " for " ++ (words.left ++ (codes " ask " ++ words.ask)))))
+request_words_line words =
+    with_line_feed (codes "at" ++ (spaced_texts words.at
+    ++ (codes " for " ++ (words.left ++ (codes " ask " ++ words.ask)))))

@@ -28,7 +28,8 @@ IsWanted (Count turns) = 1 ≤ turns
 IsWanted Always = Unit {0}
 
 -- the configuration is listed for the wanted turns or more
-pub record IsListedFor (rows : List AnswerRow) (configuration : List ℕ) (wanted : Turns) : Type 0 where
+pub record IsListedFor (rows : List AnswerRow) (configuration : List ℕ)
+    (wanted : Turns) : Type 0 where
   pub row : AnswerRow
   pub among : Contains rows row
   pub at : row.at ≡ configuration
@@ -39,7 +40,8 @@ abbrev pub Serves : List AnswerRow → List ℕ → Turns → Type 0
 Serves rows configuration wanted = IsWanted wanted → IsListedFor rows configuration wanted
 
 -- the row's answer to a request is legal, and the rows serve the turns that are left
-pub record MeetsRequest (board : PlainBoard) (rows : List AnswerRow) (row : AnswerRow) (pebble : ℕ) : Type 0 where
+pub record MeetsRequest (board : PlainBoard) (rows : List AnswerRow) (row : AnswerRow)
+    (pebble : ℕ) : Type 0 where
   pub label : ℕ
   pub answer : slice_get row.answers pebble ≡ Some label
   pub legal : Legal board row.at pebble label
@@ -47,14 +49,16 @@ pub record MeetsRequest (board : PlainBoard) (rows : List AnswerRow) (row : Answ
 
 -- the row meets each request
 abbrev pub MeetsRequests : PlainBoard → List AnswerRow → AnswerRow → Type 0
-MeetsRequests board rows row = (pebble : ℕ) → pebble < board.pebbles → MeetsRequest board rows row pebble
+MeetsRequests board rows row =
+    (pebble : ℕ) → pebble < board.pebbles → MeetsRequest board rows row pebble
 
 -- each labeller's row meets each request
 abbrev pub LabellerObeys : PlainBoard → List AnswerRow → Type 0
 LabellerObeys board rows = All (MeetsRequests board rows) rows
 
 -- the configuration is listed with a number below the bound
-pub record IsListedBelow (rows : List RequestRow) (configuration : List ℕ) (bound : ℕ) : Type 0 where
+pub record IsListedBelow (rows : List RequestRow) (configuration : List ℕ)
+    (bound : ℕ) : Type 0 where
   pub row : RequestRow
   pub among : Contains rows row
   pub at : row.at ≡ configuration
@@ -62,7 +66,8 @@ pub record IsListedBelow (rows : List RequestRow) (configuration : List ℕ) (bo
 
 -- a legal answer to the row's request leads to a row with a smaller number
 abbrev pub MeetsAnswer : PlainBoard → List RequestRow → RequestRow → ℕ → Type 0
-MeetsAnswer board rows row label = Legal board row.at row.request label → IsListedBelow rows (moved row.at row.request label) row.left
+MeetsAnswer board rows row label = Legal board row.at row.request label
+    → IsListedBelow rows (moved row.at row.request label) row.left
 
 -- each legal answer does
 abbrev pub MeetsAnswers : PlainBoard → List RequestRow → RequestRow → Type 0

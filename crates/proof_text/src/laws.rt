@@ -16,20 +16,23 @@ use crate::proof::MOST_TURNS;
 /// For one board a text is that of one document at most. So the text that is printed for a
 /// document is read back as that document.
 pub fn one_document()
-    ensures { (board : PlainBoard) → (first : PlainProof) → (second : PlainProof) → IsBoard board → IsProof board first
+    ensures { (board : PlainBoard) → (first : PlainProof) → (second : PlainProof) → IsBoard board
+        → IsProof board first
         → IsProof board second
         → proof_text board first ≡ proof_text board second → first ≡ second }
 {}
 
 /// No line of a document's text has a fault but out of memory.
 pub fn documents_have_no_fault()
-    ensures { (board : PlainBoard) → (document : PlainProof) → (line : ℕ) → (kind : Kind) → IsBoard board → IsProof board document
+    ensures { (board : PlainBoard) → (document : PlainProof) → (line : ℕ) → (kind : Kind)
+        → IsBoard board → IsProof board document
         → HasProofFault board (proof_text board document) line kind → kind ≡ OutOfMemory }
 {}
 
 /// For one board a text has one fault at most, apart from out of memory.
 pub fn one_fault()
-    ensures { (board : PlainBoard) → (text : List ℕ) → (line : ℕ) → (other_line : ℕ) → (kind : Kind) → (other_kind : Kind) → IsBoard board
+    ensures { (board : PlainBoard) → (text : List ℕ) → (line : ℕ) → (other_line : ℕ) → (kind : Kind)
+        → (other_kind : Kind) → IsBoard board
         → kind ≢ OutOfMemory → other_kind ≢ OutOfMemory
         → HasProofFault board text line kind → HasProofFault board text other_line other_kind
         → (line ≡ other_line) × (kind ≡ other_kind) }
@@ -38,7 +41,8 @@ pub fn one_fault()
 /// Rows whose plain forms, with configurations for ranks, are the same are the same in each field.
 pub fn one_row_of_a_rank()
     ensures labeller { (board : PlainBoard) → (first : LabellerRowData) → (second : LabellerRowData)
-        → first.at < configurations board → second.at < configurations board → IsPadded board first → IsPadded board second
+        → first.at < configurations board → second.at < configurations board → IsPadded board first
+        → IsPadded board second
         → answer_row board first ≡ answer_row board second
         → (first.at ≡ second.at) × (first.turns ≡ second.turns)
         × ((pebble : ℕ) → slice_index first.take pebble ≡ slice_index second.take pebble) }

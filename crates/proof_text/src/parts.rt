@@ -13,8 +13,8 @@ use rayon::prelude::*;
 use std::alloc::{AllocError, Global};
 use std::thread::Threads;
 
-/// Appends the section of `rows`, if `claim` asks for it, as `write_part` does. The lines are made
-/// in `parts` parts.
+/// Appends the section of `rows`, if `claim` asks for it,
+/// as `write_part` does. The lines are made in `parts` parts.
 pub(crate) fn write_in_parts<R: Row + Sync>(
     rt: &(impl Threads + Sync),
     alloc: Global,
@@ -24,9 +24,11 @@ pub(crate) fn write_in_parts<R: Row + Sync>(
     rows: &[R],
     parts: u32,
 ) -> Result<(), AllocError>
-    requires ranks { (other : ClaimData) → All (λ row. (R.form space.now other).rank row < configurations space.now) rows.now }
+    requires ranks { (other : ClaimData)
+        → All (λ row. (R.form space.now other).rank row < configurations space.now) rows.now }
     requires parts { 1 ≤ parts }
-    ensures { OnOk result (string_bytes text.new ≡ string_bytes text.old ++ section_text (R.form space.now claim) rows.now) }
+    ensures { OnOk result (string_bytes text.new ≡ string_bytes text.old
+        ++ section_text (R.form space.now claim) rows.now) }
 {
     if !R::is_asked(claim) {
         return Ok(());
@@ -47,7 +49,8 @@ fn lines_in_parts<R: Row + Sync>(
     rows: &[R],
     parts: u32,
 ) -> Result<Vec<String>, AllocError>
-    requires ranks { (claim : ClaimData) → All (λ row. (R.form space.now claim).rank row < configurations space.now) rows.now }
+    requires ranks { (claim : ClaimData)
+        → All (λ row. (R.form space.now claim).rank row < configurations space.now) rows.now }
     requires parts { 1 ≤ parts }
     ensures { IfOk result (λ parts. (claim : ClaimData)
         → flat_map string_bytes parts.items ≡ flat_map (R.form space.now claim).line rows.now) }
@@ -57,7 +60,9 @@ fn lines_in_parts<R: Row + Sync>(
         .par_chunks(size)
         .map(
             |part: &[R]| -> Result<String, AllocError>
-                requires { (claim : ClaimData) → All (λ row. (R.form space.now claim).rank row < configurations space.now) part.now }
+                requires { (claim : ClaimData)
+                    → All (λ row.
+                    (R.form space.now claim).rank row < configurations space.now) part.now }
                 ensures { IfOk result (λ lines. (claim : ClaimData)
                     → string_bytes lines ≡ flat_map (R.form space.entry.now claim).line part.now) }
             { lines_of(alloc, space, part) },
@@ -68,7 +73,8 @@ fn lines_in_parts<R: Row + Sync>(
 
 /// The lines of `rows`, as a text of their own.
 fn lines_of<R: Row>(alloc: Global, space: &Space, rows: &[R]) -> Result<String, AllocError>
-    requires { (claim : ClaimData) → All (λ row. (R.form space.now claim).rank row < configurations space.now) rows.now }
+    requires { (claim : ClaimData)
+        → All (λ row. (R.form space.now claim).rank row < configurations space.now) rows.now }
     ensures { IfOk result (λ lines. (claim : ClaimData)
         → string_bytes lines ≡ flat_map (R.form space.now claim).line rows.now) }
 {

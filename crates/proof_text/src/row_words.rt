@@ -1,10 +1,12 @@
 //! The words of a row, taken from the start of a text, with their values.
 
-ghost use Rattle.std.specs.Prelude.{◌≡◌, ◌≢◌, ℕ, ◌+◌, ◌<◌, ◌≤◌, length, option_map, MatchOption, Some, None};
+ghost use Rattle.std.specs.Prelude.{◌≡◌, ◌≢◌, ℕ, ◌+◌, ◌<◌, ◌≤◌, length, option_map, MatchOption};
+ghost use Rattle.std.specs.Prelude.{Some, None};
 ghost use Rattle.positions.specs.declared.turns.Turns.TheVariants.{Count, Always};
 ghost use Rattle.board_text.specs.declared.line_reader.Numeral.TheVariants.{Number};
 ghost use Rattle.proof_text.specs.Proof.{AreTurns};
-ghost use Rattle.proof_text.specs.Inside.Reading.{TakesConfiguration, TakesTurns, TakesAnswerWords, TakesRequestWords};
+ghost use Rattle.proof_text.specs.Inside.Reading.{TakesConfiguration, TakesTurns, TakesAnswerWords};
+ghost use Rattle.proof_text.specs.Inside.Reading.{TakesRequestWords};
 
 use crate::proof::MOST_TURNS;
 use board_text::line_reader::{LineReader, Numeral};
@@ -44,7 +46,8 @@ pub(crate) fn answer_words(
     requires some { 0 < length at.old }
     requires same { length take.old ≡ length at.old }
     requires places { (labels ≤ places) × (places ≤ labels + 1) }
-    ensures { TakesAnswerWords (length at.old) labels places claim result at.new take.new text.old text.new }
+    ensures { TakesAnswerWords
+        (length at.old) labels places claim result at.new take.new text.old text.new }
 {
     let are_places = configuration(text, labels, places, at)?;
     let turns = turns(text, claim)?;
@@ -93,7 +96,8 @@ fn configuration(
 ) -> Option<bool>
     requires some { 0 < length at.old }
     requires places { (labels ≤ places) × (places ≤ labels + 1) }
-    ensures { TakesConfiguration (length at.old) labels places (option_map (λ are. (are, at.new)) result) text.old text.new }
+    ensures { TakesConfiguration (length at.old) labels places
+        (option_map (λ are. (are, at.new)) result) text.old text.new }
 {
     text.take(b"at")?;
     let are_places = text.places(at, labels, places)?;
@@ -101,8 +105,8 @@ fn configuration(
     Some(are_places)
 }
 
-/// Takes a star or digits from `text`, and returns the turns that they spell, if `claim` allows
-/// them.
+/// Takes a star or digits from `text`, and returns the turns
+/// that they spell, if `claim` allows them.
 fn turns(text: &mut LineReader<'_>, claim: Claim) -> Option<Option<Turns>>
     ensures { TakesTurns claim result text.old text.new }
 {
@@ -114,7 +118,8 @@ fn turns(text: &mut LineReader<'_>, claim: Claim) -> Option<Option<Turns>>
 
 /// Turns without end, if `claim` allows them.
 fn always(claim: Claim) -> Option<Turns>
-    ensures { MatchOption result (AreTurns claim Always → ⊥) (λ turns. AreTurns claim turns × (turns ≡ Always)) }
+    ensures { MatchOption result (AreTurns claim Always → ⊥)
+        (λ turns. AreTurns claim turns × (turns ≡ Always)) }
 {
     match claim {
         Claim::Forever => Some(Turns::Always),

@@ -38,8 +38,11 @@ pub(crate) trait Row: Ranked + Copy {
 
     /// Appends the row's line to `text`.
     fn write(&self, text: &mut String, space: &Space) -> Result<(), AllocError>
-        requires { (claim : ClaimData) → (form space.now claim).rank self.now < configurations space.now }
-        ensures { OnOk result ((claim : ClaimData) → string_bytes text.new ≡ string_bytes text.old ++ (form space.now claim).line self.now) };
+        requires { (claim : ClaimData)
+            → (form space.now claim).rank self.now < configurations space.now }
+        ensures { OnOk result ((claim : ClaimData)
+            → string_bytes text.new ≡ string_bytes text.old
+            ++ (form space.now claim).line self.now) };
 
     ghost same_rank: { (board : PlainBoard) → (claim : ClaimData) → (row : Self)
         → (form board claim).rank row ≡ Self.rank row };

@@ -1,6 +1,7 @@
 //! Reading and writing the sections of a document.
 
-ghost use Rattle.std.specs.Prelude.{◌≡◌, ◌<◌, ◌≤◌, ◌+◌, ◌++◌, true, if◌then◌else◌, All, IfOk, IfErr, OnOk, flat_map, string_bytes};
+ghost use Rattle.std.specs.Prelude.{◌≡◌, ◌<◌, ◌≤◌, ◌+◌, ◌++◌, true, if◌then◌else◌, All, IfOk};
+ghost use Rattle.std.specs.Prelude.{IfErr, OnOk, flat_map, string_bytes};
 ghost use Rattle.board_text.specs.LineForms.{number_line};
 ghost use Rattle.board_text.specs.PlainBoard.{PlainBoard};
 ghost use Rattle.positions.specs.Ranks.{configurations};
@@ -14,8 +15,8 @@ use positions::{Claim, MAX_CONFIGURATIONS, Space};
 use std::alloc::{AllocError, Global};
 use std::fmt::Write;
 
-/// Takes a section from `text`, if `claim` asks for it, and returns its rows. Its head is at line
-/// `line`.
+/// Takes a section from `text`, if `claim` asks for it,
+/// and returns its rows. Its head is at line `line`.
 pub(crate) fn read_part<R: Row>(
     alloc: Global,
     text: &mut LineReader<'_>,
@@ -26,7 +27,8 @@ pub(crate) fn read_part<R: Row>(
 ) -> Result<Vec<R>, ProofFault>
     requires some_bytes { 0 < shortest_row }
     requires line { line ≤ MAX_CONFIGURATIONS + 4 }
-    ensures read { IfOk result (λ rows. PartRead space.now (R.form space.now claim) rows.items text.old text.new) }
+    ensures read { IfOk result (λ rows. PartRead space.now
+        (R.form space.now claim) rows.items text.old text.new) }
     ensures fault { IfErr result (λ fault. ((R.form space.now claim).asked ≡ true)
         × SectionFault space.now (R.form space.now claim) text.old line fault.line fault.kind) }
 {
@@ -59,8 +61,10 @@ pub(crate) fn write_part<R: Row>(
     claim: Claim,
     rows: &[R],
 ) -> Result<(), AllocError>
-    requires { (other : ClaimData) → All (λ row. (R.form space.now other).rank row < configurations space.now) rows.now }
-    ensures { OnOk result (string_bytes text.new ≡ string_bytes text.old ++ section_text (R.form space.now claim) rows.now) }
+    requires { (other : ClaimData)
+        → All (λ row. (R.form space.now other).rank row < configurations space.now) rows.now }
+    ensures { OnOk result (string_bytes text.new ≡ string_bytes text.old
+        ++ section_text (R.form space.now claim) rows.now) }
 {
     if !R::is_asked(claim) {
         return Ok(());
@@ -76,7 +80,8 @@ pub(crate) fn write_head<R: Row>(
     count: usize,
 ) -> Result<(), AllocError>
     ensures { OnOk result ((board : PlainBoard)
-        → string_bytes text.new ≡ string_bytes text.old ++ number_line (R.form board claim).word count) }
+        → string_bytes text.new ≡ string_bytes text.old
+        ++ number_line (R.form board claim).word count) }
 {
     write!(text, "{} {count}\n", R::word())
 }
@@ -87,9 +92,11 @@ pub(crate) fn write_rows<R: Row>(
     space: &Space,
     rows: &[R],
 ) -> Result<(), AllocError>
-    requires { (claim : ClaimData) → All (λ row. (R.form space.now claim).rank row < configurations space.now) rows.now }
+    requires { (claim : ClaimData)
+        → All (λ row. (R.form space.now claim).rank row < configurations space.now) rows.now }
     ensures { OnOk result ((claim : ClaimData)
-        → string_bytes text.new ≡ string_bytes text.old ++ flat_map (R.form space.now claim).line rows.now) }
+        → string_bytes text.new ≡ string_bytes text.old
+        ++ flat_map (R.form space.now claim).line rows.now) }
 {
     for row in rows {
         row.write(text, space)?;

@@ -1,5 +1,6 @@
 -- A round is lawful exactly if it keeps the rules by numbers, so each step keeps rounds lawful.
-use Rattle.std.proofs.Common.{◌≡◌, ℕ, zero, suc, ◌+◌, ◌<◌, ◌≤◌, List, [], ◌∷◌, length, refl, sym, ap, ◌∙◌, inl, inr, subst, arith, Option, Some, None, get_or, slice_get, slice_index}
+use Rattle.std.proofs.Common.{◌≡◌, ℕ, zero, suc, ◌+◌, ◌<◌, ◌≤◌, List, [], ◌∷◌, length, refl, sym, ap, ◌∙◌, inl, inr}
+use Rattle.std.proofs.Common.{subst, arith, Option, Some, None, get_or, slice_get, slice_index}
 use Rattle.std.proofs.lemmas.Bool.{cases_lt}
 use Rattle.std.proofs.lemmas.Option.{get_or_from_slice_get}
 use Rattle.std.specs.List.{All, sum_by}
@@ -23,7 +24,8 @@ use Rattle.retro_core.proofs.RoundStart.{same-word, base-is, to-win-is, struck-i
 
 -- ---- seats by their numbers
 
-pub seat-there : (seats : List PlainSeat) (id : ℕ) → 0 < (get_or seats id spent_seat).width → slice_get seats id ≡ Some (get_or seats id spent_seat)
+pub seat-there : (seats : List PlainSeat) (id : ℕ) → 0 < (get_or seats id spent_seat).width
+    → slice_get seats id ≡ Some (get_or seats id spent_seat)
 seat-there [] id wide = absurd (omega arith)
 seat-there (v ∷ seats) zero wide = refl
 seat-there (v ∷ seats) (suc id) wide = seat-there seats id wide
@@ -51,10 +53,12 @@ RoundKept round = AreKept (rules_of round.solving round.width) (slice_index roun
 -- the tally of a gap is the number of its answers that lead into the list
 pub waiting-size : (n : Numbered) → IsBoard n.board → (ranks : List ℕ) (g : ℕ) → g < (graph_of n).gaps
     → ((x : ℕ) → 0 < times x ranks → x < (graph_of n).configurations) → ((x : ℕ) → times x ranks ≤ 1)
-    → HasSize (λ place. IsAnswerAt (graph_of n) g place × (0 < times ((graph_of n).member g place) ranks)) (tally (graph_of n).struck g ranks)
+    → HasSize (λ place. IsAnswerAt (graph_of n) g place × (0 < times ((graph_of n).member g place) ranks))
+    (tally (graph_of n).struck g ranks)
 waiting-size n board_is ranks g i inside once =
     let a : PlainGraph = graph_of n in
-    subst (HasSize (λ place. IsAnswerAt a g place × (0 < times (a.member g place) ranks))) (live-tally a (numbered-is n board_is) g ranks i inside once)
+    subst (HasSize (λ place. IsAnswerAt a g place × (0 < times (a.member g place) ranks)))
+    (live-tally a (numbered-is n board_is) g ranks i inside once)
     (live-size a g (stands ranks) (λ v. 0 < times (a.member g v) ranks) (λ v j. (
       λ e. stands-some ranks (a.member g v) e,
       λ h. stands-true ranks (a.member g v) h,
@@ -64,12 +68,15 @@ same_number : (m n : ℕ) → Finite m ≡ Finite n → m ≡ n
 same_number m n e = cc
 
 -- the entries of a configuration in owed and won lists are summed over the seats
-held-times : (round : Round) (x : ℕ) → sum_by (held_in x) round.seats ≡ times x (all_owed round) + times x (all_won round)
+held-times : (round : Round) (x : ℕ)
+    → sum_by (held_in x) round.seats ≡ times x (all_owed round) + times x (all_won round)
 held-times round x =
     let s = total-sum (λ v. times x v.owed) (λ v. times x v.won) round.seats in
-    let o = times-together x (λ v. v.owed) round.seats in let w = times-together x (λ v. v.won) round.seats in omega arith
+    let o = times-together x (λ v. v.owed) round.seats in let w = times-together x (λ v. v.won) round.seats in
+    omega arith
 
-pub lawful-of : (round : Round) → IsSolving round.solving → length round.counts ≡ (graph_of round.solving.game).gaps → length round.values ≡ (graph_of round.solving.game).configurations → RoundKept round → IsLawful round
+pub lawful-of : (round : Round) → IsSolving round.solving → length round.counts ≡ (graph_of round.solving.game).gaps
+    → length round.values ≡ (graph_of round.solving.game).configurations → RoundKept round → IsLawful round
 lawful-of round sol counts_length values_length kept =
     let n : Numbered = round.solving.game in
     let r = round.solving.rounds in
@@ -77,10 +84,14 @@ lawful-of round sol counts_length values_length kept =
     let won_times = λ (x : ℕ). times-together x (λ v. v.won) round.seats in
     let todo_times = λ (x : ℕ). times-together x (λ v. v.todo) round.seats in
     let held_times = held-times round in
-    let due : (x : ℕ) → 0 < times x (all_todo round) → IsDue n x r = λ x h. (struck-in-is round.solving sol round.width x).0 (kept.due x (let t = todo_times x in omega arith)) in
-    let next : (x : ℕ) → 0 < sum_by (held_in x) round.seats → IsWorth n x (suc r) = λ x h. (to-win-is round.solving sol round.width x).0 (kept.next x h) in
-    let worth : (x : ℕ) → 0 < times x (all_won round) → IsWorth n x (suc r) = λ x h. next x (let t = held_times x in omega arith) in
-    let once : (x : ℕ) → times x (all_todo round) ≤ 1 = λ x. let t = todo_times x in let o = kept.due_once x in omega arith in
+    let due : (x : ℕ) → 0 < times x (all_todo round) → IsDue n x r =
+    λ x h. (struck-in-is round.solving sol round.width x).0 (kept.due x (let t = todo_times x in omega arith)) in
+    let next : (x : ℕ) → 0 < sum_by (held_in x) round.seats → IsWorth n x (suc r) =
+    λ x h. (to-win-is round.solving sol round.width x).0 (kept.next x h) in
+    let worth : (x : ℕ) → 0 < times x (all_won round) → IsWorth n x (suc r) =
+    λ x h. next x (let t = held_times x in omega arith) in
+    let once : (x : ℕ) → times x (all_todo round) ≤ 1 = λ x. let t = todo_times x in let o = kept.due_once x in
+    omega arith in
     record {
       counts_length = counts_length;
       values_length = values_length;
@@ -102,7 +113,9 @@ lawful-of round sol counts_length values_length kept =
                   λ e. inr (sym (some_same (suc r) v (sym next_word ∙ e)), omega arith),
                   λ h. elim h [
                     | inl has ↦ absurd (
-                        let same : suc r ≡ v = same_number (suc r) v (same_value n.board (configuration_of n x) (Finite (suc r)) (Finite v) (worth x (omega arith)).has_value has.1) in
+                        let same : suc r ≡ v = same_number (suc r) v
+                        (same_value n.board (configuration_of n x) (Finite (suc r)) (Finite v)
+                        (worth x (omega arith)).has_value has.1) in
                         let low : v ≤ r = has.0 in omega arith)
                     | inr has ↦ next_word ∙ ap Some (sym has.0)
                   ],
@@ -134,12 +147,18 @@ lawful-of round sol counts_length values_length kept =
 
 -- the count of a lawful round is the number of answers above its value and of those still to strike
 count-is : (round : Round) → IsSolving round.solving → IsLawful round → (g : ℕ) → g < (graph_of round.solving.game).gaps
-    → slice_index round.counts g ≡ live_answers (graph_of round.solving.game) (lasts (graph_of round.solving.game) (suc round.solving.rounds)) g + tally (graph_of round.solving.game).struck g (all_todo round)
+    → slice_index round.counts g ≡ live_answers (graph_of round.solving.game)
+    (lasts (graph_of round.solving.game) (suc round.solving.rounds)) g + tally
+    (graph_of round.solving.game).struck g (all_todo round)
 count-is round sol law g i =
     let n : Numbered = round.solving.game in
     let count = law.counts g i in
-    let above = same_size (AnswerLasts n g (suc round.solving.rounds)) count.above (live_answers (graph_of n) (lasts (graph_of n) (suc round.solving.rounds)) g) count.are_above (above-size n sol.is_board (suc round.solving.rounds) g i) in
-    let waiting = same_size (λ place. IsAnswerAt (graph_of n) g place × (0 < times ((graph_of n).member g place) (all_todo round))) count.waiting (tally (graph_of n).struck g (all_todo round)) count.are_waiting
+    let above = same_size (AnswerLasts n g (suc round.solving.rounds)) count.above
+    (live_answers (graph_of n) (lasts (graph_of n) (suc round.solving.rounds)) g) count.are_above
+    (above-size n sol.is_board (suc round.solving.rounds) g i) in
+    let waiting = same_size (λ place. IsAnswerAt (graph_of n) g place
+    × (0 < times ((graph_of n).member g place) (all_todo round))) count.waiting
+    (tally (graph_of n).struck g (all_todo round)) count.are_waiting
     (waiting-size n sol.is_board (all_todo round) g i (λ x h. (law.due x h).worth.is_rank) law.due_once) in
     let sum = count.sum in
     omega arith
@@ -162,7 +181,8 @@ kept-of round sol law =
           ];
       due = λ x h. (struck-in-is round.solving sol round.width x).1 (law.due x (let t = todo_times x in omega arith));
       due_once = λ x. let t = todo_times x in let o = law.due_once x in omega arith;
-      counts = λ g i. let c = count-is round sol law g i in let t = tally-together k.home g (λ v. v.todo) round.seats in omega arith;
+      counts = λ g i. let c = count-is round sol law g i in let t = tally-together k.home g (λ v. v.todo) round.seats in
+          omega arith;
       next = λ x h. (to-win-is round.solving sol round.width x).1 (
           let t = held_times x in
           elim (cases_lt 0 (times x (all_owed round))) [
@@ -176,8 +196,10 @@ kept-of round sol law =
           let tree = (sol.sources.listed g m.0 i low).0 (subst (λ y. 0 < times y (source round.solving g)) m.2 there) in
           let t = held_times x in
           elim (law.closed g m.0 i none low tree) [
-            | inl owed ↦ (let h : 0 < times x (all_owed round) = subst (λ y. 0 < times y (all_owed round)) (sym m.2) owed in omega arith)
-            | inr won ↦ (let h : 0 < times x (all_won round) = subst (λ y. 0 < times y (all_won round)) (sym m.2) won in omega arith)
+            | inl owed ↦ (let h : 0 < times x (all_owed round) =
+                subst (λ y. 0 < times y (all_owed round)) (sym m.2) owed in omega arith)
+            | inr won ↦ (let h : 0 < times x (all_won round) = subst (λ y. 0 < times y (all_won round)) (sym m.2) won in
+                omega arith)
           ];
       widths = law.widths;
       fits = λ id d below none.
@@ -185,7 +207,8 @@ kept-of round sol law =
           here ∙ law.spent_seats id (sym (ap (λ (u : PlainSeat). u.width) here) ∙ none);
     }
   where
-    same-base : (x : ℕ) → x < (graph_of round.solving.game).configurations → times x (all_won round) ≡ 0 → word_at round x ≡ value_before (graph_of round.solving.game) round.solving.rounds x
+    same-base : (x : ℕ) → x < (graph_of round.solving.game).configurations → times x (all_won round) ≡ 0
+        → word_at round x ≡ value_before (graph_of round.solving.game) round.solving.rounds x
     same-base x i none = same-word (word_at round x) (value_before (graph_of round.solving.game) round.solving.rounds x)
         (λ v e. elim ((law.values x v i).0 e) [
           | inl has ↦ (base-is round.solving.game sol.is_board round.solving.rounds x v i).1 has
@@ -196,12 +219,15 @@ kept-of round sol law =
 -- ---- open members
 
 -- an open member of a gap is a configuration, and is listed once
-pub source-rank : (s : Solving) → IsSolving s → (g rank : ℕ) → g < (graph_of s.game).gaps → 0 < times rank (source s g) → rank < (graph_of s.game).configurations
+pub source-rank : (s : Solving) → IsSolving s → (g rank : ℕ) → g < (graph_of s.game).gaps → 0 < times rank (source s g)
+    → rank < (graph_of s.game).configurations
 source-rank s sol g rank i h =
     let m = sol.sources.members g rank i h in
-    subst (λ x. x < (graph_of s.game).configurations) (sym m.2) ((numbered-is s.game sol.is_board).member_in g m.0 i m.1)
+    subst (λ x. x < (graph_of s.game).configurations) (sym m.2)
+    ((numbered-is s.game sol.is_board).member_in g m.0 i m.1)
 
-pub source-once : (s : Solving) → IsSolving s → (g : ℕ) → g < (graph_of s.game).gaps → (rank : ℕ) → times rank (source s g) ≤ 1
+pub source-once : (s : Solving) → IsSolving s → (g : ℕ) → g < (graph_of s.game).gaps → (rank : ℕ)
+    → times rank (source s g) ≤ 1
 source-once s sol g i rank = elim (cases_lt rank ((graph_of s.game).configurations)) [
   | inl low ↦ sol.sources.once g rank i low
   | inr high ↦ elim (cases_lt 0 (times rank (source s g))) [

@@ -67,7 +67,8 @@ pub record AreKept (k : Rules) (count : ℕ → ℕ) (value : ℕ → Option ℕ
   pub counts : (gap : ℕ) → gap < k.gaps → count gap ≡ k.live gap + sum_by (λ seat. tally k.home gap seat.todo) seats
   pub next : (rank : ℕ) → 0 < sum_by (held_in rank) seats → IsToWin k rank
   pub won_once : (rank : ℕ) → sum_by (λ seat. times rank seat.won) seats ≤ 1
-  pub closed : (gap rank : ℕ) → gap < k.gaps → count gap ≡ 0 → 0 < times rank (k.opens gap) → 0 < sum_by (held_in rank) seats
+  pub closed : (gap rank : ℕ) → gap < k.gaps → count gap ≡ 0 → 0 < times rank (k.opens gap)
+      → 0 < sum_by (held_in rank) seats
   pub widths : sum_by (λ seat. seat.width) seats ≡ k.width
   pub fits : All Fits seats
 

@@ -1,12 +1,15 @@
 -- Each step of a round keeps its rules.
-use Rattle.std.proofs.Common.{drop, ◌≡◌, ◌≢◌, ◌⊎◌, ℕ, zero, suc, ◌+◌, ◌-◌, ◌/◌, ◌<◌, ◌≤◌, ◌==◌, true, false, cond, List, [], ◌∷◌, ◌++◌, length, set, refl, sym, ap, ◌∙◌, inl, inr, subst, arith, Option, Some, None, slice_get}
+use Rattle.std.proofs.Common.{drop, ◌≡◌, ◌≢◌, ◌⊎◌, ℕ, zero, suc, ◌+◌, ◌-◌, ◌/◌, ◌<◌, ◌≤◌, ◌==◌, true, false, cond, List}
+use Rattle.std.proofs.Common.{[], ◌∷◌, ◌++◌, length, set, refl, sym, ap, ◌∙◌, inl, inr, subst, arith, Option, Some}
+use Rattle.std.proofs.Common.{None, slice_get}
 use Rattle.std.specs.List.{All, sum_by}
 use Rattle.std.proofs.lemmas.List.Elements.{All-cons, All-push, All-set}
 use Rattle.std.proofs.lemmas.List.Sums.{sum_by-le-sum_by}
 use Rattle.index_lists.specs.Lists.{times}
 use Rattle.index_lists.proofs.Cited.{cond_same, cond_other, times-append}
 use Rattle.retro_core.specs.Round.{PlainSeat, spent_seat, first_of, seat_tried, seat_kept, seat_new, seat_joined}
-use Rattle.retro_core.proofs.Rules.{Fits, Rules, IsStruckIn, IsToWin, value_word, held_in, AreSound, AreReadyLists, AreKept}
+use Rattle.retro_core.proofs.Rules.{Fits, Rules, IsStruckIn, IsToWin, value_word, held_in, AreSound, AreReadyLists}
+use Rattle.retro_core.proofs.Rules.{AreKept}
 use Rattle.graphs.proofs.Cited.{same_or_not}
 use Rattle.solver.specs.Striking.{tally}
 use Rattle.retro_core.proofs.SeatSums.{total-set, total-at, total-cut, total-glue, times-cut, tally-append, tally-cut}
@@ -38,7 +41,8 @@ one_more x c xs = let r = times-append x xs (c ∷ []) in omega arith
 
 -- the seat after a strike that found the count n
 abbrev pub seat_after : Rules → ℕ → PlainSeat → PlainSeat
-seat_after k n v = record v { todo = drop 1 v.todo; owed = cond (n == 1) (v.owed ++ k.opens (k.home (first_of v.todo))) v.owed }
+seat_after k n v =
+    record v { todo = drop 1 v.todo; owed = cond (n == 1) (v.owed ++ k.opens (k.home (first_of v.todo))) v.owed }
 
 -- the entries of the owed list after a strike
 owed-after : (k : Rules) (v : PlainSeat) (n x : ℕ)
@@ -52,13 +56,17 @@ owed-after k v n x =
     ]
 
 -- a seat that struck, and the words after it
-pub record AreStruck (k : Rules) (count : ℕ → ℕ) (value : ℕ → Option ℕ) (seats : List PlainSeat) (id : ℕ) (v : PlainSeat) (count' : ℕ → ℕ) : Type 0 where
+pub record AreStruck (k : Rules) (count : ℕ → ℕ) (value : ℕ → Option ℕ) (seats : List PlainSeat) (id : ℕ)
+    (v : PlainSeat) (count' : ℕ → ℕ) : Type 0 where
   pub some_left : 0 < count (k.home (first_of v.todo))
   pub kept : AreKept k count' value (set seats id (seat_after k (count (k.home (first_of v.todo))) v))
 
-pub strikes : (k : Rules) (count : ℕ → ℕ) (value : ℕ → Option ℕ) (seats : List PlainSeat) (id : ℕ) (v : PlainSeat) (count' : ℕ → ℕ) → AreKept k count value seats → slice_get seats id ≡ Some v
+pub strikes : (k : Rules) (count : ℕ → ℕ) (value : ℕ → Option ℕ) (seats : List PlainSeat) (id : ℕ) (v : PlainSeat)
+    (count' : ℕ → ℕ)
+    → AreKept k count value seats → slice_get seats id ≡ Some v
     → 0 < v.width → 0 < length v.todo → count' (k.home (first_of v.todo)) ≡ count (k.home (first_of v.todo)) - 1
-    → ((g : ℕ) → g < k.gaps → g ≢ k.home (first_of v.todo) → count' g ≡ count g) → AreStruck k count value seats id v count'
+    → ((g : ℕ) → g < k.gaps → g ≢ k.home (first_of v.todo) → count' g ≡ count g)
+    → AreStruck k count value seats id v count'
 strikes k count value seats id v count' law at wide some_todo here elsewhere =
     let c : ℕ = first_of v.todo in
     let more : List ℕ = drop 1 v.todo in
@@ -70,7 +78,8 @@ strikes k count value seats id v count' law at wide some_todo here elsewhere =
     let part_todo = total-at (λ u. times c u.todo) seats id v at in
     let may : IsStruckIn k c = law.due c (omega arith) in
     let inside : g < k.gaps = may.has_gap in
-    let one_tally : tally k.home g v.todo ≡ 1 + tally k.home g more = ap (tally k.home g) cut ∙ (let h = one_if g g refl in omega arith) in
+    let one_tally : tally k.home g v.todo ≡ 1 + tally k.home g more =
+    ap (tally k.home g) cut ∙ (let h = one_if g g refl in omega arith) in
     let part_tally = total-at (λ u. tally k.home g u.todo) seats id v at in
     let known = law.counts g inside in
     let some_left : 0 < n = omega arith in
@@ -102,7 +111,12 @@ strikes k count value seats id v count' law at wide some_todo here elsewhere =
             let s = total-set (held_in x) seats id v w at in
             elim (owed-after k v n x) [
               | inl o ↦ elim (same_or_not (sum_by (held_in x) seats) 0) [
-                | inl z ↦ record { gap = g; is_gap = inside; none_above = (let one = o.0 in omega arith); is_open = (let sum = o.1 in omega arith) }
+                | inl z ↦ record {
+                  gap = g;
+                  is_gap = inside;
+                  none_above = (let one = o.0 in omega arith);
+                  is_open = (let sum = o.1 in omega arith);
+                }
                 | inr nz ↦ law.next x (omega arith)
               ]
               | inr o ↦ law.next x (let sum = o.1 in omega arith)
@@ -119,7 +133,8 @@ strikes k count value seats id v count' law at wide some_todo here elsewhere =
                     | inr o ↦ absurd (o.0 (omega arith))
                   ])
               | inr ne ↦ (
-                  let old : 0 < sum_by (held_in x) seats = law.closed j x small (sym (elsewhere j small ne) ∙ none) there in
+                  let old : 0 < sum_by (held_in x) seats =
+                  law.closed j x small (sym (elsewhere j small ne) ∙ none) there in
                   elim (owed-after k v n x) [
                     | inl o ↦ (let sum = o.1 in omega arith)
                     | inr o ↦ (let sum = o.1 in omega arith)
@@ -131,17 +146,22 @@ strikes k count value seats id v count' law at wide some_todo here elsewhere =
     }
 
 -- the first owed configuration is open, and the try that wins it keeps the rules
-pub record IsWon (k : Rules) (count : ℕ → ℕ) (value : ℕ → Option ℕ) (seats : List PlainSeat) (id : ℕ) (v : PlainSeat) (value' : ℕ → Option ℕ) : Type 0 where
+pub record IsWon (k : Rules) (count : ℕ → ℕ) (value : ℕ → Option ℕ) (seats : List PlainSeat) (id : ℕ) (v : PlainSeat)
+    (value' : ℕ → Option ℕ) : Type 0 where
   pub open_yet : value (first_of v.owed) ≡ None
-  pub kept : value' (first_of v.owed) ≡ Some (suc k.round) → ((x : ℕ) → x < k.size → x ≢ first_of v.owed → value' x ≡ value x) → AreKept k count value' (set seats id (seat_tried true v))
+  pub kept : value' (first_of v.owed) ≡ Some (suc k.round)
+      → ((x : ℕ) → x < k.size → x ≢ first_of v.owed → value' x ≡ value x)
+      → AreKept k count value' (set seats id (seat_tried true v))
 
-pub record IsNotWon (k : Rules) (count : ℕ → ℕ) (value : ℕ → Option ℕ) (seats : List PlainSeat) (id : ℕ) (v : PlainSeat) : Type 0 where
+pub record IsNotWon (k : Rules) (count : ℕ → ℕ) (value : ℕ → Option ℕ) (seats : List PlainSeat) (id : ℕ)
+    (v : PlainSeat) : Type 0 where
   pub has_next : value (first_of v.owed) ≡ Some (suc k.round)
   pub stands : 0 < sum_by (λ u. times (first_of v.owed) u.won) seats
   pub kept : AreKept k count value (set seats id (seat_tried false v))
 
 module _ (k : Rules) (count : ℕ → ℕ) (value : ℕ → Option ℕ) (seats : List PlainSeat) (id : ℕ) (v : PlainSeat)
-    (sound : AreSound k) (law : AreKept k count value seats) (at : slice_get seats id ≡ Some v) (wide : 0 < v.width) (some_owed : 0 < length v.owed) where
+    (sound : AreSound k) (law : AreKept k count value seats) (at : slice_get seats id ≡ Some v) (wide : 0 < v.width)
+    (some_owed : 0 < length v.owed) where
   c : ℕ
   c = first_of v.owed
 
@@ -158,19 +178,24 @@ module _ (k : Rules) (count : ℕ → ℕ) (value : ℕ → Option ℕ) (seats :
   pub first-known : (first_of v.owed < k.size) × (k.base (first_of v.owed) ≡ None)
   first-known = let may = first-next in sound.opened may.gap (first_of v.owed) may.is_gap may.is_open
 
-  won-keeps : (value' : ℕ → Option ℕ) → sum_by (λ u. times (first_of v.owed) u.won) seats ≡ 0 → value' (first_of v.owed) ≡ Some (suc k.round)
-      → ((x : ℕ) → x < k.size → x ≢ first_of v.owed → value' x ≡ value x) → AreKept k count value' (set seats id (seat_tried true v))
+  won-keeps : (value' : ℕ → Option ℕ) → sum_by (λ u. times (first_of v.owed) u.won) seats ≡ 0
+      → value' (first_of v.owed) ≡ Some (suc k.round)
+      → ((x : ℕ) → x < k.size → x ≢ first_of v.owed → value' x ≡ value x)
+      → AreKept k count value' (set seats id (seat_tried true v))
   won-keeps value' none here elsewhere =
       let f : ℕ = first_of v.owed in
       let w : PlainSeat = seat_tried true v in
       let is_one : ◌≡◌ {A = ℕ} (cond (f == f) 1 0) 1 = one_if f f refl in
-      let won_sum : (x : ℕ) → sum_by (λ u. times x u.won) (set seats id w) ≡ sum_by (λ u. times x u.won) seats + cond (f == x) 1 0 =
+      let won_sum : (x : ℕ) → sum_by (λ u. times x u.won) (set seats id w)
+      ≡ sum_by (λ u. times x u.won) seats + cond (f == x) 1 0 =
       λ x. let s = total-set (λ u. times x u.won) seats id v w at in let o = one_more x f v.won in omega arith in
-      let won_else : (x : ℕ) → x ≢ f → sum_by (λ u. times x u.won) (set seats id w) ≡ sum_by (λ u. times x u.won) seats =
+      let won_else : (x : ℕ) → x ≢ f
+      → sum_by (λ u. times x u.won) (set seats id w) ≡ sum_by (λ u. times x u.won) seats =
       λ x ne. let s = won_sum x in let z = none_if f x (λ e. ne (sym e)) in omega arith in
       let won_here : sum_by (λ u. times f u.won) (set seats id w) ≡ 1 = let s = won_sum f in omega arith in
       let held_same : (x : ℕ) → sum_by (held_in x) (set seats id w) ≡ sum_by (held_in x) seats =
-      λ x. let s = total-set (held_in x) seats id v w at in let o = one_more x f v.won in let cut = owed_cut x in omega arith in
+      λ x. let s = total-set (held_in x) seats id v w at in let o = one_more x f v.won in let cut = owed_cut x in
+      omega arith in
       record {
         values = λ x small. elim (same_or_not x f) [
           | inl e ↦ (
@@ -179,7 +204,8 @@ module _ (k : Rules) (count : ℕ → ℕ) (value : ℕ → Option ℕ) (seats :
           | inr ne ↦ elsewhere x small ne ∙ law.values x small ∙ ap (value_word k x) (sym (won_else x ne))
         ];
         due = λ x there. law.due x (let s = total-set (λ u. times x u.todo) seats id v w at in omega arith);
-        due_once = λ x. let s = total-set (λ u. times x u.todo) seats id v w at in let o = law.due_once x in omega arith;
+        due_once =
+            λ x. let s = total-set (λ u. times x u.todo) seats id v w at in let o = law.due_once x in omega arith;
         counts = λ g small.
             let s = total-set (λ u. tally k.home g u.todo) seats id v w at in
             let o = law.counts g small in omega arith;
@@ -195,7 +221,8 @@ module _ (k : Rules) (count : ℕ → ℕ) (value : ℕ → Option ℕ) (seats :
         fits = All-set Fits seats id w (λ no_width. absurd (omega arith)) law.fits;
       }
 
-  not-won-keeps : 0 < sum_by (λ u. times (first_of v.owed) u.won) seats → AreKept k count value (set seats id (seat_tried false v))
+  not-won-keeps : 0 < sum_by (λ u. times (first_of v.owed) u.won) seats
+      → AreKept k count value (set seats id (seat_tried false v))
   not-won-keeps some_won =
       let f : ℕ = first_of v.owed in
       let w : PlainSeat = seat_tried false v in
@@ -206,14 +233,17 @@ module _ (k : Rules) (count : ℕ → ℕ) (value : ℕ → Option ℕ) (seats :
       let held_still : (x : ℕ) → 0 < sum_by (held_in x) seats → 0 < sum_by (held_in x) (set seats id w) = λ x there.
       elim (same_or_not x f) [
         | inl e ↦ subst (λ (m : ℕ). 0 < sum_by (held_in m) (set seats id w)) (sym e)
-            (let s = won_same f in let l = sum_by-le-sum_by (λ u. times f u.won) (held_in f) (set seats id w) (λ u. omega arith) in omega arith)
+            (let s = won_same f in let l =
+            sum_by-le-sum_by (λ u. times f u.won) (held_in f) (set seats id w) (λ u. omega arith) in omega arith)
         | inr ne ↦ (let z = none_if f x (λ e. ne (sym e)) in let s = held_sum x in omega arith)
       ] in
       record {
         values = λ x small. law.values x small ∙ ap (value_word k x) (sym (won_same x));
         due = λ x there. law.due x (let s = total-set (λ u. times x u.todo) seats id v w at in omega arith);
-        due_once = λ x. let s = total-set (λ u. times x u.todo) seats id v w at in let o = law.due_once x in omega arith;
-        counts = λ g small. let s = total-set (λ u. tally k.home g u.todo) seats id v w at in let o = law.counts g small in omega arith;
+        due_once =
+            λ x. let s = total-set (λ u. times x u.todo) seats id v w at in let o = law.due_once x in omega arith;
+        counts = λ g small. let s = total-set (λ u. tally k.home g u.todo) seats id v w at in let o =
+            law.counts g small in omega arith;
         next = λ x there. law.next x (let s = held_sum x in omega arith);
         won_once = λ x. let s = won_same x in let o = law.won_once x in omega arith;
         closed = λ g x small none_left there. held_still x (law.closed g x small none_left there);
@@ -230,13 +260,20 @@ module _ (k : Rules) (count : ℕ → ℕ) (value : ℕ → Option ℕ) (seats :
       let T : ℕ = sum_by (λ u. times f u.won) seats in
       elim (same_or_not T 0) [
         | inl z ↦ inl (λ value'. record { open_yet = word ∙ word_none k f T z ∙ known.1; kept = won-keeps value' z })
-        | inr nz ↦ inr (record { has_next = word ∙ word_some k f T (omega arith); stands = omega arith; kept = not-won-keeps (omega arith) })
+        | inr nz ↦ inr (record {
+          has_next = word ∙ word_some k f T (omega arith);
+          stands = omega arith;
+          kept = not-won-keeps (omega arith);
+        })
       ]
 
 -- seats whose lists together are the same keep the rules too
-same-kept : (k : Rules) (count : ℕ → ℕ) (value : ℕ → Option ℕ) (seats all : List PlainSeat) → AreKept k count value seats
-    → ((x : ℕ) → sum_by (λ u. times x u.todo) all ≡ sum_by (λ u. times x u.todo) seats) → ((g : ℕ) → sum_by (λ u. tally k.home g u.todo) all ≡ sum_by (λ u. tally k.home g u.todo) seats)
-    → ((x : ℕ) → sum_by (λ u. times x u.won) all ≡ sum_by (λ u. times x u.won) seats) → ((x : ℕ) → sum_by (held_in x) all ≡ sum_by (held_in x) seats)
+same-kept : (k : Rules) (count : ℕ → ℕ) (value : ℕ → Option ℕ) (seats all : List PlainSeat)
+    → AreKept k count value seats
+    → ((x : ℕ) → sum_by (λ u. times x u.todo) all ≡ sum_by (λ u. times x u.todo) seats)
+    → ((g : ℕ) → sum_by (λ u. tally k.home g u.todo) all ≡ sum_by (λ u. tally k.home g u.todo) seats)
+    → ((x : ℕ) → sum_by (λ u. times x u.won) all ≡ sum_by (λ u. times x u.won) seats)
+    → ((x : ℕ) → sum_by (held_in x) all ≡ sum_by (held_in x) seats)
     → sum_by (λ u. u.width) all ≡ sum_by (λ u. u.width) seats → All Fits all → AreKept k count value all
 same-kept k count value seats all law todo tallies won held width fits = record {
   values = λ x small. law.values x small ∙ ap (value_word k x) (sym (won x));
@@ -250,7 +287,8 @@ same-kept k count value seats all law todo tallies won held width fits = record 
   fits = fits;
 }
 
-pub splits : (k : Rules) (count : ℕ → ℕ) (value : ℕ → Option ℕ) (seats : List PlainSeat) (id : ℕ) (v : PlainSeat) → AreKept k count value seats → slice_get seats id ≡ Some v
+pub splits : (k : Rules) (count : ℕ → ℕ) (value : ℕ → Option ℕ) (seats : List PlainSeat) (id : ℕ) (v : PlainSeat)
+    → AreKept k count value seats → slice_get seats id ≡ Some v
     → 2 ≤ v.width → AreKept k count value (set seats id (seat_kept v) ++ seat_new v ∷ [])
 splits k count value seats id v law at wide =
     let a : PlainSeat = seat_kept v in
@@ -260,24 +298,35 @@ splits k count value seats id v law at wide =
     let half : v.width / 2 + v.width / 2 ≤ v.width = omega arith in
     let some_half : 0 < v.width / 2 = omega arith in
     same-kept k count value seats all law
-    (λ x. total-cut (λ u. times x u.todo) seats id v a b at (times-cut x m v.todo)) (λ g. total-cut (λ u. tally k.home g u.todo) seats id v a b at (tally-cut k.home g m v.todo))
-    (λ x. total-cut (λ u. times x u.won) seats id v a b at (omega arith)) (λ x. total-cut (held_in x) seats id v a b at (omega arith))
-    (total-cut (λ u. u.width) seats id v a b at (omega arith)) (All-push Fits (set seats id a) b (All-set Fits seats id a (λ none. absurd (omega arith)) law.fits) (λ none. absurd (omega arith)))
+    (λ x. total-cut (λ u. times x u.todo) seats id v a b at (times-cut x m v.todo))
+    (λ g. total-cut (λ u. tally k.home g u.todo) seats id v a b at (tally-cut k.home g m v.todo))
+    (λ x. total-cut (λ u. times x u.won) seats id v a b at (omega arith))
+    (λ x. total-cut (held_in x) seats id v a b at (omega arith))
+    (total-cut (λ u. u.width) seats id v a b at (omega arith))
+    (All-push Fits (set seats id a) b (All-set Fits seats id a (λ none. absurd (omega arith)) law.fits)
+    (λ none. absurd (omega arith)))
 
-pub joins : (k : Rules) (count : ℕ → ℕ) (value : ℕ → Option ℕ) (seats : List PlainSeat) (id other : ℕ) (v u : PlainSeat) → AreKept k count value seats → slice_get seats id ≡ Some v → slice_get seats other ≡ Some u
+pub joins : (k : Rules) (count : ℕ → ℕ) (value : ℕ → Option ℕ) (seats : List PlainSeat) (id other : ℕ) (v u : PlainSeat)
+    → AreKept k count value seats → slice_get seats id ≡ Some v → slice_get seats other ≡ Some u
     → id ≢ other → 0 < v.width → AreKept k count value (set (set seats id (seat_joined v u)) other spent_seat)
 joins k count value seats id other v u law at there differ wide =
     let a : PlainSeat = seat_joined v u in
     let all : List PlainSeat = set (set seats id a) other spent_seat in
     same-kept k count value seats all law
-    (λ x. total-glue (λ w. times x w.todo) seats id other v u a spent_seat at there differ (let s = times-append x v.todo u.todo in omega arith))
-    (λ g. total-glue (λ w. tally k.home g w.todo) seats id other v u a spent_seat at there differ (let s = tally-append k.home g v.todo u.todo in omega arith))
-    (λ x. total-glue (λ w. times x w.won) seats id other v u a spent_seat at there differ (let s = times-append x v.won u.won in omega arith))
-    (λ x. total-glue (held_in x) seats id other v u a spent_seat at there differ (let s = times-append x v.won u.won in let t = times-append x v.owed u.owed in omega arith))
+    (λ x. total-glue (λ w. times x w.todo) seats id other v u a spent_seat at there differ
+    (let s = times-append x v.todo u.todo in omega arith))
+    (λ g. total-glue (λ w. tally k.home g w.todo) seats id other v u a spent_seat at there differ
+    (let s = tally-append k.home g v.todo u.todo in omega arith))
+    (λ x. total-glue (λ w. times x w.won) seats id other v u a spent_seat at there differ
+    (let s = times-append x v.won u.won in omega arith))
+    (λ x. total-glue (held_in x) seats id other v u a spent_seat at there differ
+    (let s = times-append x v.won u.won in let t = times-append x v.owed u.owed in omega arith))
     (total-glue (λ w. w.width) seats id other v u a spent_seat at there differ (omega arith))
-    (All-set Fits (set seats id a) other spent_seat (λ none. refl) (All-set Fits seats id a (λ none. absurd (omega arith)) law.fits))
+    (All-set Fits (set seats id a) other spent_seat (λ none. refl)
+    (All-set Fits seats id a (λ none. absurd (omega arith)) law.fits))
 
-pub opens : (k : Rules) (count : ℕ → ℕ) (value : ℕ → Option ℕ) (todo : List ℕ) → AreReadyLists k count value todo → AreKept k count value (record { width = k.width; todo = todo; owed = []; won = [] } ∷ [])
+pub opens : (k : Rules) (count : ℕ → ℕ) (value : ℕ → Option ℕ) (todo : List ℕ) → AreReadyLists k count value todo
+    → AreKept k count value (record { width = k.width; todo = todo; owed = []; won = [] } ∷ [])
 opens k count value todo ready = record {
   values = λ x small. ready.values x small;
   due = λ x there. ready.due x (omega arith);
@@ -287,5 +336,6 @@ opens k count value todo ready = record {
   won_once = λ x. omega arith;
   closed = λ g x small none_left there. let o = ready.settled g x small none_left in absurd (omega arith);
   widths = omega arith;
-  fits = All-cons Fits _ [] (λ none. absurd (let s = ready.some_width in omega arith)) (λ k d below. absurd (omega arith));
+  fits =
+      All-cons Fits _ [] (λ none. absurd (let s = ready.some_width in omega arith)) (λ k d below. absurd (omega arith));
 }

@@ -10,4 +10,5 @@ answer_in_history steps index = slice_get (map (λ made. made.1) steps) index
 
 -- the step at the place is a strike that closed the gap, and answered so
 abbrev pub IsClosedAt : List (Step × Seen) → ℕ → ℕ → Type 0
-IsClosedAt steps gap index = (config : ℕ) × (answer_in_history steps index ≡ Some (seen.Struck config (Some gap)))
+IsClosedAt steps gap index =
+    (config : ℕ) × (answer_in_history steps index ≡ Some (seen.Struck config (Some gap)))

@@ -1,6 +1,7 @@
 -- A round at the value of a solver: its words and seats, when they are lawful, how it begins, and
 -- the effects of its steps.
-use Rattle.std.specs.Prelude.{◌≡◌, ℕ, suc, ◌+◌, ◌-◌, ◌/◌, ◌<◌, ◌≤◌, ◌↔◌, ◌⊎◌, ◌==◌, Bool, cond, List, [], ◌∷◌, ◌++◌, length, take}
+use Rattle.std.specs.Prelude.{◌≡◌, ℕ, suc, ◌+◌, ◌-◌, ◌/◌, ◌<◌, ◌≤◌, ◌↔◌, ◌⊎◌, ◌==◌, Bool, cond}
+use Rattle.std.specs.Prelude.{List, [], ◌∷◌, ◌++◌, length, take}
 use Rattle.std.specs.Prelude.{drop, slice_index, slice_index_or, slice_set, Option, Some, None}
 use Rattle.std.specs.Option.{is_none}
 use Rattle.std.specs.List.{flat_map, sum_by}
@@ -20,7 +21,8 @@ pub record PlainSeat : Type 0 where
   pub owed : List ℕ
   pub won : List ℕ
 
--- a round of a solver, of a width: a count for each gap, a value for each configuration that has one, and each seat that was ever made
+-- a round of a solver, of a width: a count for each gap, a value for each configuration that has
+-- one, and each seat that was ever made
 pub record Round : Type 0 where
   pub solving : Solving
   pub width : ℕ
@@ -30,7 +32,8 @@ pub record Round : Type 0 where
 
 -- the round of these parts
 abbrev pub round_of : Solving → ℕ → List ℕ → List (Option ℕ) → List PlainSeat → Round
-round_of s width counts values seats = record { solving = s; width = width; counts = counts; values = values; seats = seats }
+round_of s width counts values seats =
+    record { solving = s; width = width; counts = counts; values = values; seats = seats }
 
 -- the game of a round and its graph, the value that the round is at, and the value that it gives
 abbrev pub game_of : Round → Numbered
@@ -65,7 +68,8 @@ all_owed round = flat_map (λ seat. seat.owed) round.seats
 abbrev pub all_won : Round → List ℕ
 all_won round = flat_map (λ seat. seat.won) round.seats
 
--- the configurations of a value that are answers in some gap must be struck in a round at that value
+-- the configurations of a value that are answers in some
+-- gap must be struck in a round at that value
 pub record IsDue (n : Numbered) (rank value : ℕ) : Type 0 where
   pub worth : IsWorth n rank value
   pub struck : (graph_of n).struck rank < (graph_of n).gaps
@@ -84,21 +88,28 @@ pub record IsCount (round : Round) (gap count : ℕ) : Type 0 where
 pub record IsLawful (round : Round) : Type 0 where
   pub counts_length : length round.counts ≡ (round_graph round).gaps
   pub values_length : length round.values ≡ (round_graph round).configurations
-  -- a value is written if it is at most the round's, or if it is the next one and the rank is in a
-  -- won list
+  -- a value is written if it is at most the round's,
+  -- or if it is the next one and the rank is in a won list
   pub values : (rank value : ℕ) → rank < (round_graph round).configurations
       → (slice_index_or round.values rank None ≡ Some value)
-      ↔ (((value ≤ value_of round) × HasValue (game_of round).board (configuration_of (game_of round) rank) (Finite value))
+      ↔ (((value ≤ value_of round)
+      × HasValue (game_of round).board (configuration_of (game_of round) rank) (Finite value))
       ⊎ ((value ≡ next_value round) × (0 < times rank (all_won round))))
-  pub due : (rank : ℕ) → 0 < times rank (all_todo round) → IsDue (game_of round) rank (value_of round)
+  pub due : (rank : ℕ)
+      → 0 < times rank (all_todo round) → IsDue (game_of round) rank (value_of round)
   pub due_once : (rank : ℕ) → times rank (all_todo round) ≤ 1
-  pub counts : (gap : ℕ) → gap < (round_graph round).gaps → IsCount round gap (slice_index round.counts gap)
-  pub owed : (rank : ℕ) → 0 < times rank (all_owed round) → IsWorth (game_of round) rank (next_value round)
-  pub won : (rank : ℕ) → 0 < times rank (all_won round) → IsWorth (game_of round) rank (next_value round)
+  pub counts : (gap : ℕ) → gap < (round_graph round).gaps
+      → IsCount round gap (slice_index round.counts gap)
+  pub owed : (rank : ℕ)
+      → 0 < times rank (all_owed round) → IsWorth (game_of round) rank (next_value round)
+  pub won : (rank : ℕ)
+      → 0 < times rank (all_won round) → IsWorth (game_of round) rank (next_value round)
   pub won_once : (rank : ℕ) → times rank (all_won round) ≤ 1
   -- the members of a closed gap that have no value of at most the round's are owed or won
-  pub closed : (gap place : ℕ) → gap < (round_graph round).gaps → slice_index round.counts gap ≡ 0 → place < (round_graph round).places
-      → LabellerTree (game_of round).board (next_value round) (configuration_of (game_of round) ((round_graph round).member gap place))
+  pub closed : (gap place : ℕ) → gap < (round_graph round).gaps → slice_index round.counts gap ≡ 0
+      → place < (round_graph round).places
+      → LabellerTree (game_of round).board (next_value round)
+      (configuration_of (game_of round) ((round_graph round).member gap place))
       → (0 < times ((round_graph round).member gap place) (all_owed round))
       ⊎ (0 < times ((round_graph round).member gap place) (all_won round))
   pub widths : sum_by (λ seat. seat.width) round.seats ≡ round.width
@@ -107,7 +118,8 @@ pub record IsLawful (round : Round) : Type 0 where
 -- the round with one seat, which has the whole width and all to strike
 abbrev pub opening_round : Solving → ℕ → List ℕ → List (Option ℕ) → List ℕ → Round
 opening_round s width counts values ranks =
-    round_of s width counts values (record { width = width; todo = ranks; owed = []; won = [] } ∷ [])
+    round_of s width counts values
+    (record { width = width; todo = ranks; owed = []; won = [] } ∷ [])
 
 -- one seat has the whole width and all to strike, and nothing is owed or won
 pub record IsOpening (s : Solving) (width : ℕ) (round : Round) : Type 0 where
@@ -130,21 +142,40 @@ HasWonAll round = (rank : ℕ) → (times rank (all_won round) ≤ 1)
 abbrev pub first_of : List ℕ → ℕ
 first_of ranks = slice_index ranks 0
 
--- the seat after it struck in a gap of this count: with the last, the open members of the gap are owed
+-- the seat after it struck in a gap of this count: with the last,
+-- the open members of the gap are owed
 abbrev pub seat_struck : Solving → ℕ → ℕ → PlainSeat → PlainSeat
-seat_struck s gap count seat = record seat { todo = drop 1 seat.todo; owed = cond (count == 1) (seat.owed ++ source s gap) seat.owed }
+seat_struck s gap count seat =
+    record seat {
+      todo = drop 1 seat.todo;
+      owed = cond (count == 1) (seat.owed ++ source s gap) seat.owed;
+    }
 
 -- the seat after it tried to win the first that it owes
 abbrev pub seat_tried : Bool → PlainSeat → PlainSeat
-seat_tried is_open seat = record seat { owed = drop 1 seat.owed; won = cond is_open (seat.won ++ first_of seat.owed ∷ []) seat.won }
+seat_tried is_open seat =
+    record seat {
+      owed = drop 1 seat.owed;
+      won = cond is_open (seat.won ++ first_of seat.owed ∷ []) seat.won;
+    }
 
 -- the half that a seat keeps when it is split
 abbrev pub seat_kept : PlainSeat → PlainSeat
-seat_kept seat = record seat { width = seat.width - seat.width / 2; todo = take (length seat.todo - length seat.todo / 2) seat.todo }
+seat_kept seat =
+    record seat {
+      width = seat.width - seat.width / 2;
+      todo = take (length seat.todo - length seat.todo / 2) seat.todo;
+    }
 
 -- the new seat of a split
 abbrev pub seat_new : PlainSeat → PlainSeat
-seat_new seat = record { width = seat.width / 2; todo = drop (length seat.todo - length seat.todo / 2) seat.todo; owed = []; won = [] }
+seat_new seat =
+    record {
+      width = seat.width / 2;
+      todo = drop (length seat.todo - length seat.todo / 2) seat.todo;
+      owed = [];
+      won = [];
+    }
 
 -- two seats as one
 abbrev pub seat_joined : PlainSeat → PlainSeat → PlainSeat
@@ -159,29 +190,37 @@ seat_joined into from = record {
 abbrev pub round_struck : Round → ℕ → ℕ → Round
 round_struck round seat gap = record round {
   counts = slice_set round.counts gap (slice_index round.counts gap - 1);
-  seats = slice_set round.seats seat (seat_struck round.solving gap (slice_index round.counts gap) (seat_at round seat));
+  seats =
+      slice_set round.seats seat
+      (seat_struck round.solving gap (slice_index round.counts gap) (seat_at round seat));
 }
 
 -- whether the first that a seat owes has no value yet
 abbrev pub first_is_open : Round → ℕ → Bool
-first_is_open round seat = is_none (slice_index_or round.values (first_of (seat_at round seat).owed) None)
+first_is_open round seat =
+    is_none (slice_index_or round.values (first_of (seat_at round seat).owed) None)
 
 -- the round after the seat tried to win the first that it owes
 abbrev pub round_tried : Round → ℕ → Round
 round_tried round seat = record round {
   values = cond (first_is_open round seat)
-      (slice_set round.values (first_of (seat_at round seat).owed) (Some (next_value round))) round.values;
+      (slice_set round.values (first_of (seat_at round seat).owed) (Some (next_value round)))
+      round.values;
   seats = slice_set round.seats seat (seat_tried (first_is_open round seat) (seat_at round seat));
 }
 
 -- the round after the seat was split
 abbrev pub round_split : Round → ℕ → Round
 round_split round seat = record round {
-  seats = slice_set round.seats seat (seat_kept (seat_at round seat)) ++ seat_new (seat_at round seat) ∷ [];
+  seats =
+      slice_set round.seats seat (seat_kept (seat_at round seat))
+      ++ seat_new (seat_at round seat) ∷ [];
 }
 
 -- the round after one seat was joined into another
 abbrev pub round_joined : Round → ℕ → ℕ → Round
 round_joined round into from = record round {
-  seats = slice_set (slice_set round.seats into (seat_joined (seat_at round into) (seat_at round from))) from spent_seat;
+  seats =
+      slice_set (slice_set round.seats into
+      (seat_joined (seat_at round into) (seat_at round from))) from spent_seat;
 }

@@ -1,7 +1,10 @@
-//! A round of retrograde analysis as a machine on plain data: seats make one step after the other, in any order.
+//! A round of retrograde analysis as a machine on plain data:
+//! seats make one step after the other, in any order.
 //!
-//! No command runs the machine. The history of a round that threads share is a run of it, and the laws of its steps
-//! are those of shared rounds. The names of the solver, whose rounds these are, are passed on from the crate below.
+//! No command runs the machine. The history of a round that threads share is a run of it, and the
+//! laws of its steps
+//! are those of shared rounds. The names of the solver,
+//! whose rounds these are, are passed on from the crate below.
 #![tactic(auto)]
 
 mod laws_of_rounds;

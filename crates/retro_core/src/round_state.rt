@@ -1,8 +1,10 @@
 //! A round as a machine on plain data, one step after the other.
 //!
-//! No command runs it. The history of a shared round is a run of this machine, and tests make its steps.
+//! No command runs it. The history of a shared round is a run
+//! of this machine, and tests make its steps.
 
-ghost use Rattle.std.specs.Prelude.{◌≡◌, ◌+◌, ◌<◌, ◌↔◌, true, false, length, slice_index, slice_index_or};
+ghost use Rattle.std.specs.Prelude.{◌≡◌, ◌+◌, ◌<◌, ◌↔◌, true, false, length, slice_index};
+ghost use Rattle.std.specs.Prelude.{slice_index_or};
 ghost use Rattle.std.specs.Prelude.{None, Some, IfOk, IfErr};
 ghost use Rattle.solver.specs.Solving.{IsSolving};
 ghost use Rattle.retro_core.specs.Round.{round_graph, seat_at, spent_seat, IsOpening, IsLawful};
@@ -20,8 +22,10 @@ use std::mem;
 
 /// A round of a solver in which seats make one step after the other, in any order.
 ///
-/// Seats have numbers in the order in which they were made. The first has all to strike and the whole width.
-/// Contracts see the words of the round and all its seats; whatever the steps were, these are lawful.
+/// Seats have numbers in the order in which they were made. The first has all to strike and the
+/// whole width.
+/// Contracts see the words of the round and all its seats;
+/// whatever the steps were, these are lawful.
 #[derive(Drop)]
 pub struct RoundState<'a, S: ListStore> {
     alloc: Global,
@@ -41,10 +45,12 @@ impl<'a, S: ListStore> Model for RoundState<'a, S> {
 
     ghost Value = { Round };
 
-    ghost view = { λ s. round_of s.solver.now s.width s.counts.items (map value_of_word s.words.items) s.seats.items };
+    ghost view = { λ s. round_of s.solver.now s.width s.counts.items
+        (map value_of_word s.words.items) s.seats.items };
 
     ghost invariant = { λ s. IsSolving s.solver.now
-        × IsLawful (round_of s.solver.now s.width s.counts.items (map value_of_word s.words.items) s.seats.items) };
+        × IsLawful (round_of s.solver.now s.width s.counts.items
+        (map value_of_word s.words.items) s.seats.items) };
 }
 
 impl<'a, S: ListStore> RoundState<'a, S> {
@@ -76,7 +82,8 @@ impl<'a, S: ListStore> RoundState<'a, S> {
     /// Makes `step`, or returns the first reason why it can't be made and leaves all as it was.
     pub fn apply(&mut self, step: Step) -> Result<Seen, StepFault>
         ensures done { IfOk result (λ seen. Does self.old step seen self.new) }
-        ensures refused { IfErr result (λ fault. Refuses self.old step fault × (self.new ≡ self.old)) }
+        ensures refused { IfErr result
+            (λ fault. Refuses self.old step fault × (self.new ≡ self.old)) }
         ensures lawful { IsLawful self.new }
     {
         if self.lacks_seat(step) {
@@ -107,7 +114,8 @@ impl<'a, S: ListStore> RoundState<'a, S> {
     fn strike(&mut self, seat: usize) -> Result<Seen, StepFault>
         requires { 0 < (seat_at self.old seat).width }
         ensures done { IfOk result (λ seen. Does self.old (Step.Strike seat) seen self.new) }
-        ensures refused { IfErr result (λ fault. Refuses self.old (Step.Strike seat) fault × (self.new ≡ self.old)) }
+        ensures refused { IfErr result
+            (λ fault. Refuses self.old (Step.Strike seat) fault × (self.new ≡ self.old)) }
     {
         let todo = self.seats[seat].todo();
         if todo.is_empty() {
@@ -127,7 +135,8 @@ impl<'a, S: ListStore> RoundState<'a, S> {
     fn settle(&mut self, seat: usize) -> Result<Seen, StepFault>
         requires { 0 < (seat_at self.old seat).width }
         ensures done { IfOk result (λ seen. Does self.old (Step.Try seat) seen self.new) }
-        ensures refused { IfErr result (λ fault. Refuses self.old (Step.Try seat) fault × (self.new ≡ self.old)) }
+        ensures refused { IfErr result
+            (λ fault. Refuses self.old (Step.Try seat) fault × (self.new ≡ self.old)) }
     {
         let next = self.solver.round_number() + 1;
         let owed = self.seats[seat].owed();
@@ -146,7 +155,8 @@ impl<'a, S: ListStore> RoundState<'a, S> {
     fn split(&mut self, seat: usize) -> Result<Seen, StepFault>
         requires { 0 < (seat_at self.old seat).width }
         ensures done { IfOk result (λ seen. Does self.old (Step.Split seat) seen self.new) }
-        ensures refused { IfErr result (λ fault. Refuses self.old (Step.Split seat) fault × (self.new ≡ self.old)) }
+        ensures refused { IfErr result
+            (λ fault. Refuses self.old (Step.Split seat) fault × (self.new ≡ self.old)) }
     {
         if self.seat_width(seat) == 1 {
             return Err(StepFault::TooNarrow);
@@ -161,7 +171,8 @@ impl<'a, S: ListStore> RoundState<'a, S> {
     fn join(&mut self, into: usize, from: usize) -> Result<Seen, StepFault>
         requires { IsAllowed self.old (Step.Join into from) }
         ensures done { IfOk result (λ seen. Does self.old (Step.Join into from) seen self.new) }
-        ensures refused { IfErr result (λ fault. Refuses self.old (Step.Join into from) fault × (self.new ≡ self.old)) }
+        ensures refused { IfErr result
+            (λ fault. Refuses self.old (Step.Join into from) fault × (self.new ≡ self.old)) }
     {
         let other = mem::replace(&mut self.seats[from], Seat::spent(self.alloc));
         if self.seats[into].absorb(&other).is_err() {
@@ -171,8 +182,8 @@ impl<'a, S: ListStore> RoundState<'a, S> {
         Ok(Seen::Joined)
     }
 
-    /// The width of `seat`, 0 for one that was joined into another and for a number that no seat
-    /// has.
+    /// The width of `seat`, 0 for one that was joined into
+    /// another and for a number that no seat has.
     fn seat_width(&self, seat: usize) -> u32
         ensures value { result ≡ (seat_at self.now seat).width }
         ensures solving { IsSolving self.now.solving }
@@ -226,8 +237,8 @@ impl<'a, S: ListStore> RoundState<'a, S> {
         self.seats[seat].width()
     }
 
-    /// The number of answers of `gap` that lead above the round's value or to a configuration that
-    /// a seat has to strike.
+    /// The number of answers of `gap` that lead above the round's value
+    /// or to a configuration that a seat has to strike.
     pub fn count_of(&self, gap: u32) -> u32
         requires { gap < (round_graph self.now).gaps }
         ensures { result ≡ slice_index self.now.counts gap }
@@ -235,8 +246,8 @@ impl<'a, S: ListStore> RoundState<'a, S> {
         self.counts[gap as usize]
     }
 
-    /// The value of the configuration of `rank`, if it has one of at most the round's or has won
-    /// the next one.
+    /// The value of the configuration of `rank`, if it has one of
+    /// at most the round's or has won the next one.
     pub fn value_at(&self, rank: u32) -> Option<u32>
         requires { rank < (round_graph self.now).configurations }
         ensures { result ≡ slice_index_or self.now.values rank None }

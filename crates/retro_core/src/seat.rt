@@ -1,9 +1,11 @@
 //! A seat of the machine.
 
-ghost use Rattle.std.specs.Prelude.{◌≡◌, ◌+◌, ◌++◌, ◌^◌, ◌<◌, true, false, [], length, is_ok, if◌then◌else◌, IfOk};
+ghost use Rattle.std.specs.Prelude.{◌≡◌, ◌+◌, ◌++◌, ◌^◌, ◌<◌, true, false, [], length, is_ok};
+ghost use Rattle.std.specs.Prelude.{if◌then◌else◌, IfOk};
 ghost use Rattle.graphs.specs.Numbered.{graph_of};
 ghost use Rattle.solver.specs.Solving.{source};
-ghost use Rattle.retro_core.specs.Round.{spent_seat, seat_struck, seat_tried, seat_kept, seat_new, seat_joined};
+ghost use Rattle.retro_core.specs.Round.{spent_seat, seat_struck, seat_tried, seat_kept, seat_new};
+ghost use Rattle.retro_core.specs.Round.{seat_joined};
 
 use board_text::Memory;
 use index_lists::ListStore;
@@ -13,8 +15,8 @@ use std::marker::Model;
 
 /// A share of a round: a width, and the configurations to strike, owed and won.
 ///
-/// Its lists are plain vectors, since callers read them as slices. Taking the first of a list moves
-/// all others.
+/// Its lists are plain vectors, since callers read them as slices.
+/// Taking the first of a list moves all others.
 #[derive(Drop)]
 pub(crate) struct Seat {
     width: u32,
@@ -28,7 +30,8 @@ impl Model for Seat {
 
     ghost Value = { PlainSeat };
 
-    ghost view = { λ s. record { width = s.width; todo = s.todo.items; owed = s.owed.items; won = s.won.items } };
+    ghost view = { λ s.
+        record { width = s.width; todo = s.todo.items; owed = s.owed.items; won = s.won.items } };
 }
 
 impl Seat {
@@ -75,8 +78,8 @@ impl Seat {
         &self.won
     }
 
-    /// Strikes the first configuration to strike, and owes the open members of `gap` if `count` is
-    /// 1.
+    /// Strikes the first configuration to strike,
+    /// and owes the open members of `gap` if `count` is 1.
     pub(crate) fn strike<S: ListStore>(
         &mut self,
         solver: &Solver<S>,
@@ -85,7 +88,8 @@ impl Seat {
     ) -> Result<(), Memory>
         requires some { 0 < length self.old.todo }
         requires gap { gap < (graph_of solver.now.game).gaps }
-        ensures seat { self.new ≡ (if is_ok result then seat_struck solver.now gap count self.old else self.old) }
+        ensures seat { self.new
+            ≡ (if is_ok result then seat_struck solver.now gap count self.old else self.old) }
         ensures memory { is_ok result ≡ false → count ≡ 1 }
     {
         if count == 1 {
@@ -156,7 +160,8 @@ fn owe_members<S: ListStore>(
     gap: u32,
 ) -> Result<(), Memory>
     requires { gap < (graph_of solver.now.game).gaps }
-    ensures { owed.new.items ≡ (if is_ok result then owed.old.items ++ source solver.now gap else owed.old.items) }
+    ensures { owed.new.items ≡ (if is_ok result then owed.old.items
+        ++ source solver.now gap else owed.old.items) }
 {
     let before = owed.len();
     let mut members = solver.sources(gap);

@@ -6,15 +6,16 @@ ghost use Rattle.retro_core.specs.declared.step.StepFault.TheVariants as faults;
 use board_text::Memory;
 use thiserror::Error;
 
-/// A step of a seat, or of two seats. Seats have numbers in the order in which they were made, from 0.
+/// A step of a seat, or of two seats. Seats have numbers in
+/// the order in which they were made, from 0.
 #[derive(Clone, Copy, Debug, PartialEq, Eq)]
 pub enum Step {
     /// The seat strikes the first configuration that it has to strike.
     Strike(usize),
     /// The seat tries to win the first configuration that it owes.
     Try(usize),
-    /// The seat gives half of its width, and half of the configurations that it has to strike, to a
-    /// new seat.
+    /// The seat gives half of its width, and half of the configurations
+    /// that it has to strike, to a new seat.
     Split(usize),
     /// The seat `from` gives all that it has to the seat `into`, and is no seat any more.
     Join { into: usize, from: usize },

@@ -12,12 +12,14 @@ use Rattle.solver.specs.Solving.{Solving, IsSolving, bucket}
 use Rattle.positions.proofs.Cited.{forever_from_count, lasts_at_most, same_value}
 
 -- a finite value is no greater than the number of configurations
-pub value_few : (board : PlainBoard) (configuration : List ℕ) (value : ℕ) → IsConfiguration board configuration → HasValue board configuration (Finite value)
+pub value_few : (board : PlainBoard) (configuration : List ℕ) (value : ℕ) → IsConfiguration board configuration
+    → HasValue board configuration (Finite value)
     → value ≤ configurations board
 value_few board configuration value is has = elim (cases_lt (configurations board) value) [
   | inr few ↦ few
   | inl many ↦
-      let forever = forever_from_count board configuration is (lasts_at_most board configuration (configurations board) value (omega arith) has.0) in
+      let forever = forever_from_count board configuration is
+      (lasts_at_most board configuration (configurations board) value (omega arith) has.0) in
       let same : Forever ≡ Finite value = same_value board configuration Forever (Finite value) forever has in absurd cc
 ]
 
@@ -27,7 +29,8 @@ bucket_few s value is =
     distinct-length _ (bucket s value) (λ x. is.buckets.once value x)
     (λ x far. none x far (cases_lt 0 (times x (bucket s value))))
   where
-    none : (x : ℕ) → (graph_of s.game).configurations ≤ x → (0 < times x (bucket s value)) ⊎ (times x (bucket s value) ≤ 0)
+    none : (x : ℕ) → (graph_of s.game).configurations ≤ x
+        → (0 < times x (bucket s value)) ⊎ (times x (bucket s value) ≤ 0)
         → times x (bucket s value) ≡ 0
     none x far (inl some) = absurd (omega (arith, far, is.buckets.ranks value x some))
     none x far (inr few) = omega (arith, few)

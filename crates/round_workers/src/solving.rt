@@ -1,6 +1,7 @@
 //! Solving a board round by round, each round shared by all workers or made by their caller alone.
 
-ghost use Rattle.std.specs.Prelude.{◌≡◌, ℕ, ◌<◌, ◌≤◌, ◌↔◌, ◌≢◌, true, false, length, Err, IfOk, IfErr};
+ghost use Rattle.std.specs.Prelude.{◌≡◌, ℕ, ◌<◌, ◌≤◌, ◌↔◌, ◌≢◌, true, false, length, Err, IfOk};
+ghost use Rattle.std.specs.Prelude.{IfErr};
 ghost use Rattle.positions.specs.Ranks.{configurations};
 ghost use Rattle.classes.specs.Numbers.{class_count};
 ghost use Rattle.graphs.specs.declared.graph.Numbering.TheVariants.{Classes};
@@ -27,8 +28,8 @@ pub const MAX_WORKERS: u32 = 16;
 /// four fifths of all too. docs/performance.md has the times on both sides of it.
 pub const MIN_SHARED: u32 = 131_072;
 
-/// Works a round of `solver` to its end by `workers` workers, each in a thread of its own. Worker
-/// 0 is this thread.
+/// Works a round of `solver` to its end by `workers` workers,
+/// each in a thread of its own. Worker 0 is this thread.
 fn work_round<S: ListStore + Sync, G: Gate, R: Threads + Wait + Sync>(
     rt: &R,
     alloc: Global,
@@ -68,7 +69,8 @@ pub fn solve_values<G: Gate, R: Threads + Wait + Sync>(
 ) -> Result<Values, SolveFault>
     requires workers { (1 ≤ workers) × (workers ≤ MAX_WORKERS) }
     ensures values { IfOk result (λ values. values ≡ board.now) }
-    ensures too_large { (result ≡ Err SolveFault.TooLarge) ↔ (MAX_CONFIGURATIONS < configurations board.now) }
+    ensures too_large { (result ≡ Err SolveFault.TooLarge)
+        ↔ (MAX_CONFIGURATIONS < configurations board.now) }
     ensures worker { result ≡ Err SolveFault.Worker → 1 < workers }
 {
     let solver = Solver::<PlainLists>::open(alloc, board)?;

@@ -30,22 +30,29 @@ use Rattle.runs.specs.declared.verdicts.Verdict.{Verdict}
 use Rattle.runs.specs.declared.verdicts.Verdict.TheVariants.{Accepted, Refused}
 
 -- the verdict on a document that breaks no rule
-verdict_of : (board : PlainBoard) (proof : PlainProof) (value : Value) (verdict : Verdict) → BreaksNoRule board proof → proof.claim ≡ claim_of value → IsVerdict board proof verdict
+verdict_of : (board : PlainBoard) (proof : PlainProof) (value : Value) (verdict : Verdict) → BreaksNoRule board proof
+    → proof.claim ≡ claim_of value → IsVerdict board proof verdict
     → verdict ≡ Accepted (record { claim = claim_of value })
 verdict_of board proof value (Accepted shown) rules claim is = ap (λ c. Accepted (record { claim = c })) (is.0 ∙ claim)
 verdict_of board proof value (Refused fault) rules claim is = absurd (is.1 (only_memory board proof fault rules is.0))
 
-module _ (board : PlainBoard) (value : Value) (text : List ℕ) (is_board : IsBoard board) (few : configurations board ≤ MAX_CONFIGURATIONS) (solved : IsSolved board value text) where
-  pub accepts : (proof : PlainProof) (verdict : Verdict) → IsProof board proof → text ≡ proof_text board proof → IsVerdict board proof verdict
+module _ (board : PlainBoard) (value : Value) (text : List ℕ) (is_board : IsBoard board)
+    (few : configurations board ≤ MAX_CONFIGURATIONS) (solved : IsSolved board value text) where
+  pub accepts : (proof : PlainProof) (verdict : Verdict) → IsProof board proof → text ≡ proof_text board proof
+      → IsVerdict board proof verdict
       → verdict ≡ Accepted (record { claim = claim_of value })
   accepts proof verdict is_proof spelled is =
       let document = solved.document in
       let found = solved.is_document in
       let start = is_board.start in
-      let same : document ≡ proof = one_document board document proof is_board (is_formed board document start few found) is_proof (sym solved.text_is ∙ spelled) in
-      let rules : BreaksNoRule board proof = subst (BreaksNoRule board) same (breaks_no_rule board document start found) in
-      let same_worth : found.value ≡ value = same_value board board.start found.value value found.has_value solved.has_value in
-      let claim : proof.claim ≡ claim_of value = ap (λ (p : PlainProof). p.claim) (sym same) ∙ found.claim ∙ ap claim_of same_worth in
+      let same : document ≡ proof = one_document board document proof is_board
+      (is_formed board document start few found) is_proof (sym solved.text_is ∙ spelled) in
+      let rules : BreaksNoRule board proof =
+      subst (BreaksNoRule board) same (breaks_no_rule board document start found) in
+      let same_worth : found.value ≡ value =
+      same_value board board.start found.value value found.has_value solved.has_value in
+      let claim : proof.claim ≡ claim_of value =
+      ap (λ (p : PlainProof). p.claim) (sym same) ∙ found.claim ∙ ap claim_of same_worth in
       verdict_of board proof value verdict rules claim is
 
 -- the text of a board within the limit isn't wrong
@@ -115,8 +122,10 @@ pub runs_agree : (limit board_limit proof_limit : ℕ) (bytes text : List ℕ)
     (record { old = Some text; new = proof_left }) written verdict
     → verdict ≡ Accepted (record { claim = claim_of value })
 runs_agree limit board_limit proof_limit bytes text solve_left board_left proof_left written value verdict
-    (read, gave, (printed, solution, wrote)) (board, (other, gave_too, small), (read_proof, gave_proof, (line, checked, wrote_line))) =
-    let same : other ≡ read = sym (known_all bytes other board_left gave_too.0) ∙ known_all bytes read solve_left gave.0 in
+    (read, gave, (printed, solution, wrote))
+    (board, (other, gave_too, small), (read_proof, gave_proof, (line, checked, wrote_line))) =
+    let same : other ≡ read = sym (known_all bytes other board_left gave_too.0)
+    ∙ known_all bytes read solve_left gave.0 in
     let spelled : read_proof ≡ printed = sym (known_all text read_proof proof_left gave_proof.0) ∙ wrote in
     accepts_text read printed value solution board (subst (λ t. IsSmallBoard t board) same small) verdict line
     (subst (λ t. IsChecked board t verdict line) spelled checked)

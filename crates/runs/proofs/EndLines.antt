@@ -1,5 +1,6 @@
 -- Lines that are exactly `end`.
-use Rattle.std.proofs.Common.{◌≡◌, ℕ, ◌+◌, ◌<◌, ◌≤◌, List, length, take, drop, ap, arith, length-take, length-drop, inl, inr, ◌∙◌, sym}
+use Rattle.std.proofs.Common.{◌≡◌, ℕ, ◌+◌, ◌<◌, ◌≤◌, List, length, take, drop, ap, arith, length-take, length-drop, inl}
+use Rattle.std.proofs.Common.{inr, ◌∙◌, sym}
 use Rattle.runs.specs.Joined.{IsEndLine, IsBoardLength}
 
 -- such a line is within the input

@@ -29,23 +29,28 @@ broken_check (Ok (RefusedFor why)) fault is = cc
 broken_check (Err why) fault is = let same : why ≡ fault = cc in ap (λ f. Err f) same
 
 -- a run whose outcome is broken gave this fault
-pub broken_run : {A : Type 0} (r : Result A RunFault) (fault : RunFault) → outcome_of_run r ≡ Broken fault → r ≡ Err fault
+pub broken_run : {A : Type 0} (r : Result A RunFault) (fault : RunFault) → outcome_of_run r ≡ Broken fault
+    → r ≡ Err fault
 broken_run (Ok answer) fault is = cc
 broken_run (Err why) fault is = let same : why ≡ fault = cc in ap (λ f. Err f) same
 
 -- the outcome of a run is one that its clauses allow
-module _ {A : Type 0} (told : Result A RunFault → Outcome) (r : Result A RunFault) (Answers : A → Type 0) (Breaks : RunFault → Type 0) where
-  pub ends : (outcome : Outcome) → outcome ≡ told r → IfOk r Answers → IfErr r Breaks → EndsAs told Answers Breaks outcome
+module _ {A : Type 0} (told : Result A RunFault → Outcome) (r : Result A RunFault) (Answers : A → Type 0)
+    (Breaks : RunFault → Type 0) where
+  pub ends : (outcome : Outcome) → outcome ≡ told r → IfOk r Answers → IfErr r Breaks
+      → EndsAs told Answers Breaks outcome
   ends outcome is ok fault = (r, MatchResult-from_both r Answers Breaks ok fault, is)
 
 -- if the outcome is a fault other than of writing, the output was kept
 module _ {A : Type 0} (told : Result A RunFault → Outcome)
     (broken : (r : Result A RunFault) (fault : RunFault) → told r ≡ Broken fault → r ≡ Err fault)
     (r : Result A RunFault) (outcome : Outcome) (is : outcome ≡ told r) where
-  pub whole : (Kept : Type 0) → IfErr r (λ fault. fault ≢ Write → Kept) → (fault : RunFault) → outcome ≡ Broken fault → fault ≢ Write → Kept
+  pub whole : (Kept : Type 0) → IfErr r (λ fault. fault ≢ Write → Kept) → (fault : RunFault) → outcome ≡ Broken fault
+      → fault ≢ Write → Kept
   whole Kept unwritten fault breaks = IfErr-at_err (λ f. f ≢ Write → Kept) (broken r fault (sym is ∙ breaks)) unwritten
 
-  pub told_as : (fault : RunFault) → told (Err fault) ≡ Broken fault → (Failed : Type 0) → (Failed ↔ (r ≡ Err fault)) → (Failed ↔ (outcome ≡ Broken fault))
+  pub told_as : (fault : RunFault) → told (Err fault) ≡ Broken fault → (Failed : Type 0) → (Failed ↔ (r ≡ Err fault))
+      → (Failed ↔ (outcome ≡ Broken fault))
   told_as fault breaks Failed same =
       ((λ failed. is ∙ ap told (same.0 failed) ∙ breaks), (λ broke. same.1 (broken r fault (sym is ∙ broke))))
 
@@ -53,7 +58,8 @@ module _ {A : Type 0} (told : Result A RunFault → Outcome)
 
 module _ {A : Type 0} (P : List ℕ → A → List ℕ → Type 0) (Nothing More : List ℕ → RunFault → Type 0)
     (more : (text : List ℕ) (fault : RunFault) → Nothing text fault → More text fault) (read written : Bytes) where
-  fails_wider : (limit : ℕ) (fault : RunFault) → Fails P Nothing limit read written fault → Fails P More limit read written fault
+  fails_wider : (limit : ℕ) (fault : RunFault) → Fails P Nothing limit read written fault
+      → Fails P More limit read written fault
   fails_wider limit fault (inl unread) = inl unread
   fails_wider limit fault (inr (inl (text, gave, says))) = inr (inl (text, gave, more text fault says))
   fails_wider limit fault (inr (inr cut)) = inr (inr cut)
@@ -126,7 +132,8 @@ module _ (board proof : File) (b p : Bytes) (opens : OpensWith board b.old) (ope
           (CheckFails MAX_BOARD_BYTES MAX_PROOF_BYTES (p.new ≡ p.old) b p output.bytes) outcome is ok
           (IfErr-weaker r (CheckFails MAX_BOARD_BYTES MAX_PROOF_BYTES Untouched b p output.bytes)
           (CheckFails MAX_BOARD_BYTES MAX_PROOF_BYTES (p.new ≡ p.old) b p output.bytes)
-          (λ f h. check_untouched MAX_BOARD_BYTES MAX_PROOF_BYTES Untouched (p.new ≡ p.old) to b p output.bytes f h) fault),
+          (λ f h. check_untouched MAX_BOARD_BYTES MAX_PROOF_BYTES Untouched
+          (p.new ≡ p.old) to b p output.bytes f h) fault),
     ),
     whole outcome_of_check broken_check r outcome is output.IsKept unwritten,
   )

@@ -17,6 +17,7 @@ module _ {Answer : Type 0} (Says : List ℕ → Answer → List ℕ → Type 0) 
 
   -- the same of a run that ends with the write
   pub cut_short_last : (r : Result (Unit {0}) RunFault) (answer : Answer) (said : List ℕ) → Says text answer said
-      → OnErr r (AppendsPrefix written.old written.new said) → IfErr r (λ f. f ≡ Write) → IfErr r (Fails Says SaysNothing limit read written)
+      → OnErr r (AppendsPrefix written.old written.new said) → IfErr r (λ f. f ≡ Write)
+      → IfErr r (Fails Says SaysNothing limit read written)
   cut_short_last (Ok done) answer said says front told = tt
   cut_short_last (Err fault) answer said says front told = rw told (cut_short answer said says front)

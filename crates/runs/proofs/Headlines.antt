@@ -13,7 +13,8 @@ use Rattle.runs.specs.Headline.{ShowsValue, IsAccepted, Solution}
 use Rattle.runs.specs.SolveRun.{IsSolution}
 use Rattle.runs.proofs.BoardLimits.{few_configurations}
 
-pub accepted : (text : List ℕ) (value : Value) (written : List ℕ) → IsSolution text value written → IsAccepted text value written
+pub accepted : (text : List ℕ) (value : Value) (written : List ℕ) → IsSolution text value written
+    → IsAccepted text value written
 accepted text value written (board, small, solved) =
     let is = solved.is_document in
     let start = small.is_board.start in
@@ -28,7 +29,8 @@ accepted text value written (board, small, solved) =
       means = means_value board solved.document value start is solved.has_value;
     }
 
-pub shows_value : (text : List ℕ) (value : Value) (written : List ℕ) → IsSolution text value written → ShowsValue text value written
+pub shows_value : (text : List ℕ) (value : Value) (written : List ℕ) → IsSolution text value written
+    → ShowsValue text value written
 shows_value text value written solution =
     let is = accepted text value written solution in
     record {
@@ -40,16 +42,21 @@ shows_value text value written solution =
       means = is.means;
     }
 
-pub whole_solution : (text : List ℕ) (value : Value) (written : List ℕ) → IsSolution text value written → Solution text value written
+pub whole_solution : (text : List ℕ) (value : Value) (written : List ℕ) → IsSolution text value written
+    → Solution text value written
 whole_solution text value written is =
     record { solution = is; shows = shows_value text value written is; accepted = accepted text value written is }
 
 -- a text is that of one board and of one document
-pub written_means : (text : List ℕ) (value : Value) (written : List ℕ) (board : PlainBoard) (document : PlainProof) → IsAccepted text value written
-    → IsBoard board → IsProof board document → text ≡ board_text board → written ≡ proof_text board document → Means board document value
+pub written_means : (text : List ℕ) (value : Value) (written : List ℕ) (board : PlainBoard) (document : PlainProof)
+    → IsAccepted text value written
+    → IsBoard board → IsProof board document → text ≡ board_text board → written ≡ proof_text board document
+    → Means board document value
 written_means text value written board document is is_board is_proof text_is written_is =
     let boards : is.board ≡ board = one_board is.board board is.is_board is_board (sym is.text_is ∙ text_is) in
     let kept : IsProof board is.document = subst (λ b. IsProof b is.document) boards is.is_proof in
-    let texts : written ≡ proof_text board is.document = subst (λ b. written ≡ proof_text b is.document) boards is.written_is in
-    let documents : is.document ≡ document = one_document board is.document document is_board kept is_proof (sym texts ∙ written_is) in
+    let texts : written ≡ proof_text board is.document =
+    subst (λ b. written ≡ proof_text b is.document) boards is.written_is in
+    let documents : is.document ≡ document =
+    one_document board is.document document is_board kept is_proof (sym texts ∙ written_is) in
     subst (λ d. Means board d value) documents (subst (λ b. Means b is.document value) boards is.means)

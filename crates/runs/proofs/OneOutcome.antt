@@ -1,5 +1,6 @@
 -- A board has one report at most, and a text one solution, one report and one fault.
-use Rattle.std.proofs.Common.{◌≡◌, ℕ, ◌<◌, ◌↔◌, ◌⊎◌, inl, inr, List, length, slice_index, refl, sym, ap, ◌∙◌, subst, arith}
+use Rattle.std.proofs.Common.{◌≡◌, ℕ, ◌<◌, ◌↔◌, ◌⊎◌, inl, inr, List, length, slice_index, refl, sym, ap, ◌∙◌, subst}
+use Rattle.std.proofs.Common.{arith}
 use Rattle.std.proofs.lemmas.Bool.{cases_order}
 use Rattle.std.proofs.lemmas.List.{ext_get_or}
 use Rattle.board_text.specs.PlainBoard.{PlainBoard}
@@ -22,7 +23,8 @@ use Rattle.runs.specs.declared.fault.RunFault.{RunFault}
 use Rattle.runs.specs.declared.fault.RunFault.TheVariants.{Board, TooLarge, Proof, Memory, Worker, Read, Write, Limit}
 
 -- two bounds with the same numbers below them are equal
-same_bound : (P : ℕ → Type 0) (first second : ℕ) → ((number : ℕ) → number < first ↔ P number) → ((number : ℕ) → number < second ↔ P number)
+same_bound : (P : ℕ → Type 0) (first second : ℕ) → ((number : ℕ) → number < first ↔ P number)
+    → ((number : ℕ) → number < second ↔ P number)
     → first ≡ second
 same_bound P first second one other = elim (cases_order first second) [
   | inl same ↦ same
@@ -32,20 +34,28 @@ same_bound P first second one other = elim (cases_order first second) [
 
 same_count : (board : PlainBoard) (value : Value) (first second : ℕ) → HasCount board value first
     → HasCount board value second → first ≡ second
-same_count board value = same_size (λ rank. (rank < configurations board) × HasValue board (configuration_at board rank) value)
+same_count board value =
+    same_size (λ rank. (rank < configurations board) × HasValue board (configuration_at board rank) value)
 
-same_counts : (board : PlainBoard) (first second : List ℕ) → AreCounts board first → AreCounts board second → first ≡ second
+same_counts : (board : PlainBoard) (first second : List ℕ) → AreCounts board first → AreCounts board second
+    → first ≡ second
 same_counts board first second one other =
-    let size : length first ≡ length second = same_bound _ (length first) (length second) one.to_greatest other.to_greatest in
-    ext_get_or 0 first second size (λ value inside. same_count board (Finite value) (slice_index first value) (slice_index second value)
+    let size : length first ≡ length second =
+    same_bound _ (length first) (length second) one.to_greatest other.to_greatest in
+    ext_get_or 0 first second size
+    (λ value inside. same_count board (Finite value) (slice_index first value) (slice_index second value)
     (one.counted value inside) (other.counted value (omega (arith, inside, size))))
 
-same_report : (board : PlainBoard) (first second : Report) → IsReport board first → IsReport board second → first ≡ second
+same_report : (board : PlainBoard) (first second : Report) → IsReport board first → IsReport board second
+    → first ≡ second
 same_report board first second one other =
-    let start : first.start ≡ second.start = same_value board board.start first.start second.start one.start other.start in
+    let start : first.start ≡ second.start =
+    same_value board board.start first.start second.start one.start other.start in
     let counts : first.counts ≡ second.counts = same_counts board first.counts second.counts one.counts other.counts in
-    let forever : first.forever ≡ second.forever = same_count board Forever first.forever second.forever one.forever other.forever in
-    let same : ◌≡◌ {A = Report} (record { start = first.start; counts = first.counts; forever = first.forever }) second =
+    let forever : first.forever ≡ second.forever =
+    same_count board Forever first.forever second.forever one.forever other.forever in
+    let same : ◌≡◌ {A = Report}
+    (record { start = first.start; counts = first.counts; forever = first.forever }) second =
     rw (start, counts, forever) refl in
     same
 
@@ -66,7 +76,8 @@ module _ (text : List ℕ) where
       let same : one.2.report ≡ is.report = same_report board one.2.report is.report one.2.is_report is.is_report in
       one.2.text_is ∙ ap (report_text_alone board) same ∙ sym is.text_is
 
-  pub one_solution : (value worth : Value) (first second : List ℕ) → IsSolution text value first → IsSolution text worth second
+  pub one_solution : (value worth : Value) (first second : List ℕ) → IsSolution text value first
+      → IsSolution text worth second
       → (value ≡ worth) × (first ≡ second)
   one_solution value worth first second one other =
       let board : PlainBoard = one.0 in
@@ -94,13 +105,15 @@ module _ (limit : Numbering) (text : List ℕ) where
   wrong_is Limit wrong = absurd wrong
 
   faulty_or_large : (told : BoardFault) → IsWrongWithin limit text (Board told) → IsWrongWithin limit text TooLarge → ⊥
-  faulty_or_large told wrong (board, is_board, spelled, many) = not_both text told.line told.kind board is_board spelled wrong.1 wrong.0
+  faulty_or_large told wrong (board, is_board, spelled, many) =
+      not_both text told.line told.kind board is_board spelled wrong.1 wrong.0
 
   same_told : (first second : BoardFault) → IsWrongWithin limit text (Board first)
       → IsWrongWithin limit text (Board second) → first ≡ second
   same_told first second wrong also =
       let same = one_fault text first.line second.line first.kind second.kind wrong.1 also.1 wrong.0 also.0 in
-      let told : ◌≡◌ {A = BoardFault} (record { line = first.line; kind = first.kind }) second = rw (same.0, same.1) refl in
+      let told : ◌≡◌ {A = BoardFault} (record { line = first.line; kind = first.kind }) second =
+      rw (same.0, same.1) refl in
       told
 
   pub one_wrong : (fault other : RunFault) → IsWrongWithin limit text fault → IsWrongWithin limit text other

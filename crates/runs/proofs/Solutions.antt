@@ -1,5 +1,6 @@
 -- Each text of a small board has a solution and a report, and each other text has a fault.
-use Rattle.std.proofs.Common.{◌≡◌, ℕ, suc, ◌<◌, ◌≤◌, ◌↔◌, ◌⊎◌, inl, inr, Bool, true, false, List, length, refl, sym, subst, arith}
+use Rattle.std.proofs.Common.{◌≡◌, ℕ, suc, ◌<◌, ◌≤◌, ◌↔◌, ◌⊎◌, inl, inr, Bool, true, false, List, length, refl, sym}
+use Rattle.std.proofs.Common.{subst, arith}
 use Rattle.std.proofs.lemmas.Bool.{cases_lt}
 use Rattle.board_text.specs.PlainBoard.{PlainBoard, IsConfiguration}
 use Rattle.board_text.proofs.Cited.{board_or_fault}
@@ -39,7 +40,8 @@ holds-true (inr second) = (λ is. absurd (second is), λ same. absurd cc)
 -- a fact that is decided for each number below a bound has a size there
 some_size : (P : ℕ → Type 0) (bound : ℕ) → ((number : ℕ) → number < bound → P number ⊎ ¬ P number)
     → (size : ℕ) × HasSize (λ number. (number < bound) × P number) size
-some_size P bound decided = (count_below (λ number. holds (both number)) bound, size_of _ (λ number. holds (both number)) bound says)
+some_size P bound decided =
+    (count_below (λ number. holds (both number)) bound, size_of _ (λ number. holds (both number)) bound says)
   where
     both : (number : ℕ) → ((number < bound) × P number) ⊎ ¬ ((number < bound) × P number)
     both number = elim (cases_lt number bound) [
@@ -58,7 +60,8 @@ value_or_not board configuration is value =
     let some = some_value board configuration is in
     elim (cases_value some.0 value) [
       | inl less ↦ inr (λ has.
-          IsLess-irrefl value (subst (λ (v : Value). IsLess v value) (same_value board configuration some.0 value some.1 has) less))
+          IsLess-irrefl value (subst (λ (v : Value). IsLess v value)
+          (same_value board configuration some.0 value some.1 has) less))
       | inr (inl same) ↦ inl (subst (HasValue board configuration) same some.1)
       | inr (inr more) ↦ inr (λ has.
           IsLess-irrefl value (subst (IsLess value) (same_value board configuration some.0 value some.1 has) more))
@@ -67,10 +70,12 @@ value_or_not board configuration is value =
 module _ (board : PlainBoard) where
   value_at : (value : Value) (rank : ℕ) → rank < configurations board
       → HasValue board (configuration_at board rank) value ⊎ ¬ HasValue board (configuration_at board rank) value
-  value_at value rank below = value_or_not board (configuration_at board rank) (configuration_at_is board rank below) value
+  value_at value rank below =
+      value_or_not board (configuration_at board rank) (configuration_at_is board rank below) value
 
   some_count : (value : Value) → (count : ℕ) × HasCount board value count
-  some_count value = some_size (λ rank. HasValue board (configuration_at board rank) value) (configurations board) (value_at value)
+  some_count value =
+      some_size (λ rank. HasValue board (configuration_at board rank) value) (configurations board) (value_at value)
 
   occurs_or_not : (value : ℕ) → Occurs board value ⊎ ¬ Occurs board value
   occurs_or_not value =
@@ -79,7 +84,8 @@ module _ (board : PlainBoard) where
       (λ rank below. elim (value_at (Finite value) rank below) [ inl has ↦ inr has | inr not ↦ inl not ])) [
         | inr some ↦ inl (configuration_at board some.0, configuration_at_is board some.0 some.1, some.2)
         | inl none ↦ inr (λ occurs. none (rank_of board occurs.0) (rank_below board occurs.0 occurs.1)
-            (subst (λ (c : List ℕ). HasValue board c (Finite value)) (sym (configuration_at-rank_of board occurs.0 occurs.1)) occurs.2))
+            (subst (λ (c : List ℕ). HasValue board c (Finite value))
+            (sym (configuration_at-rank_of board occurs.0 occurs.1)) occurs.2))
       ]
 
   -- a finite value that doesn't occur is above all values that do
@@ -88,7 +94,8 @@ module _ (board : PlainBoard) where
       let not_or : (value : ℕ) → (¬ Occurs board value) ⊎ ¬ ¬ Occurs board value =
       λ value. elim (occurs_or_not value) [ inl occurs ↦ inr (λ not. not occurs) | inr not ↦ inl not ] in
       let many : ℕ = suc (configurations board) in
-      let none : ¬ Occurs board many = λ occurs. let few = value_few board occurs.0 many occurs.1 occurs.2 in absurd (omega (arith, few)) in
+      let none : ¬ Occurs board many = λ occurs. let few = value_few board occurs.0 many occurs.1 occurs.2 in
+      absurd (omega (arith, few)) in
       let first = least (λ value. ¬ Occurs board value) not_or many many (omega arith) none in (
         first.0,
         λ value. (
@@ -110,7 +117,8 @@ module _ (board : PlainBoard) where
   report_exists is =
       let start = some_value board board.start is in
       let end = values_end in
-      let counts = each_number (λ value count. HasCount board (Finite value) count) end.0 (λ value below. some_count (Finite value)) in
+      let counts = each_number (λ value count. HasCount board (Finite value) count) end.0
+      (λ value below. some_count (Finite value)) in
       let forever = some_count Forever in
       let report : Report = record { start = start.0; counts = counts.0; forever = forever.0 } in
       let is_report : IsReport board report = record {
@@ -121,7 +129,8 @@ module _ (board : PlainBoard) where
         };
         forever = forever.1;
       } in
-      let is_report_of : IsReportOf board (report_text_alone board report) = record { report = report; is_report = is_report; text_is = refl } in
+      let is_report_of : IsReportOf board (report_text_alone board report) =
+      record { report = report; is_report = is_report; text_is = refl } in
       (report_text_alone board report, is_report_of)
 
 -- ---- texts

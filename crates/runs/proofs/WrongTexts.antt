@@ -9,9 +9,11 @@ use Rattle.runs.specs.Texts.{HasNoBoard, HasNoProof, IsSmallBoard}
 use Rattle.runs.specs.declared.fault.RunFault.{RunFault}
 use Rattle.runs.specs.declared.fault.RunFault.TheVariants.{Board, TooLarge, Proof, Memory, Worker, Read, Write, Limit}
 
-pub begins_with : (text front rest : List ℕ) (board : PlainBoard) → IsBoard board → text ≡ front ++ rest → front ≡ board_text board
+pub begins_with : (text front rest : List ℕ) (board : PlainBoard) → IsBoard board → text ≡ front ++ rest
+    → front ≡ board_text board
     → BeginsWithBoard text board rest
-begins_with text front rest board is whole spelled = record { is_board = is; text_is = whole ∙ ap (λ (f : List ℕ). f ++ rest) spelled }
+begins_with text front rest board is whole spelled =
+    record { is_board = is; text_is = whole ∙ ap (λ (f : List ℕ). f ++ rest) spelled }
 
 pub no_board : (text front rest : List ℕ) (size : ℕ) (fault : RunFault) → IsBoardLength text size
     → front ≡ take size text
@@ -26,7 +28,8 @@ no_board text front rest size Read first is whole h = absurd h
 no_board text front rest size Write first is whole h = absurd h
 no_board text front rest size Limit first is whole h = absurd h
 
-pub no_proof : (text front rest : List ℕ) (board : PlainBoard) (fault : RunFault) → IsSmallBoard front board → text ≡ front ++ rest
+pub no_proof : (text front rest : List ℕ) (board : PlainBoard) (fault : RunFault) → IsSmallBoard front board
+    → text ≡ front ++ rest
     → HasNoProof board rest fault → CannotAnswer text fault
 no_proof text front rest board (Proof fault) small whole (has, no_memory) = (
   board,
@@ -45,5 +48,6 @@ no_proof text front rest board Read small whole h = absurd h
 no_proof text front rest board Write small whole h = absurd h
 no_proof text front rest board Limit small whole h = absurd h
 
-pub two_parts : (text front rest : List ℕ) (size : ℕ) → front ≡ take size text → rest ≡ drop size text → text ≡ front ++ rest
+pub two_parts : (text front rest : List ℕ) (size : ℕ) → front ≡ take size text → rest ≡ drop size text
+    → text ≡ front ++ rest
 two_parts text front rest size before behind = sym (rw (before, behind) (take-append-drop size text))

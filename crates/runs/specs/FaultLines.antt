@@ -7,7 +7,8 @@ use Rattle.board_text.specs.declared.fault.BoardKind.TheVariants as board_kinds
 use Rattle.proof_text.specs.declared.fault.ProofKind.{ProofKind}
 use Rattle.proof_text.specs.declared.fault.ProofKind.TheVariants as proof_kinds
 use Rattle.runs.specs.declared.fault.RunFault.{RunFault}
-use Rattle.runs.specs.declared.fault.RunFault.TheVariants.{Board, TooLarge, Proof, Memory, Worker, Read, Write, Limit}
+use Rattle.runs.specs.declared.fault.RunFault.TheVariants.{Board, TooLarge, Proof, Memory, Worker}
+use Rattle.runs.specs.declared.fault.RunFault.TheVariants.{Read, Write, Limit}
 
 -- the name of a kind of fault of a board
 abbrev pub name_of_board_kind : BoardKind → List ℕ
@@ -39,7 +40,8 @@ name_of_proof_kind proof_kinds.Memory = codes "Memory"
 
 -- the line with this number, of a text, has a fault of this kind
 abbrev pub line_at : List ℕ → ℕ → List ℕ → List ℕ
-line_at text number kind = with_line_feed (text ++ codes " fault line " ++ decimal number ++ codes " " ++ kind)
+line_at text number kind =
+    with_line_feed (text ++ codes " fault line " ++ decimal number ++ codes " " ++ kind)
 
 -- the line that says the fault
 abbrev pub line_of_fault : RunFault → List ℕ

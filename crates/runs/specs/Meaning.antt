@@ -13,7 +13,8 @@ use Rattle.runs.specs.declared.verdicts.Verdict.{Verdict}
 -- the text was answered with the line `accepted least k`, k being a number that documents have
 abbrev pub AcceptsLeast : List ℕ → ℕ → Type 0
 AcceptsLeast text number =
-    (number ≤ MOST_TURNS) × (verdict : Verdict) × IsAnswered text verdict (with_line_feed (codes "accepted least " ++ decimal number))
+    (number ≤ MOST_TURNS) × (verdict : Verdict)
+    × IsAnswered text verdict (with_line_feed (codes "accepted least " ++ decimal number))
 
 -- the text begins with a board's; a table answers this number of requests from its start, whichever
 -- they are, and the labeller has a tree of that depth

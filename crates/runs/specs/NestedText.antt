@@ -6,4 +6,5 @@ use Rattle.nested_cycles.specs.NestedBoard.{IsNestedBoard}
 
 -- the text is the nested board's of this level and number of pebbles
 abbrev pub IsNestedText : ℕ → ℕ → List ℕ → Type 0
-IsNestedText levels pebbles text = (board : PlainBoard) × IsNestedBoard levels pebbles board × (text ≡ board_text board)
+IsNestedText levels pebbles text =
+    (board : PlainBoard) × IsNestedBoard levels pebbles board × (text ≡ board_text board)

@@ -14,8 +14,8 @@ use Rattle.proof_check.specs.declared.fault.CheckFault.TheVariants as faults
 use Rattle.runs.specs.declared.verdicts.Verdict.{Verdict}
 use Rattle.runs.specs.declared.verdicts.Verdict.TheVariants.{Accepted, Refused}
 
--- the word for a row's turns: a labeller's row has an answer for each pebble, an adversary's leads
--- on by labels
+-- the word for a row's turns: a labeller's row has an answer for
+-- each pebble, an adversary's leads on by labels
 abbrev pub turn_word : Side → List ℕ
 turn_word Labeller = codes " pebble "
 turn_word Adversary = codes " label "
@@ -23,17 +23,22 @@ turn_word Adversary = codes " label "
 -- a side's row of this rank, given by its places, and the turn
 abbrev pub row_words : PlainBoard → Side → ℕ → ℕ → List ℕ
 row_words board side at turn =
-    side_word side ++ codes " row" ++ spaced_places board.labels (configuration_at board at) ++ turn_word side ++ decimal turn
+    side_word side ++ codes " row" ++ spaced_places board.labels (configuration_at board at)
+    ++ turn_word side ++ decimal turn
 
 -- the words for a fault of a check; out of memory has none
 abbrev pub fault_words : PlainBoard → CheckFault → List ℕ
 fault_words board (faults.StartMissing side) = side_word side ++ codes " start missing"
 fault_words board (faults.StartNumber side) = side_word side ++ codes " start number"
-fault_words board (faults.IllegalAnswer at pebble) = row_words board Labeller at pebble ++ codes " illegal answer"
+fault_words board (faults.IllegalAnswer at pebble) =
+    row_words board Labeller at pebble ++ codes " illegal answer"
 fault_words board (faults.Unlisted side at turn) = row_words board side at turn ++ codes " unlisted"
-fault_words board (faults.TooSmall at pebble) = row_words board Labeller at pebble ++ codes " too small"
-fault_words board (faults.NotStuck at label) = row_words board Adversary at label ++ codes " not stuck"
-fault_words board (faults.TooLarge at label) = row_words board Adversary at label ++ codes " too large"
+fault_words board (faults.TooSmall at pebble) =
+    row_words board Labeller at pebble ++ codes " too small"
+fault_words board (faults.NotStuck at label) =
+    row_words board Adversary at label ++ codes " not stuck"
+fault_words board (faults.TooLarge at label) =
+    row_words board Adversary at label ++ codes " too large"
 fault_words board faults.Memory = []
 
 -- the line of a verdict

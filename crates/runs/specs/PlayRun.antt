@@ -24,12 +24,14 @@ game_played Labeller board = PersonAnswers board
 
 -- the play has ended, as the value of its start allows
 abbrev pub IsOver : Game → Bytes → Bytes → PlayEnd → Type 0
-IsOver game lines written end = HasEnded (IsPlayed game) lines.old lines.new written.old written.new end × KeepsToValue game end
+IsOver game lines written end =
+    HasEnded (IsPlayed game) lines.old lines.new written.old written.new end × KeepsToValue game end
 
 -- the play was broken off
 abbrev pub IsBrokenOff : Game → Bytes → Bytes → RunFault → Type 0
 IsBrokenOff game lines written fault =
-    (why : PlayFault) × BreaksOff (IsPlayed game) lines.old lines.new written.old written.new why × (fault ≡ fault_of_play why)
+    (why : PlayFault) × BreaksOff (IsPlayed game) lines.old lines.new written.old written.new why
+    × (fault ≡ fault_of_play why)
 
 -- a board within the limit was read, and the play on it is over
 abbrev pub RanPlay : Numbering → Side → ℕ → Bytes → Bytes → Bytes → PlayEnd → Type 0

@@ -1,5 +1,6 @@
 -- The report of a board: how many of its configurations have each value.
-use Rattle.std.specs.Prelude.{◌≡◌, ℕ, suc, ◌<◌, ◌≤◌, ◌↔◌, List, [], ◌∷◌, ◌++◌, length, slice_index, codes}
+use Rattle.std.specs.Prelude.{◌≡◌, ℕ, suc, ◌<◌, ◌≤◌, ◌↔◌, List, [], ◌∷◌, ◌++◌, length, slice_index}
+use Rattle.std.specs.Prelude.{codes}
 use Rattle.std.specs.Fmt.{decimal}
 use Rattle.board_text.specs.LineForms.{with_line_feed}
 use Rattle.board_text.specs.PlainBoard.{PlainBoard}
@@ -14,8 +15,8 @@ use Rattle.solver.specs.Sizes.{HasCount}
 use Rattle.positions.specs.Claim.{claim_of}
 use Rattle.runs.specs.Texts.{IsBoardWithin}
 
--- the value of the start, how many configurations have each finite value from 0 on, and how many
--- last forever
+-- the value of the start, how many configurations have each
+-- finite value from 0 on, and how many last forever
 pub record Report : Type 0 where
   pub start : Value
   pub counts : List ℕ
@@ -23,12 +24,14 @@ pub record Report : Type 0 where
 
 -- the number of values from 0 to the greatest that occurs
 abbrev pub IsCountOfValues : PlainBoard → ℕ → Type 0
-IsCountOfValues board number = (value : ℕ) → value < number ↔ ((other : ℕ) × (value ≤ other) × Occurs board other)
+IsCountOfValues board number =
+    (value : ℕ) → value < number ↔ ((other : ℕ) × (value ≤ other) × Occurs board other)
 
--- the counts are those of all configurations, for each finite value from 0 to the greatest that
--- occurs
+-- the counts are those of all configurations,
+-- for each finite value from 0 to the greatest that occurs
 pub record AreCounts (board : PlainBoard) (counts : List ℕ) : Type 0 where
-  pub counted : (value : ℕ) → value < length counts → HasCount board (Finite value) (slice_index counts value)
+  pub counted : (value : ℕ) → value < length counts
+      → HasCount board (Finite value) (slice_index counts value)
   pub to_greatest : IsCountOfValues board (length counts)
 
 pub record IsReport (board : PlainBoard) (report : Report) : Type 0 where
@@ -68,7 +71,9 @@ end_lines forever = with_line_feed (codes "forever: " ++ decimal forever)
 
 -- the text of a report
 abbrev pub report_text_alone : PlainBoard → Report → List ℕ
-report_text_alone board report = head_lines board ++ start_value_line report.start ++ count_lines 0 report.counts ++ end_lines report.forever
+report_text_alone board report =
+    head_lines board ++ start_value_line report.start ++ count_lines 0 report.counts
+    ++ end_lines report.forever
 
 -- the text is the board's report
 pub record IsReportOf (board : PlainBoard) (text : List ℕ) : Type 0 where

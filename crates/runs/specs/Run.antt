@@ -50,8 +50,10 @@ Gave limit read text = GaveAll read.old read.new text × (length text ≤ limit)
 -- the bytes consumed by a read that failed; out of memory may also come after the last of them
 abbrev pub IsUnread : ℕ → Bytes → RunFault → Type 0
 IsUnread limit read Memory = (bytes : List ℕ) × Consumes read.old read.new bytes
-IsUnread limit read Read = (bytes : List ℕ) × (length bytes ≤ limit) × Consumes read.old read.new bytes
-IsUnread limit read Limit = (bytes : List ℕ) × (limit < length bytes) × Consumes read.old read.new bytes
+IsUnread limit read Read =
+    (bytes : List ℕ) × (length bytes ≤ limit) × Consumes read.old read.new bytes
+IsUnread limit read Limit =
+    (bytes : List ℕ) × (limit < length bytes) × Consumes read.old read.new bytes
 IsUnread limit read fault = ⊥
 
 -- such a text was written

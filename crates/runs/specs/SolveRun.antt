@@ -18,10 +18,11 @@ pub record IsSolved (board : PlainBoard) (value : Value) (text : List ℕ) : Typ
   pub is_document : IsDocumentOf board document
   pub text_is : text ≡ proof_text board document
 
--- the text is a small board's, with this value of its start, and the bytes written are the text of
--- its document
+-- the text is a small board's, with this value of its start,
+-- and the bytes written are the text of its document
 abbrev pub IsSolution : List ℕ → Value → List ℕ → Type 0
-IsSolution text value written = (board : PlainBoard) × IsSmallBoard text board × IsSolved board value written
+IsSolution text value written =
+    (board : PlainBoard) × IsSmallBoard text board × IsSolved board value written
 
 -- the faults of a text that isn't solved: out of memory; or it is a board's within the limit, and a
 -- thread wasn't started, which several workers alone can have; or it isn't such a board's

@@ -36,7 +36,8 @@ IsWrongBoard = IsWrongWithin Ordered
 
 -- the fault of a text that is no document's for the board
 abbrev pub IsWrongProof : PlainBoard → List ℕ → RunFault → Type 0
-IsWrongProof board text (Proof fault) = proof_faults.HasProofFault board text fault.line fault.kind × (fault.kind ≢ proof_kinds.Memory)
+IsWrongProof board text (Proof fault) =
+    proof_faults.HasProofFault board text fault.line fault.kind × (fault.kind ≢ proof_kinds.Memory)
 IsWrongProof board text fault = ⊥
 
 -- the fault of a text that is no board's within the limit, or out of memory

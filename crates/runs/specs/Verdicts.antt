@@ -21,15 +21,18 @@ use Rattle.runs.specs.declared.verdicts.Verdict.TheVariants.{Accepted, Refused}
 use Rattle.runs.specs.declared.fault.RunFault.{RunFault}
 use Rattle.runs.specs.declared.fault.RunFault.TheVariants.{Board, TooLarge, Proof, Memory}
 
--- the board's document is accepted only where it breaks no rule and shows its claim, and refused
--- with its first fault
+-- the board's document is accepted only where it breaks no rule and
+-- shows its claim, and refused with its first fault
 abbrev pub IsVerdict : PlainBoard → PlainProof → Verdict → Type 0
 IsVerdict board proof (Accepted shown) =
-    (shown.claim ≡ proof.claim) × BreaksNoRule board proof × Shows board proof.labeller proof.adversary proof.claim
-IsVerdict board proof (Refused fault) = IsCheckFault board proof fault × (fault ≢ check_faults.Memory)
+    (shown.claim ≡ proof.claim) × BreaksNoRule board proof
+    × Shows board proof.labeller proof.adversary proof.claim
+IsVerdict board proof (Refused fault) =
+    IsCheckFault board proof fault × (fault ≢ check_faults.Memory)
 
 -- the text is a document's for the board, and this is the verdict on it, with its line
-pub record IsChecked (board : PlainBoard) (text : List ℕ) (verdict : Verdict) (line : List ℕ) : Type 0 where
+pub record IsChecked (board : PlainBoard) (text : List ℕ) (verdict : Verdict)
+    (line : List ℕ) : Type 0 where
   pub proof : PlainProof
   pub is_proof : IsProof board proof
   pub text_is : text ≡ proof_text board proof
@@ -57,13 +60,17 @@ pub record BeginsWithBoard (text : List ℕ) (board : PlainBoard) (rest : List �
 -- the fault of a text without a verdict
 abbrev pub IsWrongText : List ℕ → RunFault → Type 0
 IsWrongText text (Board fault) =
-    (size : ℕ) × IsBoardLength text size × board_faults.HasBoardFault (take size text) fault.line fault.kind
+    (size : ℕ) × IsBoardLength text size
+    × board_faults.HasBoardFault (take size text) fault.line fault.kind
     × (fault.kind ≢ board_kinds.Memory)
 IsWrongText text TooLarge =
-    (board : PlainBoard) × (rest : List ℕ) × BeginsWithBoard text board rest × (MAX_CONFIGURATIONS < configurations board)
+    (board : PlainBoard) × (rest : List ℕ) × BeginsWithBoard text board rest
+    × (MAX_CONFIGURATIONS < configurations board)
 IsWrongText text (Proof fault) =
-    (board : PlainBoard) × (rest : List ℕ) × BeginsWithBoard text board rest × (configurations board ≤ MAX_CONFIGURATIONS)
-    × proof_faults.HasProofFault board rest fault.line fault.kind × (fault.kind ≢ proof_kinds.Memory)
+    (board : PlainBoard) × (rest : List ℕ) × BeginsWithBoard text board rest
+    × (configurations board ≤ MAX_CONFIGURATIONS)
+    × proof_faults.HasProofFault board rest fault.line fault.kind
+    × (fault.kind ≢ proof_kinds.Memory)
 IsWrongText text fault = ⊥
 
 -- the same, or out of memory

@@ -2,7 +2,8 @@
 
 ghost use Rattle.std.specs.Prelude.{◌≡◌};
 ghost use Rattle.runs.specs.Faults.{fault_of_play};
-ghost use Rattle.runs.specs.Inside.Faults.{IsFaultOfBoard, IsFaultOfProof, fault_of_reading, fault_of_solving};
+ghost use Rattle.runs.specs.Inside.Faults.{IsFaultOfBoard, IsFaultOfProof, fault_of_reading};
+ghost use Rattle.runs.specs.Inside.Faults.{fault_of_solving};
 ghost use Rattle.runs.specs.declared.fault.RunFault.TheVariants as faults;
 
 use board_text::{BoardFault, BoardKind, Memory, ReadFault};

@@ -2,7 +2,8 @@
 
 ghost use Rattle.std.specs.Prelude.{◌≡◌, ◌<◌, ◌≤◌, length};
 ghost use Rattle.board_text.specs.LineForms.{with_line_feed};
-ghost use Rattle.runs.specs.FaultLines.{line_at as words_at, line_of_fault, name_of_board_kind, name_of_proof_kind};
+ghost use Rattle.runs.specs.FaultLines.{line_at as words_at, line_of_fault, name_of_board_kind};
+ghost use Rattle.runs.specs.FaultLines.{name_of_proof_kind};
 
 use crate::fault::RunFault;
 use arrayvec::ArrayString;

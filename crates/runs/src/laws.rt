@@ -34,11 +34,15 @@ use positions::MAX_CONFIGURATIONS;
 pub fn solution_or_fault()
     ensures solution { (text : List ℕ) → (board : PlainBoard) → IsSmallBoard text board
         → (value : ValueData) × (written : List ℕ) × IsSolution text value written }
-    ensures one { (text : List ℕ) → (value : ValueData) → (worth : ValueData) → (written : List ℕ) → (other : List ℕ)
-        → IsSolution text value written → IsSolution text worth other → (value ≡ worth) × (written ≡ other) }
+    ensures one { (text : List ℕ) → (value : ValueData) → (worth : ValueData) → (written : List ℕ)
+        → (other : List ℕ)
+        → IsSolution text value written → IsSolution text worth other
+        → (value ≡ worth) × (written ≡ other) }
     ensures either { (text : List ℕ)
-        → ((value : ValueData) × (written : List ℕ) × IsSolution text value written) ⊎ ((fault : Fault) × IsWrongBoard text fault) }
-    ensures one_fault { (text : List ℕ) → (fault : Fault) → (other : Fault) → IsWrongBoard text fault → IsWrongBoard text other
+        → ((value : ValueData) × (written : List ℕ) × IsSolution text value written)
+        ⊎ ((fault : Fault) × IsWrongBoard text fault) }
+    ensures one_fault { (text : List ℕ) → (fault : Fault) → (other : Fault)
+        → IsWrongBoard text fault → IsWrongBoard text other
         → fault ≡ other }
     ensures not_both { (text : List ℕ) → (value : ValueData) → (written : List ℕ) → (fault : Fault)
         → IsSolution text value written → IsWrongBoard text fault → ⊥ }
@@ -48,7 +52,8 @@ pub fn solution_or_fault()
 /// limits; any other text has a fault, and no text has both. What has a report within the limit of
 /// configurations has one within that of classes.
 pub fn report_or_fault()
-    ensures report { (board : PlainBoard) → IsConfiguration board board.start → (text : List ℕ) × IsReportOf board text }
+    ensures report { (board : PlainBoard) → IsConfiguration board board.start
+        → (text : List ℕ) × IsReportOf board text }
     ensures one { (limit : Limit) → (more : Limit) → (text : List ℕ) → (written : List ℕ)
         → (other : List ℕ)
         → IsReportOfText limit text written → IsReportOfText more text other → written ≡ other }
@@ -62,11 +67,13 @@ pub fn report_or_fault()
 {}
 
 /// If a text was answered with `accepted least k`, the labeller can answer k requests from the
-/// start of its board, whichever they are. If a document is accepted, its claim holds of the
-/// start's value.
+/// start of its board, whichever they are. If a document is accepted,
+/// its claim holds of the start's value.
 pub fn accepted_claims_hold()
-    ensures least { (text : List ℕ) → (number : ℕ) → AcceptsLeast text number → CanAnswer text number }
-    ensures holds { (board : PlainBoard) → (proof : PlainProof) → (shown : ShownClaim) → IsBoard board
+    ensures least { (text : List ℕ) → (number : ℕ) → AcceptsLeast text number
+        → CanAnswer text number }
+    ensures holds { (board : PlainBoard) → (proof : PlainProof) → (shown : ShownClaim)
+        → IsBoard board
         → IsVerdict board proof (Accepted shown) → Holds board shown.claim }
 {}
 
@@ -78,16 +85,19 @@ pub fn accepted_claims_hold()
 pub fn solved_boards_show_their_value()
     ensures value { (text : List ℕ) → (value : ValueData) → (written : List ℕ)
         → IsSolution text value written → ShowsValue text value written }
-    ensures accepted { (text : List ℕ) → (value : ValueData) → (written : List ℕ) → IsSolution text value written
+    ensures accepted { (text : List ℕ) → (value : ValueData) → (written : List ℕ)
+        → IsSolution text value written
         → IsAccepted text value written }
 {}
 
 /// Any document of the format whose text was written means the value. So the strategies that a
 /// reader finds in the bytes are those of which `solved_boards_show_their_value` speaks.
 pub fn written_documents_mean_the_value()
-    ensures { (text : List ℕ) → (value : ValueData) → (written : List ℕ) → (board : PlainBoard) → (document : PlainProof)
+    ensures { (text : List ℕ) → (value : ValueData) → (written : List ℕ) → (board : PlainBoard)
+        → (document : PlainProof)
         → IsAccepted text value written → IsBoard board → IsProof board document
-        → text ≡ board_text board → written ≡ proof_text board document → Means board document value }
+        → text ≡ board_text board → written ≡ proof_text board document
+        → Means board document value }
 {}
 
 /// The document that was written for a solved board is accepted, with the claim of the value. So a
@@ -96,20 +106,27 @@ pub fn written_documents_mean_the_value()
 pub fn printed_documents_are_accepted()
     ensures verdict { (board : PlainBoard) → (value : ValueData) → (text : List ℕ) → IsBoard board
         → configurations board ≤ MAX_CONFIGURATIONS
-        → IsSolved board value text → (proof : PlainProof) → (verdict : VerdictData) → IsProof board proof → text ≡ proof_text board proof
+        → IsSolved board value text → (proof : PlainProof) → (verdict : VerdictData)
+        → IsProof board proof → text ≡ proof_text board proof
         → IsVerdict board proof verdict → verdict ≡ Accepted (record { claim = claim_of value }) }
     ensures text { (text : List ℕ) → (written : List ℕ) → (value : ValueData)
         → (board : PlainBoard) → (verdict : VerdictData) → (line : List ℕ)
-        → IsSolution text value written → IsSmallBoard text board → IsChecked board written verdict line
+        → IsSolution text value written → IsSmallBoard text board
+        → IsChecked board written verdict line
         → verdict ≡ Accepted (record { claim = claim_of value }) }
-    ensures faultless_board { (text : List ℕ) → (written : List ℕ) → (value : ValueData) → IsSolution text value written
+    ensures faultless_board { (text : List ℕ) → (written : List ℕ) → (value : ValueData)
+        → IsSolution text value written
         → (fault : Fault) → HasNoBoard text fault → IsMemory fault }
-    ensures faultless_document { (text : List ℕ) → (written : List ℕ) → (value : ValueData) → (board : PlainBoard) → (fault : Fault)
-        → IsSolution text value written → IsSmallBoard text board → HasNoProof board written fault → IsMemory fault }
+    ensures faultless_document { (text : List ℕ) → (written : List ℕ) → (value : ValueData)
+        → (board : PlainBoard) → (fault : Fault)
+        → IsSolution text value written → IsSmallBoard text board → HasNoProof board written fault
+        → IsMemory fault }
     ensures runs { (limit : ℕ) → (board_limit : ℕ) → (proof_limit : ℕ) → (bytes : List ℕ)
         → (text : List ℕ) → (solve_left : Option (List ℕ)) → (board_left : Option (List ℕ))
-        → (proof_left : Option (List ℕ)) → (written : Bytes) → (value : ValueData) → (verdict : VerdictData)
-        → Ran IsSolution limit (record { old = Some bytes; new = solve_left }) (record { old = Some []; new = Some text }) value
+        → (proof_left : Option (List ℕ)) → (written : Bytes) → (value : ValueData)
+        → (verdict : VerdictData)
+        → Ran IsSolution limit (record { old = Some bytes; new = solve_left })
+        (record { old = Some []; new = Some text }) value
         → RanCheck board_limit proof_limit (record { old = Some bytes; new = board_left })
         (record { old = Some text; new = proof_left }) written verdict
         → verdict ≡ Accepted (record { claim = claim_of value }) }

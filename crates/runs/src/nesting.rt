@@ -1,6 +1,7 @@
 //! The text of a nested board, and writing it.
 
-ghost use Rattle.std.specs.Prelude.{◌≡◌, ◌≢◌, ◌↔◌, true, false, Err, IfOk, IfErr, OnOk, string_bytes};
+ghost use Rattle.std.specs.Prelude.{◌≡◌, ◌≢◌, ◌↔◌, true, false, Err, IfOk, IfErr, OnOk};
+ghost use Rattle.std.specs.Prelude.{string_bytes};
 ghost use Rattle.board_text.specs.Ranges.{InRange};
 ghost use Rattle.runs.specs.NestedText.{IsNestedText};
 ghost use Rattle.runs.specs.Run.{Wrote, WrotePrefix, bytes_of};
@@ -27,9 +28,12 @@ pub fn run_nested<W: Sink>(
     requires levels { InRange 1 MAX_BOARD_LEVELS levels }
     requires pebbles { InRange 1 MAX_PEBBLES pebbles }
     requires ready { W.has_failed writer.old ≡ false }
-    ensures ok { OnOk result (Wrote (IsNestedText levels pebbles) (bytes_of W.contents writer.old writer.new)) }
-    ensures kinds { IfErr result (λ fault. fault ≢ Write → (fault ≡ Memory) × (writer.new ≡ writer.old)) }
-    ensures prefix { result ≡ Err Write → WrotePrefix (IsNestedText levels pebbles) (bytes_of W.contents writer.old writer.new) }
+    ensures ok { OnOk result (Wrote (IsNestedText levels pebbles)
+        (bytes_of W.contents writer.old writer.new)) }
+    ensures kinds { IfErr result (λ fault. fault ≢ Write → (fault ≡ Memory)
+        × (writer.new ≡ writer.old)) }
+    ensures prefix { result ≡ Err Write
+        → WrotePrefix (IsNestedText levels pebbles) (bytes_of W.contents writer.old writer.new) }
     ensures write { (W.has_failed writer.new ≡ true) ↔ (result ≡ Err Write) }
 {
     let text = nested_text(alloc, levels, pebbles)?;

@@ -37,7 +37,8 @@ pub(crate) fn line(alloc: Global, space: &Space, verdict: Verdict) -> Result<Str
 
 fn write_fault(text: &mut String, space: &Space, fault: CheckFault) -> Result<(), AllocError>
     requires { NamesRanks space.now fault }
-    ensures { OnOk result (string_bytes text.new ≡ string_bytes text.old ++ fault_words space.now fault) }
+    ensures { OnOk result (string_bytes text.new ≡ string_bytes text.old
+        ++ fault_words space.now fault) }
 {
     match fault {
         CheckFault::StartMissing { side } => {
@@ -81,7 +82,8 @@ fn write_row(
     turn: u16,
 ) -> Result<(), AllocError>
     requires { at < configurations space.now }
-    ensures { OnOk result (string_bytes text.new ≡ string_bytes text.old ++ row_words space.now side at turn) }
+    ensures { OnOk result (string_bytes text.new ≡ string_bytes text.old
+        ++ row_words space.now side at turn) }
 {
     text.push_str(side_word(side))?;
     text.push_str(" row")?;

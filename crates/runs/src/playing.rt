@@ -28,8 +28,8 @@ use positions::Side;
 use solver::NumberedValues;
 use std::alloc::Global;
 
-/// Reads a board, finds its values and plays on it with a person, who is this `side` and writes
-/// lines.
+/// Reads a board, finds its values and plays on it with a person,
+/// who is this `side` and writes lines.
 ///
 /// The rounds that find the values are run on this thread. No reader or writer must have failed
 /// before, nor a reader have reported its end.
@@ -52,15 +52,17 @@ pub fn run_play<B: Source, L: Source, W: Sink>(
         (bytes_of L.remaining lines.old lines.new) (bytes_of W.contents writer.old writer.new)) }
     ensures fault { IfErr result (PlayFails Numbering.Ordered side MAX_BOARD_BYTES
         ((lines.new ≡ lines.old) × (writer.new ≡ writer.old))
-        (bytes_of B.remaining board.old board.new) (bytes_of L.remaining lines.old lines.new) (bytes_of W.contents writer.old writer.new)) }
-    ensures streams { TellsFailures result ((B.has_failed board.new ≡ true) ⊎ (L.has_failed lines.new ≡ true))
+        (bytes_of B.remaining board.old board.new) (bytes_of L.remaining lines.old lines.new)
+        (bytes_of W.contents writer.old writer.new)) }
+    ensures streams { TellsFailures result
+        ((B.has_failed board.new ≡ true) ⊎ (L.has_failed lines.new ≡ true))
         (stream_of W.contents W.has_failed writer.old writer.new) }
 {
     run_play_within(alloc, Numbering::Ordered, side, board, lines, writer)
 }
 
-/// The same as `run_play`, on a board that may have as many configurations, or classes, as the
-/// `limit` allows.
+/// The same as `run_play`, on a board that may have as many configurations,
+/// or classes, as the `limit` allows.
 pub fn run_play_within<B: Source, L: Source, W: Sink>(
     alloc: Global,
     limit: Numbering,
@@ -104,7 +106,8 @@ pub fn run_play_within<B: Source, L: Source, W: Sink>(
 pub struct Telling {
     /// That a large board is solved, before it is.
     pub size: bool,
-    /// A greeting before the first line is read, and the choices after the answer to each wrong line.
+    /// A greeting before the first line is read,
+    /// and the choices after the answer to each wrong line.
     pub choices: bool,
 }
 
@@ -162,8 +165,8 @@ pub fn run_play_with_prompts<B: Source, L: Source, W: Sink, E: Sink>(
 
 /// Plays on the nested board of a level, 1 to `MAX_LEVELS`, with a person, who asks by lines.
 ///
-/// The reader and the writer must not have failed before. Each answer is written before the next
-/// line is read.
+/// The reader and the writer must not have failed before.
+/// Each answer is written before the next line is read.
 pub fn run_climb<L: Source, W: Sink>(
     alloc: Global,
     levels: u8,
@@ -174,9 +177,11 @@ pub fn run_climb<L: Source, W: Sink>(
     requires lines_ready { L.has_failed lines.old ≡ false }
     requires lines_unended { L.has_ended lines.old ≡ false }
     requires writer_ready { W.has_failed writer.old ≡ false }
-    ensures ok { IfOk result (IsOver (PersonClimbs levels) (bytes_of L.remaining lines.old lines.new)
+    ensures ok { IfOk result (IsOver (PersonClimbs levels)
+        (bytes_of L.remaining lines.old lines.new)
         (bytes_of W.contents writer.old writer.new)) }
-    ensures fault { IfErr result (IsBrokenOff (PersonClimbs levels) (bytes_of L.remaining lines.old lines.new)
+    ensures fault { IfErr result (IsBrokenOff (PersonClimbs levels)
+        (bytes_of L.remaining lines.old lines.new)
         (bytes_of W.contents writer.old writer.new)) }
     ensures streams { TellsFailures result (L.has_failed lines.new ≡ true)
         (stream_of W.contents W.has_failed writer.old writer.new) }
@@ -186,8 +191,8 @@ pub fn run_climb<L: Source, W: Sink>(
 }
 
 /// Plays as `run_climb` does, and if `shows` says so, prompts the person by lines on `errors`: a
-/// greeting before the first line is read, and after the answer to each wrong line the pebbles that
-/// can be asked for.
+/// greeting before the first line is read, and after the answer to
+/// each wrong line the pebbles that can be asked for.
 ///
 /// If `errors` fails, or has failed before, nothing more is written there, and the play goes on.
 pub fn run_climb_with_prompts<L: Source, W: Sink, E: Sink>(

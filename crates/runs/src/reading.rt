@@ -23,7 +23,8 @@ pub(crate) fn read_text<R: Source>(
     requires ready { R.has_failed reader.old ≡ false }
     requires unended { R.has_ended reader.old ≡ false }
     requires countable { limit < usize.MAX }
-    ensures ok { IfOk result (λ text. Gave limit (bytes_of R.remaining reader.old reader.new) text.items) }
+    ensures ok { IfOk result (λ text. Gave limit
+        (bytes_of R.remaining reader.old reader.new) text.items) }
     ensures fault { IfErr result (IsUnread limit (bytes_of R.remaining reader.old reader.new)) }
     ensures read { (R.has_failed reader.new ≡ true) ↔ (result ≡ Err Read) }
 {

@@ -31,8 +31,8 @@ use std::fmt::Write;
 use std::sync::Wait;
 use std::thread::Threads;
 
-/// Reads a board, finds its values on this thread and writes how many of its configurations have
-/// each value.
+/// Reads a board, finds its values on this thread and writes
+/// how many of its configurations have each value.
 ///
 /// The reader and the writer must not have failed before, nor the reader have reported its end.
 /// Nothing is written before the whole text is built: after a fault nothing was written, but for
@@ -59,8 +59,8 @@ pub fn run_report_alone<R: Source, W: Sink>(
 
 /// The same as `run_report_alone`, with several workers.
 ///
-/// The number of `workers` is 1 to `MAX_WORKERS`, and they find the values as in `run_solve`. It
-/// may wait for them.
+/// The number of `workers` is 1 to `MAX_WORKERS`, and they find the
+/// values as in `run_solve`. It may wait for them.
 pub fn run_report<R: Source, W: Sink>(
     rt: &(impl Threads + Wait + Sync),
     alloc: Global,
@@ -83,8 +83,8 @@ pub fn run_report<R: Source, W: Sink>(
     run_report_within(rt, alloc, Numbering::Ordered, workers, reader, writer)
 }
 
-/// The same as `run_report`, of a board that may have as many configurations, or classes, as the
-/// `limit` allows.
+/// The same as `run_report`, of a board that may have as many configurations,
+/// or classes, as the `limit` allows.
 pub fn run_report_within<R: Source, W: Sink>(
     rt: &(impl Threads + Wait + Sync),
     alloc: Global,
@@ -171,8 +171,8 @@ pub fn report_text_alone(alloc: Global, text: &[u8]) -> Result<String, RunFault>
     Ok(report_of(alloc, &board, &values)?)
 }
 
-/// The same as `report_text_alone`, by this number of `workers`, 1 to `MAX_WORKERS`. It may wait
-/// for them.
+/// The same as `report_text_alone`, by this number of `workers`,
+/// 1 to `MAX_WORKERS`. It may wait for them.
 pub fn report_text(
     rt: &(impl Threads + Wait + Sync),
     alloc: Global,
@@ -187,8 +187,8 @@ pub fn report_text(
     report_text_within(rt, alloc, Numbering::Ordered, workers, text)
 }
 
-/// The same as `report_text`, of a board that may have as many configurations, or classes, as the
-/// `limit` allows.
+/// The same as `report_text`, of a board that may have as many configurations,
+/// or classes, as the `limit` allows.
 pub fn report_text_within(
     rt: &(impl Threads + Wait + Sync),
     alloc: Global,
@@ -262,14 +262,16 @@ fn count_configurations(board: &Board) -> u64
 
 /// Writes the line of a `word` and a number.
 fn write_size(text: &mut String, word: &str, number: u64) -> Result<(), AllocError>
-    ensures { OnOk result (string_bytes text.new ≡ string_bytes text.old ++ size_line word.now number) }
+    ensures { OnOk result (string_bytes text.new ≡ string_bytes text.old
+        ++ size_line word.now number) }
 {
     write!(text, "{word} {number}\n")
 }
 
 /// Writes the value of the start.
 fn write_start(text: &mut String, start: Value) -> Result<(), AllocError>
-    ensures { OnOk result (string_bytes text.new ≡ string_bytes text.old ++ start_value_line start) }
+    ensures { OnOk result (string_bytes text.new ≡ string_bytes text.old
+        ++ start_value_line start) }
 {
     text.push_str("start ")?;
     write_claim(text, Claim::from(start))?;
@@ -293,7 +295,8 @@ fn write_counts(text: &mut String, values: &NumberedValues) -> Result<(), AllocE
 
 /// Writes the line of a value and the number of configurations that have it.
 fn write_count(text: &mut String, value: u32, count: u64) -> Result<(), AllocError>
-    ensures { OnOk result (string_bytes text.new ≡ string_bytes text.old ++ count_line value count) }
+    ensures { OnOk result (string_bytes text.new ≡ string_bytes text.old
+        ++ count_line value count) }
 {
     write!(text, "value {value}: {count}\n")
 }

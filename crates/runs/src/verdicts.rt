@@ -40,7 +40,8 @@ pub fn check_joined_text(
     alloc: Global,
     text: &[u8],
 ) -> Result<VerdictLine, RunFault>
-    ensures answered { IfOk result (λ answer. IsAnswered text.now answer.verdict (string_bytes answer.line)) }
+    ensures answered { IfOk result
+        (λ answer. IsAnswered text.now answer.verdict (string_bytes answer.line)) }
     ensures fault { IfErr result (CannotAnswer text.now) }
 {
     let (board_bytes, rest) = text.split_at(board_length(text));
@@ -58,7 +59,8 @@ pub fn check_text(
     text: &[u8],
 ) -> Result<VerdictLine, RunFault>
     requires few { configurations board.now ≤ MAX_CONFIGURATIONS }
-    ensures checked { IfOk result (λ answer. IsChecked board.now text.now answer.verdict (string_bytes answer.line)) }
+    ensures checked { IfOk result (λ answer. IsChecked board.now text.now answer.verdict
+        (string_bytes answer.line)) }
     ensures fault { IfErr result (HasNoProof board.now text.now) }
 {
     let space = Space::new(board);

@@ -8,12 +8,13 @@ ghost use Rattle.runs.specs.declared.fault.RunFault.TheVariants.{Write};
 use crate::fault::RunFault;
 use board_text::{Failed, Sink, write_all};
 
-/// Writes the text. The writer must not have failed before. After a fault a prefix of the text was
-/// written.
+/// Writes the text. The writer must not have failed before.
+/// After a fault a prefix of the text was written.
 pub(crate) fn write_text<W: Sink>(writer: &mut W, text: &str) -> Result<(), RunFault>
     requires ready { W.has_failed writer.old ≡ false }
     ensures ok { OnOk result (Appends (W.contents writer.old) (W.contents writer.new) text.now) }
-    ensures prefix { OnErr result (AppendsPrefix (W.contents writer.old) (W.contents writer.new) text.now) }
+    ensures prefix { OnErr result (AppendsPrefix (W.contents writer.old)
+        (W.contents writer.new) text.now) }
     ensures fault { IfErr result (λ fault. fault ≡ Write) }
     ensures failed { (W.has_failed writer.new ≡ true) ↔ (result ≡ Err Write) }
 {

@@ -1,12 +1,14 @@
 -- Counts of a gap's answers, as sizes in the game's terms.
-use Rattle.std.proofs.Common.{◌≡◌, ℕ, ◌+◌, ◌<◌, ◌==◌, ◌&&◌, ◌↔◌, Bool, true, false, cond, zero, suc, refl, arith, sym, ap, ◌∙◌, subst, List, [], ◌∷◌, Contains}
+use Rattle.std.proofs.Common.{◌≡◌, ℕ, ◌+◌, ◌<◌, ◌==◌, ◌&&◌, ◌↔◌, Bool, true, false, cond, zero, suc, refl, arith, sym}
+use Rattle.std.proofs.Common.{ap, ◌∙◌, subst, List, [], ◌∷◌, Contains}
 use Rattle.std.proofs.lemmas.Bool.Decides.{nat_tests}
 use Rattle.board_text.specs.PlainBoard.{IsBoard}
 use Rattle.board_text.specs.Domination.{has_bit}
 use Rattle.board_text.specs.declared.board.TheConstants.{MAX_LABELS}
 use Rattle.positions.specs.Game.{LabellerTree}
 use Rattle.positions.specs.Counts.{HasSize}
-use Rattle.positions.proofs.Cited.{size_of, count_below as count_to, count_below-zero as count_to-zero, count_below-add as count_to-add}
+use Rattle.positions.proofs.Cited.{size_of, count_below as count_to, count_below-zero as count_to-zero}
+use Rattle.positions.proofs.Cited.{count_below-add as count_to-add}
 use Rattle.positions.proofs.Cited.{same_size, same_fact_size, size_zero}
 use Rattle.graphs.specs.Answers.{IsAnswerIn, AreAnswerBits}
 use Rattle.graphs.specs.Graph.{PlainGraph, count_below, live_answers, lasts}
@@ -38,7 +40,8 @@ count-one test = by (test 0) refl
       so_many = refl;
     })
     by false e = same_size P (count_to test 1) 0 size
-        ((size_zero P).1 (λ k holds. true_not_false (test 0) (ap test (let low : k < 1 = holds.0 in omega arith) ∙ holds.1) e))
+        ((size_zero P).1 (λ k holds. true_not_false (test 0)
+        (ap test (let low : k < 1 = holds.0 in omega arith) ∙ holds.1) e))
 
 pub count-same : (test : ℕ → Bool) (n : ℕ) → count_to test n ≡ count_below n test
 count-same test zero = count_to-zero test
@@ -54,18 +57,22 @@ test_same m n e = grind (arith, nat_tests)
 
 -- if the test says whether P holds, the count is the number of answers for which P holds
 pub live-size : (a : PlainGraph) (g : ℕ) (above : ℕ → Bool) (P : ℕ → Type 0)
-    → ((v : ℕ) → v < a.places → (above (a.member g v) ≡ true) ↔ P v) → HasSize (λ v. IsAnswerAt a g v × P v) (live_answers a above g)
+    → ((v : ℕ) → v < a.places → (above (a.member g v) ≡ true) ↔ P v)
+    → HasSize (λ v. IsAnswerAt a g v × P v) (live_answers a above g)
 live-size a g above P means =
     let test : ℕ → Bool = λ v. a.struck (a.member g v) == g && above (a.member g v) in
     subst (HasSize (λ v. IsAnswerAt a g v × P v)) (count-same test a.places)
     (size_of (λ v. IsAnswerAt a g v × P v) test a.places (λ v. (
       λ holds. let low : v < a.places = holds.0.is_place in (
         low,
-        and_true (a.struck (a.member g v) == g) (above (a.member g v)) (same_is (a.struck (a.member g v)) g holds.0.struck)
+        and_true (a.struck (a.member g v) == g) (above (a.member g v))
+            (same_is (a.struck (a.member g v)) g holds.0.struck)
             ((means v low).1 holds.1),
       ),
-      λ passes. let both = both_true (a.struck (a.member g v) == g) (above (a.member g v)) passes.1 in
-          (record { is_place = passes.0; struck = test_same (a.struck (a.member g v)) g both.0 }, (means v passes.0).0 both.1),
+      λ passes. let both = both_true (a.struck (a.member g v) == g) (above (a.member g v)) passes.1 in (
+        record { is_place = passes.0; struck = test_same (a.struck (a.member g v)) g both.0 },
+        (means v passes.0).0 both.1,
+      ),
     )))
 
 -- the number of bits that are set is the count of all answers

@@ -25,7 +25,8 @@ pub record IsClosingGap (s : PlainStage) (gap place : ℕ) (now : PlainStage) : 
   pub shut : (v : ℕ) → v < place → is_open now.values ((graph_of s.game).member gap v) ≡ false
   pub filed_are : IsFiled now
 
-module _ (s : PlainStage) (gap place rank : ℕ) (now : PlainStage) (to_close : IsToClose s gap) (inside : place < (graph_of s.game).places) (rank_is : (graph_of s.game).member gap place ≡ rank)
+module _ (s : PlainStage) (gap place rank : ℕ) (now : PlainStage) (to_close : IsToClose s gap)
+    (inside : place < (graph_of s.game).places) (rank_is : (graph_of s.game).member gap place ≡ rank)
     (so_far : IsClosingGap s gap place now) where
   abbrev a : PlainGraph
   a = (graph_of s.game)
@@ -47,7 +48,8 @@ module _ (s : PlainStage) (gap place rank : ℕ) (now : PlainStage) (to_close : 
       let value_is : now.value ≡ s.value = so_far.kept.value_is in
       let few = to_close.few in
       let low = to_close.low in
-      let all : length s.values ≡ (graph_of s.game).configurations = sym so_far.closing.same_length ∙ length_is in record {
+      let all : length s.values ≡ (graph_of s.game).configurations = sym so_far.closing.same_length ∙ length_is in
+      record {
         kept = record {
           game_is = so_far.kept.game_is;
           value_is = so_far.kept.value_is;
@@ -58,8 +60,10 @@ module _ (s : PlainStage) (gap place rank : ℕ) (now : PlainStage) (to_close : 
         closing = subst (λ n. IsClosing a gap s.value s.values (slice_set now.values rank n)) (sym value_is)
             (closing-step a gap s.value s.values now.values rank rank_in all (λ e. omega arith) still
             (member-is a gap place rank inside rank_is) so_far.closing);
-        shut = shut-more a gap place now.values (slice_set now.values rank now.value) rank now.value in_words (λ e. omega arith) rank_is refl so_far.shut;
-        filed_are = filed-once now rank so_far.filed_are (rw so_far.kept.game_is few) (rw (value_is, so_far.kept.game_is) low) (rw so_far.kept.game_is rank_in) still;
+        shut = shut-more a gap place now.values (slice_set now.values rank now.value) rank now.value in_words
+            (λ e. omega arith) rank_is refl so_far.shut;
+        filed_are = filed-once now rank so_far.filed_are (rw so_far.kept.game_is few)
+            (rw (value_is, so_far.kept.game_is) low) (rw so_far.kept.game_is rank_in) still;
       }
 
   pub gap-skips : is_open now.values rank ≡ false → IsClosingGap s gap (place + 1) now
@@ -72,7 +76,8 @@ module _ (s : PlainStage) (gap place rank : ℕ) (now : PlainStage) (to_close : 
     filed_are = so_far.filed_are;
   }
 
-pub gap-closed : (s : PlainStage) (gap place : ℕ) (now : PlainStage) → IsToClose s gap → (graph_of s.game).places ≤ place → IsClosingGap s gap place now → Closes s gap now
+pub gap-closed : (s : PlainStage) (gap place : ℕ) (now : PlainStage) → IsToClose s gap
+    → (graph_of s.game).places ≤ place → IsClosingGap s gap place now → Closes s gap now
 gap-closed s gap place now to_close all so_far = record {
   kept = so_far.kept;
   strikes_is = so_far.strikes_is;

@@ -1,5 +1,7 @@
 -- The lists of a stage after a configuration is filed.
-use Rattle.std.proofs.Common.{◌≡◌, ◌≢◌, ℕ, ◌+◌, ◌<◌, ◌≤◌, ◌==◌, subst, inl, inr, true, cond, zero, suc, refl, arith, sym, ap, ◌∙◌, List, [], ◌∷◌, ◌++◌, length, get_or, slice_index, slice_set, get_or-set_other, get_or-set_same}
+use Rattle.std.proofs.Common.{◌≡◌, ◌≢◌, ℕ, ◌+◌, ◌<◌, ◌≤◌, ◌==◌, subst, inl, inr, true, cond, zero, suc, refl, arith}
+use Rattle.std.proofs.Common.{sym, ap, ◌∙◌, List, [], ◌∷◌, ◌++◌, length, get_or, slice_index, slice_set}
+use Rattle.std.proofs.Common.{get_or-set_other, get_or-set_same}
 use Rattle.std.proofs.Math.ListN.{length-set}
 use Rattle.std.proofs.lemmas.Bool.{cases_lt}
 use Rattle.std.proofs.lemmas.List.{ext_get_or}
@@ -24,14 +26,16 @@ past (x ∷ xs) (suc i) h = past xs i (omega arith)
 pub list-shown : (s : Lists) → AreLists s → (l : ℕ) → get_or (first_lists s.lists s.list) l [] ≡ s.list l
 list-shown s are l = elim (cases_lt l s.lists) [
   | inl inside ↦ get_or-map-range_with_len s.list 0 s.lists l l [] inside (omega arith)
-  | inr outside ↦ past (first_lists s.lists s.list) l (let size = length-map-range_with_len s.list 0 s.lists in omega arith)
+  | inr outside ↦ past (first_lists s.lists s.list) l
+      (let size = length-map-range_with_len s.list 0 s.lists in omega arith)
       ∙ sym (are.beyond l outside)
 ]
 
 -- the list of a value is the store's list of this number
 pub filed-shown : (b : Numbered) (value : ℕ) (values counts : List ℕ) (s : Lists) (strikes : List ℕ) (v : PlainStage)
     → stage_of b value values counts s strikes ≡ v → AreLists s → (l : ℕ) → filed_at v l ≡ s.list l
-filed-shown b value values counts s strikes v view are l = ap (λ (w : PlainStage). filed_at w l) (sym view) ∙ list-shown s are l
+filed-shown b value values counts s strikes v view are l =
+    ap (λ (w : PlainStage). filed_at w l) (sym view) ∙ list-shown s are l
 
 -- ---- a push at one of the lists
 
@@ -52,21 +56,27 @@ module _ (s s' : Lists) (to node : ℕ) (same : AreSame s' (node_pushed s to nod
   set-shown inside =
       let size = length-map-range_with_len s.list 0 s.lists in
       let size' = length-map-range_with_len s'.list 0 s.lists in
-      let before : get_or was to [] ≡ s.list to = get_or-map-range_with_len s.list 0 s.lists to to [] inside (omega arith) in
-      ext_get_or [] (first_lists s.lists s'.list) (slice_set was to longer) (size' ∙ sym (length-set was to longer ∙ size)) (λ i low.
+      let before : get_or was to [] ≡ s.list to =
+      get_or-map-range_with_len s.list 0 s.lists to to [] inside (omega arith) in
+      ext_get_or [] (first_lists s.lists s'.list) (slice_set was to longer)
+      (size' ∙ sym (length-set was to longer ∙ size)) (λ i low.
       let within : i < s.lists = omega arith in
       get_or-map-range_with_len s'.list 0 s.lists i i [] within (omega arith) ∙ elim (same_or_not i to) [
         | inl here ↦ ap s'.list here ∙ push-here ∙ ap (λ (xs : List ℕ). xs ++ node ∷ []) (sym before)
-            ∙ sym (ap (λ k. get_or (slice_set was to longer) k []) here ∙ get_or-set_same was to longer [] (omega arith))
+            ∙ sym (ap (λ k. get_or (slice_set was to longer) k []) here
+            ∙ get_or-set_same was to longer [] (omega arith))
         | inr away ↦ push-away i away
-            ∙ sym (get_or-set_other was to i longer [] away ∙ get_or-map-range_with_len s.list 0 s.lists i i [] within (omega arith))
+            ∙ sym (get_or-set_other was to i longer [] away
+            ∙ get_or-map-range_with_len s.list 0 s.lists i i [] within (omega arith))
       ])
 
-  pub push-shown : (b : Numbered) (value : ℕ) (values counts strikes : List ℕ) (v : PlainStage) → value ≡ to → to < s.lists
+  pub push-shown : (b : Numbered) (value : ℕ) (values counts strikes : List ℕ) (v : PlainStage) → value ≡ to
+      → to < s.lists
       → stage_of b value values counts s strikes ≡ v → stage_of b value values counts s' strikes ≡ rank_listed v node
   push-shown b value values counts strikes v here inside view =
       subst (λ (w : PlainStage). stage_of b value values counts s' strikes ≡ rank_listed w node) view
-      (rw (same.same_lists, here) (ap (λ (bs : List (List ℕ)). record (stage_of b to values counts s strikes) { buckets = bs })
+      (rw (same.same_lists, here) (ap
+      (λ (bs : List (List ℕ)). record (stage_of b to values counts s strikes) { buckets = bs })
       (set-shown inside)))
 
 -- ---- the stage after a configuration is listed
@@ -79,39 +89,54 @@ module _ (s : PlainStage) (rank : ℕ) where
   listed-away v away = get_or-set_other s.buckets s.value v (filed_at s s.value ++ rank ∷ []) [] away
 
   -- the list of the current value has the filed configuration once more, and every other list is as before
-  pub listed-times : s.value < length s.buckets → (v x : ℕ) → times x (filed_at (rank_listed s rank) v) ≡ times x (filed_at s v) + cond (v == s.value) (times x (rank ∷ [])) 0
+  pub listed-times : s.value < length s.buckets → (v x : ℕ)
+      → times x (filed_at (rank_listed s rank) v) ≡ times x (filed_at s v) + cond (v == s.value) (times x (rank ∷ [])) 0
   listed-times inside v x = elim (same_or_not v s.value) [
-    | inl here ↦ ap (λ w. times x (filed_at (rank_listed s rank) w)) here ∙ ap (times x) (listed-here inside) ∙ times-append x (filed_at s s.value) (rank ∷ [])
-        ∙ (let at = ap (λ w. times x (filed_at s w)) here in let more = cond_same {A = ℕ} v s.value (times x (rank ∷ [])) 0 here in omega arith)
-    | inr away ↦ ap (times x) (listed-away v away) ∙ (let none = cond_other {A = ℕ} v s.value (times x (rank ∷ [])) 0 away in omega arith)
+    | inl here ↦ ap (λ w. times x (filed_at (rank_listed s rank) w)) here ∙ ap (times x) (listed-here inside)
+        ∙ times-append x (filed_at s s.value) (rank ∷ [])
+        ∙ (let at = ap (λ w. times x (filed_at s w)) here in let more =
+        cond_same {A = ℕ} v s.value (times x (rank ∷ [])) 0 here in omega arith)
+    | inr away ↦ ap (times x) (listed-away v away)
+        ∙ (let none = cond_other {A = ℕ} v s.value (times x (rank ∷ [])) 0 away in omega arith)
   ]
 
 -- an open configuration is in no list
-pub open-free : (s : PlainStage) (rank : ℕ) → IsFiled s → (graph_of s.game).configurations ≤ MAX_CLASSES → rank < (graph_of s.game).configurations → is_open s.values rank ≡ true → (v : ℕ) → times rank (filed_at s v) ≡ 0
+pub open-free : (s : PlainStage) (rank : ℕ) → IsFiled s → (graph_of s.game).configurations ≤ MAX_CLASSES
+    → rank < (graph_of s.game).configurations → is_open s.values rank ≡ true → (v : ℕ) → times rank (filed_at s v) ≡ 0
 open-free s rank are few i still v = elim (cases_lt ((graph_of s.game).configurations) v) [
   | inl beyond ↦ ap (times rank) (past s.buckets v (let size = are.lists_length in omega arith))
-  | inr low ↦ are.once v rank low i ∙ cond_other (slice_index s.values rank) v 1 0 (let word = open_word s.values rank still in λ e. omega arith)
+  | inr low ↦ are.once v rank low i
+      ∙ cond_other (slice_index s.values rank) v 1 0 (let word = open_word s.values rank still in λ e. omega arith)
 ]
 
-pub filed-once : (s : PlainStage) (rank : ℕ) → IsFiled s → (graph_of s.game).configurations ≤ MAX_CLASSES → s.value ≤ (graph_of s.game).configurations → rank < (graph_of s.game).configurations → is_open s.values rank ≡ true → IsFiled (rank_filed s rank)
+pub filed-once : (s : PlainStage) (rank : ℕ) → IsFiled s → (graph_of s.game).configurations ≤ MAX_CLASSES
+    → s.value ≤ (graph_of s.game).configurations → rank < (graph_of s.game).configurations
+    → is_open s.values rank ≡ true → IsFiled (rank_filed s rank)
 filed-once s rank are few low i still = record {
   values_length = length-set s.values rank s.value ∙ are.values_length;
   lists_length = length-set s.buckets s.value (filed_at s s.value ++ rank ∷ []) ∙ are.lists_length;
   below = λ v x h. elim (same_or_not x rank) [
     | inl here ↦ omega arith
-    | inr other ↦ are.below v x (let all = listed-times s rank inside v x in let none = not_here v x other in omega arith)
+    | inr other ↦ are.below v x (let all = listed-times s rank inside v x in let none = not_here v x other in
+        omega arith)
   ];
   once = λ v x k l. listed-times s rank inside v x ∙ elim (same_or_not x rank) [
     | inl here ↦
-        let word : slice_index (slice_set s.values rank s.value) x ≡ s.value = ap (slice_index (slice_set s.values rank s.value)) here ∙ get_or-set_same s.values rank s.value 0 (let size = are.values_length in omega arith) in
-        let free : times x (filed_at s v) ≡ 0 = ap (λ y. times y (filed_at s v)) here ∙ open-free s rank are few i still v in
+        let word : slice_index (slice_set s.values rank s.value) x ≡ s.value =
+        ap (slice_index (slice_set s.values rank s.value)) here
+        ∙ get_or-set_same s.values rank s.value 0 (let size = are.values_length in omega arith) in
+        let free : times x (filed_at s v) ≡ 0 =
+        ap (λ y. times y (filed_at s v)) here ∙ open-free s rank are few i still v in
         let one : times x (rank ∷ []) ≡ 1 = ap (λ y. times y (rank ∷ [])) here ∙ times_one rank in
         elim (same_or_not v s.value) [
-          | inl same ↦ (let more = cond_same {A = ℕ} v s.value (times x (rank ∷ [])) 0 same in omega arith) ∙ sym (cond_same (slice_index (slice_set s.values rank s.value) x) v 1 0 (word ∙ sym same))
-          | inr away ↦ (let more = cond_other {A = ℕ} v s.value (times x (rank ∷ [])) 0 away in omega arith) ∙ sym (cond_other (slice_index (slice_set s.values rank s.value) x) v 1 0 (λ e. away (sym e ∙ word)))
+          | inl same ↦ (let more = cond_same {A = ℕ} v s.value (times x (rank ∷ [])) 0 same in omega arith)
+              ∙ sym (cond_same (slice_index (slice_set s.values rank s.value) x) v 1 0 (word ∙ sym same))
+          | inr away ↦ (let more = cond_other {A = ℕ} v s.value (times x (rank ∷ [])) 0 away in omega arith)
+              ∙ sym (cond_other (slice_index (slice_set s.values rank s.value) x) v 1 0 (λ e. away (sym e ∙ word)))
         ]
     | inr other ↦
-        let word : slice_index (slice_set s.values rank s.value) x ≡ slice_index s.values x = get_or-set_other s.values rank x s.value 0 other in
+        let word : slice_index (slice_set s.values rank s.value) x ≡ slice_index s.values x =
+        get_or-set_other s.values rank x s.value 0 other in
         (let none = not_here v x other in omega arith) ∙ are.once v x k l ∙ ap (λ w. cond (w == v) 1 0) (sym word)
   ];
 }

@@ -1,5 +1,7 @@
 -- After the won configurations of a finished round are filed, the stage is ready for the next round.
-use Rattle.std.proofs.Common.{◌≡◌, ℕ, ◌+◌, ◌-◌, ◌<◌, ◌≤◌, inl, inr, true, false, suc, arith, sym, ap, ◌∙◌, subst, List, [], ◌∷◌, ◌++◌, length, take, drop, slice_index, slice_set, get_or, get_or-set_other, get_or-set_same}
+use Rattle.std.proofs.Common.{◌≡◌, ℕ, ◌+◌, ◌-◌, ◌<◌, ◌≤◌, inl, inr, true, false, suc, arith, sym, ap, ◌∙◌, subst, List}
+use Rattle.std.proofs.Common.{[], ◌∷◌, ◌++◌, length, take, drop, slice_index, slice_set, get_or, get_or-set_other}
+use Rattle.std.proofs.Common.{get_or-set_same}
 use Rattle.std.proofs.lemmas.Bool.{cases_lt}
 use Rattle.std.proofs.lemmas.List.{take_more, take-append-drop}
 use Rattle.index_lists.specs.Lists.{times}
@@ -12,7 +14,8 @@ use Rattle.graphs.specs.Numbered.{Numbered, graph_of}
 use Rattle.solver.specs.Ending.{IsRoundEnd}
 use Rattle.solver.specs.Solving.{IsWorth}
 use Rattle.solver.specs.Solving.{AnswerLasts}
-use Rattle.solver.specs.Inside.Stage.{PlainStage, rank_filed, as_solving, IsKeptStage, IsStriking, IsUnstruck, FilesAll, TakesCounts}
+use Rattle.solver.specs.Inside.Stage.{PlainStage, rank_filed, as_solving, IsKeptStage, IsStriking, IsUnstruck, FilesAll}
+use Rattle.solver.specs.Inside.Stage.{TakesCounts}
 use Rattle.solver.specs.Inside.Tables.{is_open, is_unstruck, IsCounted, AreWords}
 use Rattle.graphs.proofs.Cited.{value_of_lasts, lasts_of_value, same_test, true_or_false, same_or_not, lasts-less}
 use Rattle.solver.proofs.StruckTables.{IsCounted-same, AreWords-same, same-open}
@@ -23,12 +26,16 @@ use Rattle.solver.proofs.StageStrikes.{unstruck-none, filed-counting}
 
 -- ---- filing one after the other
 
-pub files-more : (s : PlainStage) (ranks : List ℕ) (rank : ℕ) (now : PlainStage) → (graph_of s.game).configurations ≤ MAX_CLASSES → s.value ≤ (graph_of s.game).configurations
-    → rank < (graph_of s.game).configurations → is_open s.values rank ≡ true → times rank ranks ≡ 0 → FilesAll s ranks now → FilesAll s (ranks ++ rank ∷ []) (rank_filed now rank)
+pub files-more : (s : PlainStage) (ranks : List ℕ) (rank : ℕ) (now : PlainStage)
+    → (graph_of s.game).configurations ≤ MAX_CLASSES → s.value ≤ (graph_of s.game).configurations
+    → rank < (graph_of s.game).configurations → is_open s.values rank ≡ true → times rank ranks ≡ 0
+    → FilesAll s ranks now → FilesAll s (ranks ++ rank ∷ []) (rank_filed now rank)
 files-more s ranks rank now few low i still new so_far =
     let value_is : now.value ≡ s.value = so_far.kept.value_is in
-    let same : (graph_of now.game).configurations ≡ (graph_of s.game).configurations = ap (λ (n : Numbered). (graph_of n).configurations) so_far.kept.game_is in
-    let open_now : is_open now.values rank ≡ true = same-open (slice_index now.values rank) (slice_index s.values rank) (so_far.elsewhere rank new) ∙ still in
+    let same : (graph_of now.game).configurations ≡ (graph_of s.game).configurations =
+    ap (λ (n : Numbered). (graph_of n).configurations) so_far.kept.game_is in
+    let open_now : is_open now.values rank ≡ true =
+    same-open (slice_index now.values rank) (slice_index s.values rank) (so_far.elsewhere rank new) ∙ still in
     let inside : rank < length now.values = (let size = so_far.filed_are.values_length in omega arith) in
     record {
       kept = record {
@@ -38,13 +45,19 @@ files-more s ranks rank now few low i still new so_far =
       };
       counts_is = so_far.counts_is;
       there = λ x h. elim (same_or_not x rank) [
-        | inl here ↦ ap (slice_index (slice_set now.values rank now.value)) here ∙ get_or-set_same now.values rank now.value 0 inside ∙ value_is
-        | inr other ↦ get_or-set_other now.values rank x now.value 0 other ∙ so_far.there x (let all = times-append x ranks (rank ∷ []) in let none = times_none rank x other in omega arith)
+        | inl here ↦ ap (slice_index (slice_set now.values rank now.value)) here
+            ∙ get_or-set_same now.values rank now.value 0 inside ∙ value_is
+        | inr other ↦ get_or-set_other now.values rank x now.value 0 other
+            ∙ so_far.there x (let all = times-append x ranks (rank ∷ []) in let none = times_none rank x other in
+            omega arith)
       ];
       elsewhere = λ x h.
           let all = times-append x ranks (rank ∷ []) in
-          get_or-set_other now.values rank x now.value 0 (λ here. absurd (let one = times_one rank in let at = ap (λ y. times y (rank ∷ [])) here in omega arith)) ∙ so_far.elsewhere x (omega arith);
-      filed_are = filed-once now rank so_far.filed_are (omega (arith, few, same)) (omega (arith, low, same, value_is)) (omega (arith, i, same)) open_now;
+          get_or-set_other now.values rank x now.value 0
+          (λ here. absurd (let one = times_one rank in let at = ap (λ y. times y (rank ∷ [])) here in omega arith))
+          ∙ so_far.elsewhere x (omega arith);
+      filed_are = filed-once now rank so_far.filed_are (omega (arith, few, same)) (omega (arith, low, same, value_is))
+          (omega (arith, i, same)) open_now;
     }
 
 -- the number at a place of a list without repetitions: it is in the list, and not among those before it
@@ -58,8 +71,10 @@ is-next xs i inside once =
     let x : ℕ = get_or xs i 0 in
     let front : take (i + 1) xs ≡ take i xs ++ x ∷ [] = take_more xs i 0 inside in
     let parts : xs ≡ take (i + 1) xs ++ drop (i + 1) xs = sym (take-append-drop (i + 1) xs) in
-    let all : times x xs ≡ times x (take (i + 1) xs) + times x (drop (i + 1) xs) = ap (times x) parts ∙ times-append x (take (i + 1) xs) (drop (i + 1) xs) in
-    let first : times x (take (i + 1) xs) ≡ times x (take i xs) + times x (x ∷ []) = ap (times x) front ∙ times-append x (take i xs) (x ∷ []) in
+    let all : times x xs ≡ times x (take (i + 1) xs) + times x (drop (i + 1) xs) =
+    ap (times x) parts ∙ times-append x (take (i + 1) xs) (drop (i + 1) xs) in
+    let first : times x (take (i + 1) xs) ≡ times x (take i xs) + times x (x ∷ []) =
+    ap (times x) front ∙ times-append x (take i xs) (x ∷ []) in
     let one = times_one x in
     let most = once x in
     record { there = omega arith; new = omega arith; front = front }
@@ -80,10 +95,13 @@ module _ (s : PlainStage) (unstruck : IsUnstruck s) where
   rounds-is = let v = unstruck.value_is in omega arith
 
   -- a configuration that has the next value is open
-  worth-lasts : (x : ℕ) → IsWorth s.game x (suc (s.value - 1)) → (lasts a (suc r) x ≡ true) × (lasts a (suc (suc r)) x ≡ false)
-  worth-lasts x worth = subst (λ k. (lasts a (suc k) x ≡ true) × (lasts a (suc (suc k)) x ≡ false)) rounds-is (lasts_of_value s.game unstruck.is_board (suc (s.value - 1)) x worth.is_rank worth.has_value)
+  worth-lasts : (x : ℕ) → IsWorth s.game x (suc (s.value - 1))
+      → (lasts a (suc r) x ≡ true) × (lasts a (suc (suc r)) x ≡ false)
+  worth-lasts x worth = subst (λ k. (lasts a (suc k) x ≡ true) × (lasts a (suc (suc k)) x ≡ false)) rounds-is
+      (lasts_of_value s.game unstruck.is_board (suc (s.value - 1)) x worth.is_rank worth.has_value)
 
-  pub worth-open : (won counts : List ℕ) → IsRoundEnd (as_solving s false) won counts → (x : ℕ) → 0 < times x won → (x < (graph_of s.game).configurations) × (is_open s.values x ≡ true)
+  pub worth-open : (won counts : List ℕ) → IsRoundEnd (as_solving s false) won counts → (x : ℕ) → 0 < times x won
+      → (x < (graph_of s.game).configurations) × (is_open s.values x ≡ true)
   worth-open won counts end x h =
       let worth = (end.next x).0 h in
       (worth.is_rank, unstruck.stage.words_are.opened x worth.is_rank ∙ (worth-lasts x worth).0)
@@ -91,40 +109,51 @@ module _ (s : PlainStage) (unstruck : IsUnstruck s) where
   module _ (won counts : List ℕ) (end : IsRoundEnd (as_solving s false) won counts)
       (m t : PlainStage) (files : FilesAll s won m) (takes : TakesCounts m counts t) where
     -- a configuration that lasts the round and wasn't won lasts one request more
-    lost-lasts : (x : ℕ) → x < (graph_of s.game).configurations → times x won ≡ 0 → lasts a (suc r) x ≡ true → lasts a (suc (suc r)) x ≡ true
+    lost-lasts : (x : ℕ) → x < (graph_of s.game).configurations → times x won ≡ 0 → lasts a (suc r) x ≡ true
+        → lasts a (suc (suc r)) x ≡ true
     lost-lasts x i none e = elim (true_or_false (lasts a (suc (suc r)) x)) [
       | inl so ↦ so
       | inr stops ↦ absurd (
           let has = value_of_lasts s.game unstruck.is_board (suc r) x i e stops in
-          let worth : IsWorth s.game x (suc (s.value - 1)) = subst (λ k. IsWorth s.game x (suc k)) (sym rounds-is) (record { is_rank = i; has_value = has }) in
+          let worth : IsWorth s.game x (suc (s.value - 1)) =
+          subst (λ k. IsWorth s.game x (suc k)) (sym rounds-is) (record { is_rank = i; has_value = has }) in
           let some = (end.next x).1 worth in omega arith)
     ]
 
     end-words : AreWords a (lasts a (suc r)) m.values
     end-words = record {
-      values_length = files.filed_are.values_length ∙ ap (λ (n : Numbered). (graph_of n).configurations) files.kept.game_is;
+      values_length =
+          files.filed_are.values_length ∙ ap (λ (n : Numbered). (graph_of n).configurations) files.kept.game_is;
       opened = λ x i. elim (cases_lt 0 (times x won)) [
         | inl some ↦ shut x some ∙ sym (worth-lasts x ((end.next x).0 some)).1
         | inr more ↦ (let none : times x won ≡ 0 = omega arith in
-            same-open (slice_index m.values x) (slice_index s.values x) (files.elsewhere x none) ∙ unstruck.stage.words_are.opened x i ∙ same_now x i none)
+            same-open (slice_index m.values x) (slice_index s.values x) (files.elsewhere x none)
+            ∙ unstruck.stage.words_are.opened x i ∙ same_now x i none)
       ];
       lasting = λ x i e. elim (cases_lt 0 (times x won)) [
-        | inl some ↦ subst (λ k. lasts a k x ≡ true) (sym (files.there x some ∙ unstruck.value_is)) (worth-lasts x ((end.next x).0 some)).0
+        | inl some ↦ subst (λ k. lasts a k x ≡ true) (sym (files.there x some ∙ unstruck.value_is))
+            (worth-lasts x ((end.next x).0 some)).0
         | inr more ↦ (let none : times x won ≡ 0 = omega arith in let word = files.elsewhere x none in
-            subst (λ k. lasts a k x ≡ true) (sym word) (unstruck.stage.words_are.lasting x i (sym (same-open _ _ word) ∙ e)))
+            subst (λ k. lasts a k x ≡ true) (sym word)
+            (unstruck.stage.words_are.lasting x i (sym (same-open _ _ word) ∙ e)))
       ];
       stopping = λ x i e. elim (cases_lt 0 (times x won)) [
-        | inl some ↦ subst (λ k. lasts a (suc k) x ≡ false) (sym (files.there x some ∙ unstruck.value_is)) (worth-lasts x ((end.next x).0 some)).1
+        | inl some ↦ subst (λ k. lasts a (suc k) x ≡ false) (sym (files.there x some ∙ unstruck.value_is))
+            (worth-lasts x ((end.next x).0 some)).1
         | inr more ↦ (let none : times x won ≡ 0 = omega arith in let word = files.elsewhere x none in
-            subst (λ k. lasts a (suc k) x ≡ false) (sym word) (unstruck.stage.words_are.stopping x i (sym (same-open _ _ word) ∙ e)))
+            subst (λ k. lasts a (suc k) x ≡ false) (sym word)
+            (unstruck.stage.words_are.stopping x i (sym (same-open _ _ word) ∙ e)))
       ];
     }
       where
         shut : (x : ℕ) → 0 < times x won → is_open m.values x ≡ false
-        shut x some = let few = unstruck.small.few in let low = unstruck.small.low in let at = files.there x some in valued_word m.values x (λ e. omega arith)
+        shut x some = let few = unstruck.small.few in let low = unstruck.small.low in let at = files.there x some in
+            valued_word m.values x (λ e. omega arith)
 
-        same_now : (x : ℕ) → x < (graph_of s.game).configurations → times x won ≡ 0 → lasts a (suc r) x ≡ lasts a (suc (suc r)) x
-        same_now x i none = same_test (lasts a (suc r) x) (lasts a (suc (suc r)) x) (lost-lasts x i none) (lasts-less a is (suc r) x i)
+        same_now : (x : ℕ) → x < (graph_of s.game).configurations → times x won ≡ 0
+            → lasts a (suc r) x ≡ lasts a (suc (suc r)) x
+        same_now x i none =
+            same_test (lasts a (suc r) x) (lasts a (suc (suc r)) x) (lost-lasts x i none) (lasts-less a is (suc r) x i)
 
     end-counts : IsCounted a (lasts a (suc r)) t.counts
     end-counts = record {
@@ -140,10 +169,12 @@ module _ (s : PlainStage) (unstruck : IsUnstruck s) where
       round = r;
       value_is = files.kept.value_is ∙ unstruck.value_is;
       stage = record {
-        counts_are = subst (λ (q : Numbered). IsCounted (graph_of q) (is_unstruck (graph_of q) r []) t.counts) (sym files.kept.game_is)
+        counts_are = subst (λ (q : Numbered). IsCounted (graph_of q) (is_unstruck (graph_of q) r []) t.counts)
+            (sym files.kept.game_is)
             (IsCounted-same a is (lasts a (suc r)) (is_unstruck a r []) t.counts
             (λ x i. unstruck-none a r x) end-counts);
-        words_are = subst (λ (q : Numbered). AreWords (graph_of q) (is_unstruck (graph_of q) r []) m.values) (sym files.kept.game_is)
+        words_are = subst (λ (q : Numbered). AreWords (graph_of q) (is_unstruck (graph_of q) r []) m.values)
+            (sym files.kept.game_is)
             (AreWords-same a is (lasts a (suc r)) (is_unstruck a r []) m.values
             (λ x i. unstruck-none a r x) end-words);
         filed_are = filed-counting m t.counts files.filed_are;

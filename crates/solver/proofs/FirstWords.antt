@@ -1,5 +1,6 @@
 -- The words before the first round.
-use Rattle.std.proofs.Common.{◌≡◌, ◌≢◌, ◌⊎◌, ℕ, ◌+◌, ◌<◌, ◌==◌, ◌&&◌, inl, inr, Bool, true, false, cond, refl, arith, sym, ap, ◌∙◌, List, length, slice_index, slice_set, get_or-set_other, get_or-set_same}
+use Rattle.std.proofs.Common.{◌≡◌, ◌≢◌, ◌⊎◌, ℕ, ◌+◌, ◌<◌, ◌==◌, ◌&&◌, inl, inr, Bool, true, false, cond, refl, arith}
+use Rattle.std.proofs.Common.{sym, ap, ◌∙◌, List, length, slice_index, slice_set, get_or-set_other, get_or-set_same}
 use Rattle.std.proofs.Math.ListN.{length-set}
 use Rattle.std.proofs.lemmas.Bool.{cases_lt}
 use Rattle.graphs.specs.Graph.{PlainGraph, is_member, is_answered, lasts}
@@ -14,7 +15,8 @@ use Rattle.graphs.proofs.Cited.{same_is, differ_is, true_or_false, true_not_fals
 pub zeroed-none : (a : PlainGraph) (gap : ℕ) (words : List ℕ) → AreZeroed a gap 0 words words
 zeroed-none a gap words = record { same_length = refl; zeroed = λ v low. absurd (omega arith); others = λ x. inl refl }
 
-pub zeroed-more : (a : PlainGraph) (gap place rank : ℕ) (old now : List ℕ) → place < a.places → rank ≡ a.member gap place → rank < length now
+pub zeroed-more : (a : PlainGraph) (gap place rank : ℕ) (old now : List ℕ) → place < a.places
+    → rank ≡ a.member gap place → rank < length now
     → AreZeroed a gap place old now → AreZeroed a gap (place + 1) old (slice_set now rank 0)
 zeroed-more a gap place rank old now inside is low z = record {
   same_length = length-set now rank 0 ∙ z.same_length;
@@ -26,7 +28,10 @@ zeroed-more a gap place rank old now inside is low z = record {
     ]
   ];
   others = λ x. elim (same_or_not x rank) [
-    | inl here ↦ inr (ap (slice_index (slice_set now rank 0)) here ∙ get_or-set_same now rank 0 0 low, member-is a gap place x inside (sym is ∙ sym here))
+    | inl here ↦ inr (
+      ap (slice_index (slice_set now rank 0)) here ∙ get_or-set_same now rank 0 0 low,
+      member-is a gap place x inside (sym is ∙ sym here),
+    )
     | inr other ↦
         let same = get_or-set_other now rank x 0 0 other in
         elim (z.others x) [ inl kept ↦ inl (same ∙ kept) | inr zero ↦ inr (same ∙ zero.0, zero.1) ]
@@ -46,38 +51,58 @@ pub record IsStopped (a : PlainGraph) (counts : List ℕ) (gap x : ℕ) : Type 0
 pub record AreStopped (a : PlainGraph) (counts : List ℕ) (gap : ℕ) (words : List ℕ) : Type 0 where
   pub words_length : length words ≡ a.configurations
   pub zeroed : (g v : ℕ) → g < gap → v < a.places → slice_index counts g ≡ 0 → slice_index words (a.member g v) ≡ 0
-  pub others : (x : ℕ) → x < a.configurations → (slice_index words x ≡ OPEN) ⊎ ((slice_index words x ≡ 0) × IsStopped a counts gap x)
+  pub others : (x : ℕ) → x < a.configurations
+      → (slice_index words x ≡ OPEN) ⊎ ((slice_index words x ≡ 0) × IsStopped a counts gap x)
 
-stopped-later : (a : PlainGraph) (counts : List ℕ) (gap x : ℕ) → IsStopped a counts gap x → IsStopped a counts (gap + 1) x
-stopped-later a counts gap x s = record { at = s.at; below = (let low = s.below in omega arith); none = s.none; member = s.member }
+stopped-later : (a : PlainGraph) (counts : List ℕ) (gap x : ℕ) → IsStopped a counts gap x
+    → IsStopped a counts (gap + 1) x
+stopped-later a counts gap x s =
+    record { at = s.at; below = (let low = s.below in omega arith); none = s.none; member = s.member }
 
-pub stopped-none : (a : PlainGraph) (counts words : List ℕ) → length words ≡ a.configurations → ((x : ℕ) → x < a.configurations → slice_index words x ≡ OPEN) → AreStopped a counts 0 words
-stopped-none a counts words size all = record { words_length = size; zeroed = λ g v low. absurd (omega arith); others = λ x i. inl (all x i) }
+pub stopped-none : (a : PlainGraph) (counts words : List ℕ) → length words ≡ a.configurations
+    → ((x : ℕ) → x < a.configurations → slice_index words x ≡ OPEN) → AreStopped a counts 0 words
+stopped-none a counts words size all =
+    record { words_length = size; zeroed = λ g v low. absurd (omega arith); others = λ x i. inl (all x i) }
 
-pub stopped-skip : (a : PlainGraph) (counts words : List ℕ) (gap : ℕ) → slice_index counts gap ≢ 0 → AreStopped a counts gap words → AreStopped a counts (gap + 1) words
+pub stopped-skip : (a : PlainGraph) (counts words : List ℕ) (gap : ℕ) → slice_index counts gap ≢ 0
+    → AreStopped a counts gap words → AreStopped a counts (gap + 1) words
 stopped-skip a counts words gap some s = record {
   words_length = s.words_length;
   zeroed = λ g v low inside none. elim (cases_lt g gap) [
     | inl before ↦ s.zeroed g v before inside none
     | inr last ↦ absurd (some (ap (slice_index counts) (let same : gap ≡ g = omega arith in same) ∙ none))
   ];
-  others = λ x i. elim (s.others x i) [ inl still ↦ inl still | inr zero ↦ inr (zero.0, stopped-later a counts gap x zero.1) ];
+  others = λ x i. elim (s.others x i) [
+    | inl still ↦ inl still
+    | inr zero ↦
+        inr (zero.0, stopped-later a counts gap x zero.1)
+  ];
 }
 
-pub stopped-more : (a : PlainGraph) (counts words now : List ℕ) (gap : ℕ) → slice_index counts gap ≡ 0 → AreZeroed a gap a.places words now → AreStopped a counts gap words → AreStopped a counts (gap + 1) now
+pub stopped-more : (a : PlainGraph) (counts words now : List ℕ) (gap : ℕ) → slice_index counts gap ≡ 0
+    → AreZeroed a gap a.places words now → AreStopped a counts gap words → AreStopped a counts (gap + 1) now
 stopped-more a counts words now gap none z s = record {
   words_length = z.same_length ∙ s.words_length;
   zeroed = λ g v low inside zero. elim (cases_lt g gap) [
-    | inl before ↦ elim (z.others (a.member g v)) [ inl kept ↦ kept ∙ s.zeroed g v before inside zero | inr here ↦ here.0 ]
+    | inl before ↦ elim (z.others (a.member g v)) [
+      | inl kept ↦ kept ∙ s.zeroed g v before inside zero
+      | inr here ↦
+          here.0
+    ]
     | inr last ↦ ap (λ h. slice_index now (a.member h v)) (let same : g ≡ gap = omega arith in same) ∙ z.zeroed v inside
   ];
   others = λ x i. elim (z.others x) [
     | inr here ↦ inr (here.0, record { at = gap; below = omega arith; none = none; member = here.1 })
-    | inl kept ↦ elim (s.others x i) [ inl still ↦ inl (kept ∙ still) | inr zero ↦ inr (kept ∙ zero.0, stopped-later a counts gap x zero.1) ]
+    | inl kept ↦ elim (s.others x i) [
+      | inl still ↦ inl (kept ∙ still)
+      | inr zero ↦
+          inr (kept ∙ zero.0, stopped-later a counts gap x zero.1)
+    ]
   ];
 }
 
-pub first-words : (a : PlainGraph) (counts words : List ℕ) → IsCounted a (lasts a 0) counts → AreStopped a counts a.gaps words → AreFirstWords a words
+pub first-words : (a : PlainGraph) (counts words : List ℕ) → IsCounted a (lasts a 0) counts
+    → AreStopped a counts a.gaps words → AreFirstWords a words
 first-words a counts words t s = record {
   words_length = s.words_length;
   each = λ x i. elim (true_or_false (is_answered a (lasts a 0) x)) [
@@ -86,20 +111,25 @@ first-words a counts words t s = record {
       | inr zero ↦ absurd (
           let stop = zero.1 in
           let w = member-at a stop.at x stop.member in
-          true_not_false (is_answered a (lasts a 0) x) going (next-closed a (lasts a 0) x stop.at w.0 stop.below w.1 w.2 (sym (t.counted stop.at stop.below) ∙ stop.none)))
+          true_not_false (is_answered a (lasts a 0) x) going
+          (next-closed a (lasts a 0) x stop.at w.0 stop.below w.1 w.2
+          (sym (t.counted stop.at stop.below) ∙ stop.none)))
     ]
     | inr stuck ↦
         let found = next-fails a (lasts a 0) x stuck in
         let none = t.counted found.0 found.1 ∙ found.3 in
-        ap (slice_index words) (sym found.2.2) ∙ s.zeroed found.0 found.2.0 found.1 found.2.1 none ∙ sym (ap (λ (c : Bool). cond c OPEN 0) stuck)
+        ap (slice_index words) (sym found.2.2) ∙ s.zeroed found.0 found.2.0 found.1 found.2.1 none
+        ∙ sym (ap (λ (c : Bool). cond c OPEN 0) stuck)
   ];
 }
 
 -- ---- the answers of one gap
 
 -- one place more
-pub count-yes : (a : PlainGraph) (gap place count : ℕ) → a.struck (a.member gap place) ≡ gap → (a.struck (a.member gap place) == gap && true) ≡ true
+pub count-yes : (a : PlainGraph) (gap place count : ℕ) → a.struck (a.member gap place) ≡ gap
+    → (a.struck (a.member gap place) == gap && true) ≡ true
 count-yes a gap place count e = rw (same_is (a.struck (a.member gap place)) gap e) refl
 
-pub count-no : (a : PlainGraph) (gap place count : ℕ) → (a.struck (a.member gap place) ≡ gap → ⊥) → (a.struck (a.member gap place) == gap && true) ≡ false
+pub count-no : (a : PlainGraph) (gap place count : ℕ) → (a.struck (a.member gap place) ≡ gap → ⊥)
+    → (a.struck (a.member gap place) == gap && true) ≡ false
 count-no a gap place count e = rw (differ_is (a.struck (a.member gap place)) gap e) refl

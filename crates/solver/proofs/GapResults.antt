@@ -65,7 +65,8 @@ module _ (n : Numbered) (is : IsBoard n.board) (gap : ℕ) (c : List ℕ) (p : �
       subst (λ g. (graph_of n).member g place ≡ number_in n (moved c p place)) request.its_gap
       (gap-in-moved n is c p request.is_configuration request.is_pebble place) in
       subst (IsWordOf n.board (moved c p place) words) (sym number)
-      (word-of-number n is words are (moved c p place) (place-moved n.board c p place request.is_configuration request.is_pebble low))
+      (word-of-number n is words are (moved c p place)
+      (place-moved n.board c p place request.is_configuration request.is_pebble low))
 
 -- an answer of a gap is a place
 pub answer-inside : (n : Numbered) (gap : ℕ) (labels : List ℕ) → AreAnswerBits (graph_of n) gap labels
@@ -89,22 +90,26 @@ first-request n is gap rank pebble number below rank_is pebble_is number_is =
     record {
       is_configuration = ok;
       is_pebble = pebble_below n.board gap below;
-      its_gap = sym (number_is ∙ ap (λ (c : List ℕ). gap_in n c pebble) here ∙ ap (gap_in n (member_of n.board gap 0)) pebble_is);
+      its_gap = sym (number_is ∙ ap (λ (c : List ℕ). gap_in n c pebble) here
+          ∙ ap (gap_in n (member_of n.board gap 0)) pebble_is);
     }
 
 module _ (board : PlainBoard) (is : IsBoard board) (gap : ℕ) (below : gap < gaps board) where
   -- what is legal at an ordered gap's first member are the gap's answers
-  pub first-answer : (label : ℕ) → Legal board (member_of board gap 0) (pebble_of board gap) label ↔ IsAnswer board gap label
+  pub first-answer : (label : ℕ)
+      → Legal board (member_of board gap 0) (pebble_of board gap) label ↔ IsAnswer board gap label
   first-answer label =
       subst (λ g. Legal board (member_of board gap 0) (pebble_of board gap) label ↔ IsAnswer board g label)
       (gap_of-member_of board gap 0 below)
-      (legal_is_answer board (member_of board gap 0) (pebble_of board gap) label (member_is board gap 0 below (some_places board is))
+      (legal_is_answer board (member_of board gap 0) (pebble_of board gap) label
+      (member_is board gap 0 below (some_places board is))
       (pebble_below board gap below))
 
   -- and a move there leads to the member with the label
   pub first-result : (label : ℕ) → moved (member_of board gap 0) (pebble_of board gap) label ≡ member_of board gap label
   first-result label =
-      sym (member_of-gap_of board (member_of board gap 0) (pebble_of board gap) label (member_is board gap 0 below (some_places board is))
+      sym (member_of-gap_of board (member_of board gap 0) (pebble_of board gap) label
+      (member_is board gap 0 below (some_places board is))
       (pebble_below board gap below))
       ∙ ap (λ g. member_of board g label) (gap_of-member_of board gap 0 below)
 
@@ -135,8 +140,10 @@ pub value-with : (board : PlainBoard) (configuration words : List ℕ) (x : ℕ)
     → IsWordOf board configuration words x
     → value ≡ value_with_word (slice_index words x) → HasValue board configuration value
 value-with board configuration words x value word is = elim (true_or_false (is_open words x)) [
-  | inl still ↦ subst (HasValue board configuration) (sym (is ∙ ap (λ (t : Bool). cond t Forever (Finite (slice_index words x))) still)) (word.forever still)
-  | inr shut ↦ subst (HasValue board configuration) (sym (is ∙ ap (λ (t : Bool). cond t Forever (Finite (slice_index words x))) shut)) (word.finite shut)
+  | inl still ↦ subst (HasValue board configuration)
+      (sym (is ∙ ap (λ (t : Bool). cond t Forever (Finite (slice_index words x))) still)) (word.forever still)
+  | inr shut ↦ subst (HasValue board configuration)
+      (sym (is ∙ ap (λ (t : Bool). cond t Forever (Finite (slice_index words x))) shut)) (word.finite shut)
 ]
 
 finite_not_forever : (number : ℕ) → Finite number ≡ Forever → ⊥

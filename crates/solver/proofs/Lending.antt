@@ -18,31 +18,34 @@ graph_sync : IsSync graph.the_row
 graph_sync = search (sendable, crosses) depth 30
 
 stage_sync : (T : RattleType) (g : Ghosts T.Denot) → IsSync T → IsSync (stage.the_row T g)
-stage_sync T g lent = view_sync (parts.the_row T g) _ _ _ _ (recorded_sync (parts.the_field T g).row _ _ (parts.the_type T g).to_one (struct_sync (shape (parts.the_type T g)) (
-  search (sendable, crosses, graph_sync) depth 30,
-  (
-    search sendable,
-    (
-      search (sendable, crosses) depth 30,
+stage_sync T g lent = view_sync (parts.the_row T g) _ _ _ _
+    (recorded_sync (parts.the_field T g).row _ _ (parts.the_type T g).to_one (struct_sync (shape (parts.the_type T g)) (
+      search (sendable, crosses, graph_sync) depth 30,
       (
-        search (sendable, crosses) depth 30,
+        search sendable,
         (
-          search (sendable, lent),
-          (search (sendable, crosses) depth 30, tt),
+          search (sendable, crosses) depth 30,
+          (
+            search (sendable, crosses) depth 30,
+            (
+              search (sendable, lent),
+              (search (sendable, crosses) depth 30, tt),
+            ),
+          ),
         ),
       ),
-    ),
-  ),
-)))
+    )))
 
 pub solver_sync : (T : RattleType) (g : Ghosts T.Denot) → IsSync T → IsSync (solver.the_row T g)
-solver_sync T g lent = view_sync (inside.the_row T g) _ _ _ _ (recorded_sync (inside.the_field T g).row _ _ (inside.the_type T g).to_one (struct_sync (shape (inside.the_type T g)) (
-  search (stage_sync, lent),
-  (
-    search (sendable, crosses, space_sync) depth 30,
-    (
-      search (sendable, crosses) depth 30,
-      (search (sendable, crosses) depth 30, (search sendable, tt)),
-    ),
-  ),
-)))
+solver_sync T g lent = view_sync (inside.the_row T g) _ _ _ _
+    (recorded_sync (inside.the_field T g).row _ _ (inside.the_type T g).to_one
+    (struct_sync (shape (inside.the_type T g)) (
+      search (stage_sync, lent),
+      (
+        search (sendable, crosses, space_sync) depth 30,
+        (
+          search (sendable, crosses) depth 30,
+          (search (sendable, crosses) depth 30, (search sendable, tt)),
+        ),
+      ),
+    )))

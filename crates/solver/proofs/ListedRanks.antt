@@ -1,5 +1,6 @@
 -- Whether a rank is in a list, and lists filtered by a test.
-use Rattle.std.proofs.Common.{◌≡◌, ℕ, ◌<◌, ◌≤◌, not, Bool, true, false, cond, List, [], ◌∷◌, sym, ap, ◌∙◌, inl, inr, subst, arith}
+use Rattle.std.proofs.Common.{◌≡◌, ℕ, ◌<◌, ◌≤◌, not, Bool, true, false, cond, List, [], ◌∷◌, sym, ap, ◌∙◌, inl, inr}
+use Rattle.std.proofs.Common.{subst, arith}
 use Rattle.std.specs.List.{filter}
 use Rattle.std.proofs.lemmas.Bool.{cases_lt}
 use Rattle.index_lists.specs.Lists.{times}
@@ -24,11 +25,13 @@ stands-some ranks x e = elim (cases_lt 0 (times x ranks)) [
 pub times-filter-true : (test : ℕ → Bool) (x : ℕ) (ranks : List ℕ) → 0 < times x (filter test ranks) → test x ≡ true
 times-filter-true test x [] h = absurd (omega arith)
 times-filter-true test x (y ∷ ranks) h = elim (true_or_false (test y)) [
-  | inr fails ↦ times-filter-true test x ranks (subst (λ (b : Bool). 0 < times x (cond b (y ∷ filter test ranks) (filter test ranks))) fails h)
+  | inr fails ↦ times-filter-true test x ranks
+      (subst (λ (b : Bool). 0 < times x (cond b (y ∷ filter test ranks) (filter test ranks))) fails h)
   | inl passes ↦ elim (same_or_not y x) [
     | inl e ↦ ap test (sym e) ∙ passes
     | inr d ↦ times-filter-true test x ranks (
-        let kept : 0 < times x (y ∷ filter test ranks) = subst (λ (b : Bool). 0 < times x (cond b (y ∷ filter test ranks) (filter test ranks))) passes h in
+        let kept : 0 < times x (y ∷ filter test ranks) =
+        subst (λ (b : Bool). 0 < times x (cond b (y ∷ filter test ranks) (filter test ranks))) passes h in
         let later = times-later y x (filter test ranks) d in omega arith)
   ]
 ]
@@ -39,6 +42,7 @@ times-filter-le test x (y ∷ ranks) =
     let rest = times-filter-le test x ranks in
     by (test y) rest
   where
-    by : (b : Bool) → times x (filter test ranks) ≤ times x ranks → times x (cond b (y ∷ filter test ranks) (filter test ranks)) ≤ times x (y ∷ ranks)
+    by : (b : Bool) → times x (filter test ranks) ≤ times x ranks
+        → times x (cond b (y ∷ filter test ranks) (filter test ranks)) ≤ times x (y ∷ ranks)
     by true rest = omega arith
     by false rest = omega arith

@@ -1,5 +1,6 @@
 -- The members of a gap that pass a test, by label.
-use Rattle.std.proofs.Common.{◌≡◌, ℕ, zero, suc, ◌+◌, ◌<◌, ◌≤◌, ◌&&◌, Bool, true, false, cond, inl, inr, refl, sym, ap, ◌∙◌, subst, arith, List, ◌∷◌}
+use Rattle.std.proofs.Common.{◌≡◌, ℕ, zero, suc, ◌+◌, ◌<◌, ◌≤◌, ◌&&◌, Bool, true, false, cond, inl, inr, refl, sym, ap}
+use Rattle.std.proofs.Common.{◌∙◌, subst, arith, List, ◌∷◌}
 use Rattle.index_lists.specs.Lists.{times}
 use Rattle.index_lists.proofs.Cited.{times-later}
 use Rattle.graphs.specs.Graph.{PlainGraph, IsGraph, is_member}
@@ -8,10 +9,12 @@ use Rattle.graphs.proofs.Cited.{one-place, member-is, member-at}
 use Rattle.graphs.proofs.Cited.{both_true, and_true, true_or_false, true_not_false, same_or_not, same_is}
 
 -- a member that fails the test is left out, and one that passes comes first
-pub members-skip : (a : PlainGraph) (test : ℕ → Bool) (g from n : ℕ) → test (a.member g from) ≡ false → members_from a test g from (suc n) ≡ members_from a test g (from + 1) n
+pub members-skip : (a : PlainGraph) (test : ℕ → Bool) (g from n : ℕ) → test (a.member g from) ≡ false
+    → members_from a test g from (suc n) ≡ members_from a test g (from + 1) n
 members-skip a test g from n e = rw e refl
 
-pub members-take : (a : PlainGraph) (test : ℕ → Bool) (g from n : ℕ) → test (a.member g from) ≡ true → members_from a test g from (suc n) ≡ a.member g from ∷ members_from a test g (from + 1) n
+pub members-take : (a : PlainGraph) (test : ℕ → Bool) (g from n : ℕ) → test (a.member g from) ≡ true
+    → members_from a test g from (suc n) ≡ a.member g from ∷ members_from a test g (from + 1) n
 members-take a test g from n e = rw e refl
 
 -- a number in the list is a member of the gap that passes the test
@@ -22,20 +25,30 @@ pub record IsMember (a : PlainGraph) (test : ℕ → Bool) (g from n x : ℕ) : 
   pub passes : test x ≡ true
   pub is : a.member g label ≡ x
 
-member-later : (a : PlainGraph) (test : ℕ → Bool) (g from n x : ℕ) → IsMember a test g (from + 1) n x → IsMember a test g from (suc n) x
+member-later : (a : PlainGraph) (test : ℕ → Bool) (g from n x : ℕ) → IsMember a test g (from + 1) n x
+    → IsMember a test g from (suc n) x
 member-later a test g from n x rest =
     let low = rest.at_least in
     let high = rest.below in
     record { label = rest.label; at_least = omega arith; below = omega arith; passes = rest.passes; is = rest.is }
 
-pub members-are : (a : PlainGraph) (test : ℕ → Bool) (g from n x : ℕ) → 0 < times x (members_from a test g from n) → IsMember a test g from n x
+pub members-are : (a : PlainGraph) (test : ℕ → Bool) (g from n x : ℕ) → 0 < times x (members_from a test g from n)
+    → IsMember a test g from n x
 members-are a test g from zero x h = absurd (omega arith)
 members-are a test g from (suc n) x h = elim (true_or_false (test (a.member g from))) [
-  | inr fails ↦ member-later a test g from n x (members-are a test g (from + 1) n x (subst (λ xs. 0 < times x xs) (members-skip a test g from n fails) h))
+  | inr fails ↦ member-later a test g from n x
+      (members-are a test g (from + 1) n x (subst (λ xs. 0 < times x xs) (members-skip a test g from n fails) h))
   | inl passes ↦ elim (same_or_not (a.member g from) x) [
-    | inl here ↦ record { label = from; at_least = omega arith; below = omega arith; passes = ap test (sym here) ∙ passes; is = here }
+    | inl here ↦ record {
+      label = from;
+      at_least = omega arith;
+      below = omega arith;
+      passes = ap test (sym here) ∙ passes;
+      is = here;
+    }
     | inr other ↦ member-later a test g from n x (members-are a test g (from + 1) n x
-        (let skipped = ap (times x) (members-take a test g from n passes) ∙ times-later (a.member g from) x (members_from a test g (from + 1) n) other in omega arith))
+        (let skipped = ap (times x) (members-take a test g from n passes)
+        ∙ times-later (a.member g from) x (members_from a test g (from + 1) n) other in omega arith))
   ]
 ]
 
@@ -47,12 +60,14 @@ module _ (a : PlainGraph) (is : IsGraph a) (test : ℕ → Bool) (g : ℕ) (i : 
   one_label v w low high e = one-place a is g v w i low high e
 
   -- each member is in the list once
-  pub member-once : (from n v : ℕ) → from + n ≤ a.places → from ≤ v → v < from + n → test (a.member g v) ≡ true → times (a.member g v) (members_from a test g from n) ≡ 1
+  pub member-once : (from n v : ℕ) → from + n ≤ a.places → from ≤ v → v < from + n → test (a.member g v) ≡ true
+      → times (a.member g v) (members_from a test g from n) ≡ 1
   member-once from zero v most low high passes = absurd (omega arith)
   member-once from (suc n) v most low high passes = elim (same_or_not from v) [
     | inl here ↦ (
         let first = members-take a test g from n (ap (λ w. test (a.member g w)) here ∙ passes) in
-        let one = ap (times (a.member g v)) first ∙ first_more (a.member g from) (a.member g v) (members_from a test g (from + 1) n) (ap (a.member g) here) in
+        let one = ap (times (a.member g v)) first
+        ∙ first_more (a.member g from) (a.member g v) (members_from a test g (from + 1) n) (ap (a.member g) here) in
         let none : times (a.member g v) (members_from a test g (from + 1) n) ≡ 0 = none_behind v here in
         omega arith)
     | inr other ↦ (
@@ -60,7 +75,8 @@ module _ (a : PlainGraph) (is : IsGraph a) (test : ℕ → Bool) (g : ℕ) (i : 
         elim (true_or_false (test (a.member g from))) [
           | inr fails ↦ ap (times (a.member g v)) (members-skip a test g from n fails) ∙ rest
           | inl first ↦ ap (times (a.member g v)) (members-take a test g from n first)
-              ∙ times-later (a.member g from) (a.member g v) (members_from a test g (from + 1) n) (λ e. other (one_label from v (omega arith) (omega arith) e)) ∙ rest
+              ∙ times-later (a.member g from) (a.member g v) (members_from a test g (from + 1) n)
+              (λ e. other (one_label from v (omega arith) (omega arith) e)) ∙ rest
         ])
   ]
     where
@@ -88,7 +104,9 @@ module _ (a : PlainGraph) (is : IsGraph a) (test : ℕ → Bool) (g : ℕ) (i : 
     | inr not_both ↦ none (times x (members_from a test g 0 a.places)) (λ some.
         let found = members-are a test g 0 a.places x some in
         let low = found.below in
-        true_not_false (test x && is_member a g x) (and_true (test x) (is_member a g x) found.passes (member-is a g found.label x (omega arith) found.is)) not_both)
+        true_not_false (test x && is_member a g x)
+        (and_true (test x) (is_member a g x) found.passes
+        (member-is a g found.label x (omega arith) found.is)) not_both)
         ∙ sym (ap (λ b. cond {A = ℕ} b 1 0) not_both)
   ]
     where

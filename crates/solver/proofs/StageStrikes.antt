@@ -1,15 +1,18 @@
 -- The first configuration of the list to strike is struck.
-use Rattle.std.proofs.Common.{◌≡◌, ◌≢◌, ℕ, ◌+◌, ◌<◌, ◌≤◌, ◌==◌, not, inl, inr, Bool, true, false, cond, suc, refl, arith, sym, ap, ◌∙◌, subst, List, [], ◌∷◌, slice_index, slice_set}
+use Rattle.std.proofs.Common.{◌≡◌, ◌≢◌, ℕ, ◌+◌, ◌<◌, ◌≤◌, ◌==◌, not, inl, inr, Bool, true, false, cond, suc, refl}
+use Rattle.std.proofs.Common.{arith, sym, ap, ◌∙◌, subst, List, [], ◌∷◌, slice_index, slice_set}
 use Rattle.std.proofs.lemmas.Bool.Decides.{nat_tests}
 use Rattle.index_lists.specs.Lists.{times}
 use Rattle.index_lists.proofs.Cited.{times-here, times-more, times-later}
 use Rattle.graphs.specs.Numbered.{graph_of}
 use Rattle.classes.specs.declared.counting.TheConstants.{MAX_CLASSES}
 use Rattle.graphs.specs.Graph.{PlainGraph, IsGraph, live_answers, lasts}
-use Rattle.solver.specs.Inside.Stage.{PlainStage, with_counts, strikes_copied, IsFiled, IsKeptStage, Closes, IsStruckAt, IsStriking}
+use Rattle.solver.specs.Inside.Stage.{PlainStage, with_counts, strikes_copied, IsFiled, IsKeptStage, Closes, IsStruckAt}
+use Rattle.solver.specs.Inside.Stage.{IsStriking}
 use Rattle.solver.specs.Inside.Tables.{is_unstruck, IsCounted, AreWords}
 use Rattle.graphs.proofs.Cited.{without, IsBetween}
-use Rattle.solver.proofs.StruckTables.{IsCounted-same, AreWords-same, counted-struck, words-some, words-closed, home-now}
+use Rattle.solver.proofs.StruckTables.{IsCounted-same, AreWords-same, counted-struck, words-some, words-closed}
+use Rattle.solver.proofs.StruckTables.{home-now}
 use Rattle.graphs.proofs.Cited.{true_or_false, same_or_not, same_is, lasts-less}
 use Rattle.solver.proofs.Strikes.{strike-home}
 
@@ -63,7 +66,8 @@ pub unstruck-rest : (a : PlainGraph) (r c : ℕ) (rest : List ℕ)
 unstruck-rest a r c rest stops once x = elim (same_or_not x c) [
   | inl here ↦ subst (λ y. without (is_unstruck a r (c ∷ rest)) c y ≡ is_unstruck a r rest y) (sym here)
       (gone c ∙ sym (unstruck-fails a r rest c stops ∙ no_times (times c rest) none))
-  | inr other ↦ same other ∙ ap (λ n. cond (lasts a (suc r) x) true (not (n == 0))) (times-later c x rest (λ d. other (sym d)))
+  | inr other ↦ same other ∙ ap (λ n. cond (lasts a (suc r) x) true (not (n == 0)))
+      (times-later c x rest (λ d. other (sym d)))
 ]
   where
     none : times c rest ≡ 0
@@ -78,10 +82,14 @@ unstruck-rest a r c rest stops once x = elim (same_or_not x c) [
 -- ---- the stage after a strike
 
 -- a stage of a graph, from its parts
-pub striking-of : (s : PlainStage) (todo : List ℕ) (a : PlainGraph) → (graph_of s.game) ≡ a → (round : ℕ) → s.value ≡ suc round → IsCounted a (is_unstruck a round todo) s.counts
-    → AreWords a (is_unstruck a round todo) s.values → IsFiled s → ((x : ℕ) → 0 < times x todo → IsStruckAt a round x) → ((x : ℕ) → times x todo ≤ 1) → IsStriking s todo
-striking-of s todo a same = subst (λ (p : PlainGraph). (round : ℕ) → s.value ≡ suc round → IsCounted p (is_unstruck p round todo) s.counts
-    → AreWords p (is_unstruck p round todo) s.values → IsFiled s → ((x : ℕ) → 0 < times x todo → IsStruckAt p round x) → ((x : ℕ) → times x todo ≤ 1) → IsStriking s todo) same
+pub striking-of : (s : PlainStage) (todo : List ℕ) (a : PlainGraph) → (graph_of s.game) ≡ a → (round : ℕ)
+    → s.value ≡ suc round → IsCounted a (is_unstruck a round todo) s.counts
+    → AreWords a (is_unstruck a round todo) s.values → IsFiled s → ((x : ℕ) → 0 < times x todo → IsStruckAt a round x)
+    → ((x : ℕ) → times x todo ≤ 1) → IsStriking s todo
+striking-of s todo a same = subst
+    (λ (p : PlainGraph). (round : ℕ) → s.value ≡ suc round → IsCounted p (is_unstruck p round todo) s.counts
+    → AreWords p (is_unstruck p round todo) s.values → IsFiled s → ((x : ℕ) → 0 < times x todo → IsStruckAt p round x)
+    → ((x : ℕ) → times x todo ≤ 1) → IsStriking s todo) same
     (λ round value_is counts words filed due once. record {
       round = round;
       value_is = value_is;
@@ -91,9 +99,11 @@ striking-of s todo a same = subst (λ (p : PlainGraph). (round : ℕ) → s.valu
     })
 
 pub filed-counting : (s : PlainStage) (counts : List ℕ) → IsFiled s → IsFiled (with_counts s counts)
-filed-counting s counts are = record { values_length = are.values_length; lists_length = are.lists_length; below = are.below; once = are.once }
+filed-counting s counts are =
+    record { values_length = are.values_length; lists_length = are.lists_length; below = are.below; once = are.once }
 
-module _ (s : PlainStage) (is : IsGraph (graph_of s.game)) (c : ℕ) (rest : List ℕ) (k : IsStriking s (c ∷ rest)) (g n : ℕ) (g_is : g ≡ (graph_of s.game).struck c) where
+module _ (s : PlainStage) (is : IsGraph (graph_of s.game)) (c : ℕ) (rest : List ℕ) (k : IsStriking s (c ∷ rest))
+    (g n : ℕ) (g_is : g ≡ (graph_of s.game).struck c) where
   abbrev a : PlainGraph
   a = (graph_of s.game)
 
@@ -147,14 +157,18 @@ module _ (s : PlainStage) (is : IsGraph (graph_of s.game)) (c : ℕ) (rest : Lis
       once = fewer;
     }
 
-    pub struck-closed : (s' : PlainStage) → n ≡ 0 → (graph_of s.game).configurations ≤ MAX_CLASSES → s.value ≤ (graph_of s.game).configurations → Closes (with_counts s (slice_set s.counts g n)) g s' → IsStriking s' rest
+    pub struck-closed : (s' : PlainStage) → n ≡ 0 → (graph_of s.game).configurations ≤ MAX_CLASSES
+        → s.value ≤ (graph_of s.game).configurations → Closes (with_counts s (slice_set s.counts g n)) g s'
+        → IsStriking s' rest
     struck-closed s' none few low closes =
         let value_is : s.value ≡ suc k.round = k.value_is in
-        striking-of s' rest (graph_of s.game) (ap graph_of closes.kept.game_is) k.round (closes.kept.value_is ∙ value_is)
+        striking-of s' rest (graph_of s.game) (ap graph_of closes.kept.game_is) k.round
+        (closes.kept.value_is ∙ value_is)
         (rw closes.counts_is counts)
         (AreWords-same a is (without above c) (is_unstruck a k.round rest) s'.values next
         (words-closed a is above c g here.is_rank g_is gap-in s.values s'.values (now ∙ none) k.stage.words_are k.round
-        (unstruck-between a is k.round (c ∷ rest) k.due) here.stopping (λ e. omega arith) (rw (← value_is) closes.words)))
+        (unstruck-between a is k.round (c ∷ rest) k.due) here.stopping (λ e. omega arith)
+        (rw (← value_is) closes.words)))
         closes.filed_are due fewer
 
 -- ---- one strike after another

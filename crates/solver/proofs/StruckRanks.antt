@@ -1,5 +1,6 @@
 -- Configurations that are answers; counts depend on these alone.
-use Rattle.std.proofs.Common.{◌≡◌, ℕ, ◌<◌, ◌≤◌, ◌==◌, ◌&&◌, Bool, true, false, cond, inl, inr, refl, sym, ap, ◌∙◌, subst, arith, List, [], ◌∷◌, ◌+◌, zero, suc, length, get_or}
+use Rattle.std.proofs.Common.{◌≡◌, ℕ, ◌<◌, ◌≤◌, ◌==◌, ◌&&◌, Bool, true, false, cond, inl, inr, refl, sym, ap, ◌∙◌}
+use Rattle.std.proofs.Common.{subst, arith, List, [], ◌∷◌, ◌+◌, zero, suc, length, get_or}
 use Rattle.std.specs.List.{filter}
 use Rattle.std.proofs.lemmas.Bool.{lt-ltb, ltb-true, le-ltb}
 use Rattle.std.proofs.lemmas.Bool.Decides.{nat_tests}
@@ -24,7 +25,8 @@ pub same-filter : (f g : ℕ → Bool) (xs : List ℕ) → ((x : ℕ) → 0 < ti
 same-filter f g [] same = refl
 same-filter f g (x ∷ xs) same =
     let rest : filter f xs ≡ filter g xs = same-filter f g xs (λ y h. same y (times-more x y xs h)) in
-    ap (λ t. cond t (x ∷ filter f xs) (filter f xs)) (same x (times-here x x xs refl)) ∙ ap (λ (ys : List ℕ). cond (g x) (x ∷ ys) ys) rest
+    ap (λ t. cond t (x ∷ filter f xs) (filter f xs)) (same x (times-here x x xs refl))
+    ∙ ap (λ (ys : List ℕ). cond (g x) (x ∷ ys) ys) rest
 
 pub in_list : (xs : List ℕ) (k d : ℕ) → k < length xs → 0 < times (get_or xs k d) xs
 in_list [] k d h = absurd (omega arith)
@@ -36,31 +38,42 @@ pub filtered-times : (test : ℕ → Bool) (x : ℕ) (xs : List ℕ) → test x 
 filtered-times test x [] holds = refl
 filtered-times test x (y ∷ ys) holds = elim (true_or_false (test y)) [
   | inl kept ↦ rw kept (ap (λ n. cond (y == x) 1 0 + n) (filtered-times test x ys holds))
-  | inr dropped ↦ rw dropped (filtered-times test x ys holds ∙ sym (times-later y x ys (λ e. true_not_false (test x) holds (ap test (sym e) ∙ dropped))))
+  | inr dropped ↦ rw dropped (filtered-times test x ys holds
+      ∙ sym (times-later y x ys (λ e. true_not_false (test x) holds (ap test (sym e) ∙ dropped))))
 ]
 
 -- tests that agree on the configurations that are answers give the same counts
-live-struck : (a : PlainGraph) → IsGraph a → (f h : ℕ → Bool) (g : ℕ) → g < a.gaps → ((x : ℕ) → x < a.configurations → is_struck a x ≡ true → f x ≡ h x) → live_answers a f g ≡ live_answers a h g
+live-struck : (a : PlainGraph) → IsGraph a → (f h : ℕ → Bool) (g : ℕ) → g < a.gaps
+    → ((x : ℕ) → x < a.configurations → is_struck a x ≡ true → f x ≡ h x) → live_answers a f g ≡ live_answers a h g
 live-struck a is f h g i same =
-    count_below-same a.places (λ v. a.struck (a.member g v) == g && f (a.member g v)) (λ v. a.struck (a.member g v) == g && h (a.member g v)) (λ v j. elim (true_or_false (a.struck (a.member g v) == g)) [
-      | inl answer ↦ ap (λ t. a.struck (a.member g v) == g && t) (same (a.member g v) (is.member_in g v i j) (struck-is a (a.member g v) (let here = test_same (a.struck (a.member g v)) g answer in omega arith)))
+    count_below-same a.places (λ v. a.struck (a.member g v) == g && f (a.member g v))
+    (λ v. a.struck (a.member g v) == g && h (a.member g v))
+    (λ v j. elim (true_or_false (a.struck (a.member g v) == g)) [
+      | inl answer ↦ ap (λ t. a.struck (a.member g v) == g && t)
+          (same (a.member g v) (is.member_in g v i j)
+          (struck-is a (a.member g v) (let here = test_same (a.struck (a.member g v)) g answer in omega arith)))
       | inr none ↦ rw none refl
     ])
 
-pub next-struck : (a : PlainGraph) → IsGraph a → (f h : ℕ → Bool) (c : ℕ) → c < a.configurations → ((x : ℕ) → x < a.configurations → is_struck a x ≡ true → f x ≡ h x) → is_answered a f c ≡ is_answered a h c
-next-struck a is f h c i same = same_test (is_answered a f c) (is_answered a h c) (one f h (λ g j. live-struck a is f h g j same)) (one h f (λ g j. sym (live-struck a is f h g j same)))
+pub next-struck : (a : PlainGraph) → IsGraph a → (f h : ℕ → Bool) (c : ℕ) → c < a.configurations
+    → ((x : ℕ) → x < a.configurations → is_struck a x ≡ true → f x ≡ h x) → is_answered a f c ≡ is_answered a h c
+next-struck a is f h c i same =
+    same_test (is_answered a f c) (is_answered a h c) (one f h (λ g j. live-struck a is f h g j same))
+    (one h f (λ g j. sym (live-struck a is f h g j same)))
   where
     one : (k l : ℕ → Bool) → ((g : ℕ) → g < a.gaps → live_answers a k g ≡ live_answers a l g)
         → is_answered a k c ≡ true → is_answered a l c ≡ true
     one k l alike e = next-from a l c (λ g v j m n. subst (λ t. 0 < t) (alike g j) (next-gives a k c g v e j m n))
 
-pub counted-alike : (a : PlainGraph) → IsGraph a → (f h : ℕ → Bool) (counts : List ℕ) → ((x : ℕ) → x < a.configurations → is_struck a x ≡ true → f x ≡ h x) → IsCounted a f counts → IsCounted a h counts
+pub counted-alike : (a : PlainGraph) → IsGraph a → (f h : ℕ → Bool) (counts : List ℕ)
+    → ((x : ℕ) → x < a.configurations → is_struck a x ≡ true → f x ≡ h x) → IsCounted a f counts → IsCounted a h counts
 counted-alike a is f h counts same t = record {
   counts_length = t.counts_length;
   counted = λ g i. t.counted g i ∙ live-struck a is f h g i same;
 }
 
-pub words-alike : (a : PlainGraph) → IsGraph a → (f h : ℕ → Bool) (values : List ℕ) → ((x : ℕ) → x < a.configurations → is_struck a x ≡ true → f x ≡ h x) → AreWords a f values → AreWords a h values
+pub words-alike : (a : PlainGraph) → IsGraph a → (f h : ℕ → Bool) (values : List ℕ)
+    → ((x : ℕ) → x < a.configurations → is_struck a x ≡ true → f x ≡ h x) → AreWords a f values → AreWords a h values
 words-alike a is f h values same t = record {
   values_length = t.values_length;
   opened = λ x i. t.opened x i ∙ next-struck a is f h x i same;

@@ -1,22 +1,26 @@
 -- The tables of counts and of words after a strike.
-use Rattle.std.proofs.Common.{◌≡◌, ℕ, ◌+◌, ◌<◌, ◌≢◌, ◌==◌, not, inl, inr, Bool, true, false, suc, arith, sym, ap, ◌∙◌, List, length, slice_index, slice_set, get_or-set_other, get_or-set_same}
+use Rattle.std.proofs.Common.{◌≡◌, ℕ, ◌+◌, ◌<◌, ◌≢◌, ◌==◌, not, inl, inr, Bool, true, false, suc, arith, sym, ap, ◌∙◌}
+use Rattle.std.proofs.Common.{List, length, slice_index, slice_set, get_or-set_other, get_or-set_same}
 use Rattle.std.proofs.Math.ListN.{length-set}
 use Rattle.std.proofs.lemmas.Bool.Decides.{nat_tests}
 use Rattle.graphs.specs.Graph.{PlainGraph, IsGraph, is_member, live_answers, is_answered, lasts}
 use Rattle.solver.specs.Inside.Tables.{is_open, IsCounted, AreWords, GapIsClosed}
 use Rattle.solver.specs.declared.word.TheConstants.{OPEN}
 use Rattle.graphs.proofs.Cited.{without, IsBetween, member-at}
-use Rattle.graphs.proofs.Cited.{both_true, and_true, true_or_false, true_not_false, same_or_not, live-le, live-same, next-closed, next-le, next-same}
+use Rattle.graphs.proofs.Cited.{both_true, and_true, true_or_false, true_not_false, same_or_not, live-le, live-same}
+use Rattle.graphs.proofs.Cited.{next-closed, next-le, next-same}
 use Rattle.solver.proofs.Strikes.{strike-home, strike-other, open-same, open-outside, open-member}
 
 -- the tables speak of the test only below the number of configurations
-pub IsCounted-same : (a : PlainGraph) → IsGraph a → (above above' : ℕ → Bool) (counts : List ℕ) → ((x : ℕ) → x < a.configurations → above x ≡ above' x) → IsCounted a above counts → IsCounted a above' counts
+pub IsCounted-same : (a : PlainGraph) → IsGraph a → (above above' : ℕ → Bool) (counts : List ℕ)
+    → ((x : ℕ) → x < a.configurations → above x ≡ above' x) → IsCounted a above counts → IsCounted a above' counts
 IsCounted-same a is above above' counts same t = record {
   counts_length = t.counts_length;
   counted = λ g i. t.counted g i ∙ live-same a is above above' g i same;
 }
 
-pub AreWords-same : (a : PlainGraph) → IsGraph a → (above above' : ℕ → Bool) (values : List ℕ) → ((x : ℕ) → x < a.configurations → above x ≡ above' x) → AreWords a above values → AreWords a above' values
+pub AreWords-same : (a : PlainGraph) → IsGraph a → (above above' : ℕ → Bool) (values : List ℕ)
+    → ((x : ℕ) → x < a.configurations → above x ≡ above' x) → AreWords a above values → AreWords a above' values
 AreWords-same a is above above' values same t = record {
   values_length = t.values_length;
   opened = λ x i. t.opened x i ∙ next-same a is above above' x i same;
@@ -32,14 +36,16 @@ pub same-open : (m n : ℕ) → m ≡ n → m == OPEN ≡ n == OPEN
 same-open m n e = ap (λ k. k == OPEN) e
 
 -- a strike at c, an answer of the gap g
-module _ (a : PlainGraph) (is : IsGraph a) (above : ℕ → Bool) (c g : ℕ) (i : c < a.configurations) (g_is : g ≡ a.struck c) (in_gaps : g < a.gaps) where
+module _ (a : PlainGraph) (is : IsGraph a) (above : ℕ → Bool) (c g : ℕ) (i : c < a.configurations)
+    (g_is : g ≡ a.struck c) (in_gaps : g < a.gaps) where
   without-less : (y : ℕ) → y < a.configurations → without above c y ≡ true → above y ≡ true
   without-less y j e = (both_true _ _ e).0
 
   others : (h : ℕ) → h ≢ g → live_answers a (without above c) h ≡ live_answers a above h
   others h other = strike-other a above c h (λ e. other (e ∙ sym g_is))
 
-  module _ (n : ℕ) (counts : List ℕ) (is_above : above c ≡ true) (count_is : slice_index counts g ≡ n + 1) (t : IsCounted a above counts) where
+  module _ (n : ℕ) (counts : List ℕ) (is_above : above c ≡ true) (count_is : slice_index counts g ≡ n + 1)
+      (t : IsCounted a above counts) where
     -- the count of the gap after the strike
     pub home-now : live_answers a (without above c) g ≡ n
     home-now =
@@ -55,7 +61,8 @@ module _ (a : PlainGraph) (is : IsGraph a) (above : ℕ → Bool) (c g : ℕ) (i
         | inl same ↦
             let size = t.counts_length in
             let in_range : g < length counts = omega arith in
-            ap (slice_index (slice_set counts g n)) same ∙ get_or-set_same counts g n 0 in_range ∙ sym home-now ∙ ap (live_answers a (without above c)) (sym same)
+            ap (slice_index (slice_set counts g n)) same ∙ get_or-set_same counts g n 0 in_range ∙ sym home-now
+            ∙ ap (live_answers a (without above c)) (sym same)
         | inr other ↦ get_or-set_other counts g h n 0 other ∙ t.counted h j ∙ sym (others h other)
       ];
     }
@@ -79,13 +86,16 @@ module _ (a : PlainGraph) (is : IsGraph a) (above : ℕ → Bool) (c g : ℕ) (i
 
   module _ (values values' : List ℕ) (now : live_answers a (without above c) g ≡ 0) (t : AreWords a above values) where
     -- the words after the gap has closed
-    closed-opened : (value : ℕ) → value ≢ OPEN → GapIsClosed a g value values values' → (x : ℕ) → x < a.configurations → is_open values' x ≡ is_answered a (without above c) x
+    closed-opened : (value : ℕ) → value ≢ OPEN → GapIsClosed a g value values values' → (x : ℕ) → x < a.configurations
+        → is_open values' x ≡ is_answered a (without above c) x
     closed-opened value small closed x j = elim (true_or_false (is_member a g x)) [
       | inl member ↦
           (let gone = open-member a (without above c) x g in_gaps member now in
           elim (true_or_false (is_open values x)) [
-            | inl was_open ↦ filed-shut (slice_index values' x) value small (closed.filed x j member was_open) ∙ sym gone
-            | inr shut ↦ same-open (slice_index values' x) (slice_index values x) (closed.kept x j shut) ∙ shut ∙ sym gone
+            | inl was_open ↦ filed-shut (slice_index values' x) value small (closed.filed x j member was_open)
+                ∙ sym gone
+            | inr shut ↦ same-open (slice_index values' x) (slice_index values x) (closed.kept x j shut) ∙ shut
+                ∙ sym gone
           ])
       | inr outside ↦
           same-open (slice_index values' x) (slice_index values x) (closed.outside x j outside) ∙ t.opened x j
@@ -94,24 +104,34 @@ module _ (a : PlainGraph) (is : IsGraph a) (above : ℕ → Bool) (c g : ℕ) (i
 
     module _ (r : ℕ) (between : IsBetween a r above) (stops : lasts a (suc r) c ≡ false) where
       -- an open member of a closed gap has the next value
-      filed-value : (x : ℕ) → x < a.configurations → is_member a g x ≡ true → is_open values x ≡ true → (lasts a (suc r) x ≡ true) × (lasts a (suc (suc r)) x ≡ false)
+      filed-value : (x : ℕ) → x < a.configurations → is_member a g x ≡ true → is_open values x ≡ true
+          → (lasts a (suc r) x ≡ true) × (lasts a (suc (suc r)) x ≡ false)
       filed-value x j member was_open =
           let was : is_answered a above x ≡ true = sym (t.opened x j) ∙ was_open in
           let none = live-le a is (lasts a (suc r)) (without above c) g in_gaps (λ y k e.
           and_true (above y) (not (y == c)) (between.lower y k e) (other_than y e)) in
           let zero_live : live_answers a (lasts a (suc r)) g ≡ 0 = omega arith in
-          let w = member-at a g x member in
-          (next-le a is above (lasts a r) x j between.upper was, next-closed a (lasts a (suc r)) x g w.0 in_gaps w.1 w.2 zero_live)
+          let w = member-at a g x member in (
+            next-le a is above (lasts a r) x j between.upper was,
+            next-closed a (lasts a (suc r)) x g w.0 in_gaps w.1 w.2 zero_live,
+          )
         where
           other_than : (y : ℕ) → lasts a (suc r) y ≡ true → not (y == c) ≡ true
-          other_than y e = elim (same_or_not y c) [ inl same ↦ absurd (true_not_false (lasts a (suc r) y) e (ap (lasts a (suc r)) same ∙ stops)) | inr differ ↦ grind (arith, nat_tests) ]
+          other_than y e = elim (same_or_not y c) [
+            | inl same ↦
+                absurd (true_not_false (lasts a (suc r) y) e (ap (lasts a (suc r)) same ∙ stops))
+            | inr differ ↦
+                grind (arith, nat_tests)
+          ]
 
       -- a word after the gap has closed: filed now, or as before
-      word-after : GapIsClosed a g (suc r) values values' → (x : ℕ) → x < a.configurations → is_open values' x ≡ false → (lasts a (slice_index values' x) x ≡ true) × (lasts a (suc (slice_index values' x)) x ≡ false)
+      word-after : GapIsClosed a g (suc r) values values' → (x : ℕ) → x < a.configurations → is_open values' x ≡ false
+          → (lasts a (slice_index values' x) x ≡ true) × (lasts a (suc (slice_index values' x)) x ≡ false)
       word-after closed x j shut = elim (true_or_false (is_open values x)) [
         | inl was_open ↦ elim (true_or_false (is_member a g x)) [
           | inl member ↦ rw (closed.filed x j member was_open) (filed-value x j member was_open)
-          | inr outside ↦ absurd (true_not_false (is_open values x) was_open (sym (same-open (slice_index values' x) (slice_index values x) (closed.outside x j outside)) ∙ shut))
+          | inr outside ↦ absurd (true_not_false (is_open values x) was_open
+              (sym (same-open (slice_index values' x) (slice_index values x) (closed.outside x j outside)) ∙ shut))
         ]
         | inr was_shut ↦ rw (closed.kept x j was_shut) (t.lasting x j was_shut, t.stopping x j was_shut)
       ]

@@ -11,4 +11,5 @@ pub record IsRoundEnd (s : Solving) (won counts : List ℕ) : Type 0 where
   pub once : (x : ℕ) → times x won ≤ 1
   pub next : (x : ℕ) → (0 < times x won) ↔ IsWorth s.game x (suc s.rounds)
   pub wide : length counts ≡ (graph_of s.game).gaps
-  pub above : (gap : ℕ) → gap < (graph_of s.game).gaps → HasSize (AnswerLasts s.game gap (suc s.rounds)) (slice_index counts gap)
+  pub above : (gap : ℕ) → gap < (graph_of s.game).gaps
+      → HasSize (AnswerLasts s.game gap (suc s.rounds)) (slice_index counts gap)

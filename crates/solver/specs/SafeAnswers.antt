@@ -7,4 +7,5 @@ use Rattle.positions.specs.Value.{HasValue}
 
 -- the label is an answer of the gap, and a labeller lasts forever after it
 abbrev pub IsSafeAnswer : PlainBoard → ℕ → ℕ → Type 0
-IsSafeAnswer board gap label = IsAnswer board gap label × HasValue board (member_of board gap label) Forever
+IsSafeAnswer board gap label =
+    IsAnswer board gap label × HasValue board (member_of board gap label) Forever

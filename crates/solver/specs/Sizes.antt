@@ -8,7 +8,10 @@ use Rattle.positions.specs.Value.{HasValue}
 
 -- `count` configurations have the value
 abbrev pub HasCount : PlainBoard → Value → ℕ → Type 0
-HasCount board value count = HasSize (λ rank. (rank < configurations board) × HasValue board (configuration_at board rank) value) count
+HasCount board value count =
+    HasSize
+    (λ rank. (rank < configurations board) × HasValue board (configuration_at board rank) value)
+    count
 
 -- the greatest number of which the fact holds, or none if it holds of none
 abbrev pub IsGreatest : (ℕ → Type 0) → Option ℕ → Type 0

@@ -12,7 +12,8 @@ abbrev pub tally : (ℕ → ℕ) → ℕ → List ℕ → ℕ
 tally home gap [] = 0
 tally home gap (x ∷ ranks) = cond (home x == gap) 1 0 + tally home gap ranks
 
--- a member of a gap without an answer above the round's value, which has no value of at most the round's
+-- a member of a gap without an answer above the round's value,
+-- which has no value of at most the round's
 pub record IsToWin (a : PlainGraph) (round x : ℕ) : Type 0 where
   pub gap : ℕ
   pub is_gap : gap < a.gaps

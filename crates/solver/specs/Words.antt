@@ -1,6 +1,7 @@
 -- The meaning of a solver's words and counts: the values of configurations, and the numbers of
 -- lasting answers of gaps.
-use Rattle.std.specs.Prelude.{◌≡◌, ℕ, ◌<◌, ◌≤◌, ◌==◌, ◌↔◌, cond, List, slice_index, slice_index_or, Option, Some, None}
+use Rattle.std.specs.Prelude.{◌≡◌, ℕ, ◌<◌, ◌≤◌, ◌==◌, ◌↔◌, cond, List, slice_index, slice_index_or}
+use Rattle.std.specs.Prelude.{Option, Some, None}
 use Rattle.positions.specs.declared.value.Value.{Value}
 use Rattle.positions.specs.declared.value.Value.TheVariants.{Finite, Forever}
 use Rattle.positions.specs.Value.{HasValue}
@@ -19,7 +20,8 @@ value_with_word word = cond (word == OPEN) Forever (Finite word)
 
 -- each number is that of a gap's answers that last as long as the round's value
 abbrev pub AreFirstCounts : Solving → List ℕ → Type 0
-AreFirstCounts s counts = (gap : ℕ) → gap < (graph_of s.game).gaps → HasSize (AnswerLasts s.game gap s.rounds) (slice_index counts gap)
+AreFirstCounts s counts = (gap : ℕ) → gap < (graph_of s.game).gaps
+    → HasSize (AnswerLasts s.game gap s.rounds) (slice_index counts gap)
 
 -- each configuration has its value, if that is at most the round's
 abbrev pub AreFirstValues : Solving → List (Option ℕ) → Type 0

@@ -5,18 +5,20 @@ ghost use Rattle.index_lists.specs.Lists.{times};
 ghost use Rattle.graphs.specs.Numbered.{graph_of};
 ghost use Rattle.solver.specs.Ending.{IsRoundEnd};
 ghost use Rattle.solver.specs.Inside.Tables.{is_open};
-ghost use Rattle.solver.specs.Inside.Stage.{with_counts, as_solving, IsSmall, IsFiled, IsKeptStage, IsStriking, IsUnstruck, FilesAll, TakesCounts};
+ghost use Rattle.solver.specs.Inside.Stage.{with_counts, as_solving, IsSmall, IsFiled, IsKeptStage};
+ghost use Rattle.solver.specs.Inside.Stage.{IsStriking, IsUnstruck, FilesAll, TakesCounts};
 
 use crate::end::RoundEnd;
 use crate::stage::Stage;
 use index_lists::ListStore;
 
 impl<S: ListStore> Stage<S> {
-    /// Files the configurations that the finished round `end` has won, and takes over its counts:
-    /// all is struck then.
+    /// Files the configurations that the finished round `end` has won,
+    /// and takes over its counts: all is struck then.
     pub(crate) fn file_end<E: RoundEnd>(&mut self, end: &E)
         requires unstruck { IsUnstruck self.old }
-        requires end { IsRoundEnd (as_solving self.old false) (E.won_list end.now) (E.counts end.now) }
+        requires end { IsRoundEnd (as_solving self.old false) (E.won_list end.now)
+            (E.counts end.now) }
         ensures struck { IsStriking self.new [] }
         ensures kept { IsKeptStage self.old self.new }
     {
@@ -29,7 +31,8 @@ impl<S: ListStore> Stage<S> {
         requires small { IsSmall (graph_of self.old.game) self.old.value }
         requires filed { IsFiled self.old }
         requires open { (rank : ℕ) → 0 < times rank ranks.now
-            → (rank < (graph_of self.old.game).configurations) × (is_open self.old.values rank ≡ true) }
+            → (rank < (graph_of self.old.game).configurations)
+            × (is_open self.old.values rank ≡ true) }
         requires once { (rank : ℕ) → times rank ranks.now ≤ 1 }
         ensures { FilesAll self.old ranks.now self.new }
     {

@@ -10,9 +10,11 @@ ghost use Rattle.solver.specs.Striking.{stands, tally, IsToWin};
 /// counted by its entries, and the configurations of the next value are the open members of gaps
 /// without an answer above the round's.
 pub fn seats_strike_graphs()
-    ensures waiting { (graph : PlainGraph) → IsGraph graph → (gap : ℕ) → (todo : List ℕ) → gap < graph.gaps
+    ensures waiting { (graph : PlainGraph) → IsGraph graph → (gap : ℕ) → (todo : List ℕ)
+        → gap < graph.gaps
         → ((x : ℕ) → 0 < times x todo → x < graph.configurations) → ((x : ℕ) → times x todo ≤ 1)
         → live_answers graph (stands todo) gap ≡ tally graph.struck gap todo }
-    ensures next { (graph : PlainGraph) → IsGraph graph → (round : ℕ) → (x : ℕ) → x < graph.configurations
+    ensures next { (graph : PlainGraph) → IsGraph graph → (round : ℕ) → (x : ℕ)
+        → x < graph.configurations
         → IsToWin graph round x ↔ LastsExactly graph x (suc round) }
 {}

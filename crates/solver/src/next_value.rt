@@ -41,7 +41,8 @@ impl NextValue for ByStrikes {
 pub(crate) struct FromEnd<'a, E: RoundEnd>(pub(crate) &'a E);
 
 impl<'a, E: RoundEnd> NextValue for FromEnd<'a, E> {
-    ghost serves = { λ from solver. IsRoundEnd solver (E.won_list from.0.now) (E.counts from.0.now) };
+    ghost serves = { λ from solver. IsRoundEnd solver (E.won_list from.0.now)
+        (E.counts from.0.now) };
 
     fn file<S: ListStore>(&self, stage: &mut Stage<S>) {
         stage.file_end(self.0);

@@ -59,7 +59,8 @@ impl<S: ListStore> Stage<S> {
 
 /// The number of answers of each gap.
 fn first_counts(alloc: Global, graph: &Graph) -> Result<Vec<u32>, Memory>
-    ensures { IfOk result (λ counts. IsCounted (graph_of graph.now) (lasts (graph_of graph.now) 0) counts.items) }
+    ensures { IfOk result (λ counts. IsCounted (graph_of graph.now)
+        (lasts (graph_of graph.now) 0) counts.items) }
 {
     let gaps = graph.gaps();
     let mut counts = Vec::with_capacity(alloc, gaps as usize)?;
@@ -77,7 +78,8 @@ fn count_answers(graph: &Graph, gap: u32) -> u32
     graph.answers(gap).len()
 }
 
-/// The word of each configuration before the first round: 0 if a request has no answer, else `OPEN`.
+/// The word of each configuration before the first round:
+/// 0 if a request has no answer, else `OPEN`.
 fn first_words(alloc: Global, graph: &Graph, counts: &[u32]) -> Result<Vec<u32>, Memory>
     requires { IsCounted (graph_of graph.now) (lasts (graph_of graph.now) 0) counts.now }
     ensures { IfOk result (λ words. AreFirstWords (graph_of graph.now) words.items) }

@@ -1,8 +1,10 @@
 //! The solver: a board whose values are found round by round.
 //!
-//! `first_filed`, `next_filed`, `first_source` and `next_source` go through lists one by one, for callers; no command does.
+//! `first_filed`, `next_filed`, `first_source` and `next_source` go through lists one by one, for
+//! callers; no command does.
 
-ghost use Rattle.std.specs.Prelude.{◌≡◌, ℕ, ◌+◌, ◌<◌, ◌≤◌, ◌↔◌, true, false, length, map, slice_get, IfOk, IfErr, Err, Some, None};
+ghost use Rattle.std.specs.Prelude.{◌≡◌, ℕ, ◌+◌, ◌<◌, ◌≤◌, ◌↔◌, true, false, length, map};
+ghost use Rattle.std.specs.Prelude.{slice_get, IfOk, IfErr, Err, Some, None};
 ghost use Rattle.board_text.specs.PlainBoard.{IsBoard};
 ghost use Rattle.positions.specs.declared.value.Value.TheVariants.{Finite};
 ghost use Rattle.positions.specs.Value.{HasValue};
@@ -15,7 +17,8 @@ ghost use Rattle.positions.specs.Counts.{HasSize, IsSmallest};
 ghost use Rattle.solver.specs.Words.{value_of_word, AreFirstCounts, AreFirstValues};
 ghost use Rattle.solver.specs.Ending.{IsRoundEnd};
 ghost use Rattle.solver.specs.Inside.Stage.{HasSpaceBy};
-ghost use Rattle.solver.specs.Solving.{IsSolving, HasFiled, HasFoundNone, bucket, source, AnswerLasts, AnswerForever, to_strike};
+ghost use Rattle.solver.specs.Solving.{IsSolving, HasFiled, HasFoundNone, bucket, source};
+ghost use Rattle.solver.specs.Solving.{AnswerLasts, AnswerForever, to_strike};
 
 use crate::end::RoundEnd;
 use crate::fault::SolveFault;
@@ -73,7 +76,8 @@ impl<S: ListStore + Drop> Solver<S> {
         ensures game { IfOk result (λ solver. solver.game ≡ numbered board.now Numbering.Ordered) }
         ensures start { IfOk result (λ solver. (solver.rounds ≡ 0) × (solver.is_done ≡ false)) }
         ensures kept { IfOk result (λ solver. IsSolving solver) }
-        ensures too_large { (result ≡ Err SolveFault.TooLarge) ↔ (MAX_CONFIGURATIONS < configurations board.now) }
+        ensures too_large { (result ≡ Err SolveFault.TooLarge)
+            ↔ (MAX_CONFIGURATIONS < configurations board.now) }
         ensures no_worker { result ≡ Err SolveFault.Worker → ⊥ }
     {
         match Space::of(board) {
@@ -196,10 +200,12 @@ impl<S: ListStore> Solver<S> {
     /// Files all configurations of the next value, or finds that none has it.
     pub fn round(&mut self) -> Progress
         ensures game { self.new.game ≡ self.old.game }
-        ensures after_done { self.old.is_done ≡ true → (result ≡ Progress.Done) × (self.new ≡ self.old) }
+        ensures after_done { self.old.is_done ≡ true
+            → (result ≡ Progress.Done) × (self.new ≡ self.old) }
         ensures filed { (n : ℕ) → result ≡ Progress.Filed n → HasFiled self.old self.new n }
         ensures none { result ≡ Progress.Done → HasFoundNone self.old self.new }
-        ensures filed_before { (value : ℕ) → value ≤ self.old.rounds → bucket self.new value ≡ bucket self.old value }
+        ensures filed_before { (value : ℕ) → value ≤ self.old.rounds
+            → bucket self.new value ≡ bucket self.old value }
         ensures kept { IsSolving self.new }
     {
         self.file_next(&ByStrikes)
@@ -210,10 +216,12 @@ impl<S: ListStore> Solver<S> {
     pub fn file_round<E: RoundEnd>(&mut self, end: &E) -> Progress
         requires { IsRoundEnd self.old (E.won_list end.now) (E.counts end.now) }
         ensures game { self.new.game ≡ self.old.game }
-        ensures after_done { self.old.is_done ≡ true → (result ≡ Progress.Done) × (self.new ≡ self.old) }
+        ensures after_done { self.old.is_done ≡ true
+            → (result ≡ Progress.Done) × (self.new ≡ self.old) }
         ensures filed { (n : ℕ) → result ≡ Progress.Filed n → HasFiled self.old self.new n }
         ensures none { result ≡ Progress.Done → HasFoundNone self.old self.new }
-        ensures filed_before { (value : ℕ) → value ≤ self.old.rounds → bucket self.new value ≡ bucket self.old value }
+        ensures filed_before { (value : ℕ) → value ≤ self.old.rounds
+            → bucket self.new value ≡ bucket self.old value }
         ensures kept { IsSolving self.new }
     {
         self.file_next(&FromEnd(end))
@@ -223,10 +231,12 @@ impl<S: ListStore> Solver<S> {
     fn file_next<N: NextValue>(&mut self, by: &N) -> Progress
         requires { self.old.is_done ≡ false → N.serves by.now self.old }
         ensures game { self.new.game ≡ self.old.game }
-        ensures after_done { self.old.is_done ≡ true → (result ≡ Progress.Done) × (self.new ≡ self.old) }
+        ensures after_done { self.old.is_done ≡ true
+            → (result ≡ Progress.Done) × (self.new ≡ self.old) }
         ensures filed { (n : ℕ) → result ≡ Progress.Filed n → HasFiled self.old self.new n }
         ensures none { result ≡ Progress.Done → HasFoundNone self.old self.new }
-        ensures filed_before { (value : ℕ) → value ≤ self.old.rounds → bucket self.new value ≡ bucket self.old value }
+        ensures filed_before { (value : ℕ) → value ≤ self.old.rounds
+            → bucket self.new value ≡ bucket self.old value }
         ensures kept { IsSolving self.new }
     {
         if self.done {
@@ -281,7 +291,8 @@ impl<S: ListStore> Solver<S> {
     pub fn dominator(&self, rank: u32) -> Option<u8>
         requires ordered { self.now.game.numbering ≡ Numbering.Ordered }
         requires rank { rank < (graph_of self.now.game).configurations }
-        ensures { IsSmallest (IsDominator self.now.game.board (configuration_of self.now.game rank)) result }
+        ensures { IsSmallest (IsDominator self.now.game.board
+            (configuration_of self.now.game rank)) result }
     {
         match self.stage.graph().struck(rank) {
             Some(gap) => Some(self.space().gap_pebble(gap)),
@@ -289,11 +300,13 @@ impl<S: ListStore> Solver<S> {
         }
     }
 
-    /// The value of the configuration with the number `rank`, if it is at most the number of rounds.
+    /// The value of the configuration with the number `rank`,
+    /// if it is at most the number of rounds.
     pub fn value_at(&self, rank: u32) -> Option<u32>
         requires { rank < (graph_of self.now.game).configurations }
         ensures { (value : ℕ) → (result ≡ Some value)
-            ↔ ((value ≤ self.now.rounds) × HasValue self.now.game.board (configuration_of self.now.game rank) (Finite value)) }
+            ↔ ((value ≤ self.now.rounds) × HasValue self.now.game.board
+            (configuration_of self.now.game rank) (Finite value)) }
     {
         value_of(self.stage.word(rank))
     }
@@ -302,7 +315,8 @@ impl<S: ListStore> Solver<S> {
     /// the rounds are done, to the value Forever.
     pub fn count_of(&self, gap: u32) -> u32
         requires { gap < (graph_of self.now.game).gaps }
-        ensures before { self.now.is_done ≡ false → HasSize (AnswerLasts self.now.game gap self.now.rounds) result }
+        ensures before { self.now.is_done ≡ false
+            → HasSize (AnswerLasts self.now.game gap self.now.rounds) result }
         ensures after { self.now.is_done ≡ true → HasSize (AnswerForever self.now.game gap) result }
     {
         self.stage.count(gap)
@@ -317,8 +331,8 @@ impl<S: ListStore> Solver<S> {
         self.stage.counts()
     }
 
-    /// The words of all configurations, by rank, with which a round begins. `value_of` reads the
-    /// value of each.
+    /// The words of all configurations, by rank, with which a round begins.
+    /// `value_of` reads the value of each.
     pub fn words(&self) -> &[u32]
         ensures size { length result.now ≡ (graph_of self.now.game).configurations }
         ensures values { AreFirstValues self.now (map value_of_word result.now) }
@@ -334,13 +348,16 @@ impl<S: ListStore> Solver<S> {
         self.stage.first_filed(value)
     }
 
-    /// The configuration after that of `rank`, among those filed at the same value. One that isn't
-    /// filed has none.
+    /// The configuration after that of `rank`, among those filed at
+    /// the same value. One that isn't filed has none.
     pub fn next_filed(&self, rank: u32) -> Option<u32>
         requires { rank < (graph_of self.now.game).configurations }
-        ensures behind { (value : ℕ) → (index : ℕ) → slice_get (bucket self.now value) index ≡ Some rank
+        ensures behind { (value : ℕ) → (index : ℕ)
+            → slice_get (bucket self.now value) index ≡ Some rank
             → result ≡ slice_get (bucket self.now value) (index + 1) }
-        ensures not_filed { ((value : ℕ) → (index : ℕ) → slice_get (bucket self.now value) index ≡ Some rank → ⊥) → result ≡ None }
+        ensures not_filed { ((value : ℕ) → (index : ℕ)
+            → slice_get (bucket self.now value) index ≡ Some rank → ⊥)
+            → result ≡ None }
     {
         self.stage.next_filed(rank)
     }
@@ -362,8 +379,8 @@ impl<S: ListStore> Solver<S> {
         self.stage.due(alloc)
     }
 
-    /// The members of `gap` that have no value of at most the number of rounds, one after the
-    /// other.
+    /// The members of `gap` that have no value of at most
+    /// the number of rounds, one after the other.
     pub fn sources(&self, gap: u32) -> SourceWalk<'_>
         requires { gap < (graph_of self.now.game).gaps }
         ensures { result ≡ source self.now gap }
@@ -387,7 +404,8 @@ impl<S: ListStore> Solver<S> {
         requires rank { rank < (graph_of self.now.game).configurations }
         ensures behind { (index : ℕ) → slice_get (source self.now gap) index ≡ Some rank
             → result ≡ slice_get (source self.now gap) (index + 1) }
-        ensures not_listed { ((index : ℕ) → slice_get (source self.now gap) index ≡ Some rank → ⊥) → result ≡ None }
+        ensures not_listed { ((index : ℕ) → slice_get (source self.now gap) index ≡ Some rank → ⊥)
+            → result ≡ None }
     {
         let mut members = self.stage.sources(gap);
         while let Some(member) = members.take_next() {
@@ -411,8 +429,10 @@ impl<S: ListStore + Drop> Solver<S> {
     /// numbers of the solver are ranks.
     pub fn finish(self) -> Result<Values, Unfinished<S>>
         requires ordered { self.game.numbering ≡ Numbering.Ordered }
-        ensures values { IfOk result (λ values. (self.is_done ≡ true) × (values ≡ self.game.board)) }
-        ensures unfinished { IfErr result (λ unfinished. (self.is_done ≡ false) × (unfinished.solver ≡ self)) }
+        ensures values { IfOk result (λ values. (self.is_done ≡ true)
+            × (values ≡ self.game.board)) }
+        ensures unfinished { IfErr result
+            (λ unfinished. (self.is_done ≡ false) × (unfinished.solver ≡ self)) }
     {
         if !self.done {
             return Err(Unfinished { solver: self });
@@ -463,8 +483,8 @@ impl<S: ListStore + Drop> Solver<S> {
         (NumberedValues::new(graph, values, sizes, forever), space)
     }
 
-    /// The values of the board, after all rounds that it takes. The numbers of the solver are
-    /// ranks.
+    /// The values of the board, after all rounds that it takes.
+    /// The numbers of the solver are ranks.
     pub fn solve(self) -> Values
         requires ordered { self.game.numbering ≡ Numbering.Ordered }
         ensures { result ≡ self.game.board }

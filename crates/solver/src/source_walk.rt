@@ -32,7 +32,8 @@ impl<'a> Model for SourceWalk<'a> {
 impl<'a> SourceWalk<'a> {
     /// The next of them, if one is left.
     pub fn take_next(&mut self) -> Option<u32>
-        ensures { MatchOption result ((self.old ≡ []) × (self.new ≡ [])) (λ member. self.old ≡ member ∷ self.new) }
+        ensures { MatchOption result ((self.old ≡ []) × (self.new ≡ []))
+            (λ member. self.old ≡ member ∷ self.new) }
     {
         for place in self.place..self.graph.places() {
             let member = self.graph.member(self.gap, place);

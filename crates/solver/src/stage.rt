@@ -1,18 +1,22 @@
 //! A solver's words and lists, and the changes that a round makes to them.
 
-ghost use Rattle.std.specs.Prelude.{◌≡◌, ℕ, ◌+◌, ◌-◌, ◌<◌, true, List, [], ◌∷◌, length, filter, slice_index};
+ghost use Rattle.std.specs.Prelude.{◌≡◌, ℕ, ◌+◌, ◌-◌, ◌<◌, true, List, [], ◌∷◌, length, filter};
+ghost use Rattle.std.specs.Prelude.{slice_index};
 ghost use Rattle.index_lists.specs.Lists.{times};
 ghost use Rattle.graphs.specs.Graph.{is_struck};
 ghost use Rattle.graphs.specs.Numbered.{graph_of};
 ghost use Rattle.solver.specs.Inside.Tables.{is_open};
-ghost use Rattle.solver.specs.Inside.Stage.{PlainStage, filed_at, due_strikes, rank_listed, rank_filed, at_next_value, strikes_copied, IsFiled, IsKeptStage, Closes, IsStriking};
+ghost use Rattle.solver.specs.Inside.Stage.{PlainStage, filed_at, due_strikes, rank_listed};
+ghost use Rattle.solver.specs.Inside.Stage.{rank_filed, at_next_value, strikes_copied, IsFiled};
+ghost use Rattle.solver.specs.Inside.Stage.{IsKeptStage, Closes, IsStriking};
 
 use crate::word::OPEN;
 use graphs::Graph;
 use index_lists::ListStore;
 use std::marker::Model;
 
-/// A word for each configuration and each gap, and the configurations that are filed at each value, while configurations are filed at one
+/// A word for each configuration and each gap, and the configurations that are filed at each value,
+/// while configurations are filed at one
 /// value after the other.
 #[derive(Drop)]
 pub(crate) struct Stage<S: ListStore> {
@@ -25,7 +29,8 @@ pub(crate) struct Stage<S: ListStore> {
     pub(crate) counts: Vec<u32>,
     /// For each value the configurations that are filed at it.
     pub(crate) buckets: S,
-    /// Room for the configurations that a round copies from the store. Between two rounds nobody reads it.
+    /// Room for the configurations that a round copies from the store.
+    /// Between two rounds nobody reads it.
     pub(crate) strikes: Vec<u32>,
 }
 
@@ -36,10 +41,13 @@ impl<S: ListStore> Model for Stage<S> {
 
     ghost Value = { PlainStage };
 
-    ghost view = { λ s. stage_of s.graph s.value s.values.items s.counts.items (S.state s.buckets) s.strikes.items };
+    ghost view = { λ s. stage_of s.graph s.value s.values.items s.counts.items
+        (S.state s.buckets) s.strikes.items };
 
-    ghost invariant = { λ s. IsSmall (graph_of s.graph) s.value × AreWide (graph_of s.graph) s.values.items s.counts.items
-        × AreStored (graph_of s.graph) (S.state s.buckets) × ((graph_of s.graph).configurations ≤ vec_capacity s.strikes) };
+    ghost invariant = { λ s. IsSmall (graph_of s.graph) s.value
+        × AreWide (graph_of s.graph) s.values.items s.counts.items
+        × AreStored (graph_of s.graph) (S.state s.buckets)
+        × ((graph_of s.graph).configurations ≤ vec_capacity s.strikes) };
 }
 
 impl<S: ListStore> Stage<S> {
@@ -78,11 +86,13 @@ impl<S: ListStore> Stage<S> {
         }
     }
 
-    /// Strikes an answer of `gap`, `rank`: the gap loses an answer, and its open members are filed if none is left.
+    /// Strikes an answer of `gap`, `rank`: the gap loses an answer,
+    /// and its open members are filed if none is left.
     fn strike(&mut self, rank: u32, gap: u32)
         requires striking { (rest : List ℕ) × IsStriking self.old (rank ∷ rest) }
         requires gap { gap ≡ (graph_of self.old.game).struck rank }
-        ensures struck { (rest : List ℕ) → IsStriking self.old (rank ∷ rest) → IsStriking self.new rest }
+        ensures struck { (rest : List ℕ) → IsStriking self.old (rank ∷ rest)
+            → IsStriking self.new rest }
         ensures kept { IsKeptStage self.old self.new }
         ensures strikes { self.new.strikes ≡ self.old.strikes }
     {
@@ -115,8 +125,10 @@ impl<S: ListStore> Stage<S> {
 
     /// Strikes those of the configurations in `strikes` that are answers.
     fn strike_taken(&mut self)
-        requires ranks { (rank : ℕ) → 0 < times rank self.old.strikes → rank < (graph_of self.old.game).configurations }
-        requires striking { IsStriking self.old (filter (is_struck (graph_of self.old.game)) self.old.strikes) }
+        requires ranks { (rank : ℕ) → 0 < times rank self.old.strikes
+            → rank < (graph_of self.old.game).configurations }
+        requires striking { IsStriking self.old
+            (filter (is_struck (graph_of self.old.game)) self.old.strikes) }
         ensures struck { IsStriking self.new [] }
         ensures kept { IsKeptStage self.old self.new }
     {

@@ -1,6 +1,7 @@
 //! Reading a stage.
 
-ghost use Rattle.std.specs.Prelude.{◌≡◌, ℕ, ◌+◌, ◌-◌, ◌<◌, Some, None, length, slice_index, slice_get, filter, IfOk};
+ghost use Rattle.std.specs.Prelude.{◌≡◌, ℕ, ◌+◌, ◌-◌, ◌<◌, Some, None, length, slice_index};
+ghost use Rattle.std.specs.Prelude.{slice_get, filter, IfOk};
 ghost use Rattle.index_lists.specs.Lists.{times};
 ghost use Rattle.graphs.specs.Graph.{is_struck};
 ghost use Rattle.graphs.specs.Numbered.{graph_of};
@@ -67,8 +68,8 @@ impl<S: ListStore> Stage<S> {
         self.buckets.len(self.value - 1)
     }
 
-    /// The configurations that a round strikes: those filed at the value before that are
-    /// answers.
+    /// The configurations that a round strikes:
+    /// those filed at the value before that are answers.
     pub(crate) fn due(&self, alloc: Global) -> Result<Vec<u32>, Memory>
         requires { 0 < self.now.value }
         ensures { IfOk result (λ ranks. ranks.items ≡ due_strikes self.now) }
@@ -81,8 +82,10 @@ impl<S: ListStore> Stage<S> {
 
     /// Those of `ranks` that are answers in some gap.
     fn answers_among(&self, alloc: Global, ranks: &[u32]) -> Result<Vec<u32>, Memory>
-        requires { (rank : ℕ) → 0 < times rank ranks.now → rank < (graph_of self.now.game).configurations }
-        ensures { IfOk result (λ found. found.items ≡ filter (is_struck (graph_of self.now.game)) ranks.now) }
+        requires { (rank : ℕ) → 0 < times rank ranks.now
+            → rank < (graph_of self.now.game).configurations }
+        ensures { IfOk result (λ found. found.items
+            ≡ filter (is_struck (graph_of self.now.game)) ranks.now) }
     {
         let mut found = Vec::with_capacity(alloc, ranks.len())?;
         for rank in ranks {
@@ -103,13 +106,16 @@ impl<S: ListStore> Stage<S> {
         self.buckets.first(value)
     }
 
-    /// The configuration after `rank`, among those filed at the same value. One that isn't filed
-    /// has none.
+    /// The configuration after `rank`, among those filed at the
+    /// same value. One that isn't filed has none.
     pub(crate) fn next_filed(&self, rank: u32) -> Option<u32>
         requires { rank < (graph_of self.now.game).configurations }
-        ensures behind { (value : ℕ) → (index : ℕ) → slice_get (filed_at self.now value) index ≡ Some rank
+        ensures behind { (value : ℕ) → (index : ℕ)
+            → slice_get (filed_at self.now value) index ≡ Some rank
             → result ≡ slice_get (filed_at self.now value) (index + 1) }
-        ensures not_filed { ((value : ℕ) → (index : ℕ) → slice_get (filed_at self.now value) index ≡ Some rank → ⊥) → result ≡ None }
+        ensures not_filed { ((value : ℕ) → (index : ℕ)
+            → slice_get (filed_at self.now value) index ≡ Some rank → ⊥)
+            → result ≡ None }
     {
         self.buckets.next(rank)
     }

@@ -35,7 +35,8 @@ use Rattle.strategies.proofs.AddedRanks.{below_all}
 module _ (board : PlainBoard) (rank pebble : ℕ) (ranks : List ℕ) where
   pub no_answer_added : IsBestFor board (configuration_at board rank) pebble None
       → IsWithAll ranks (IsAnswerStep board rank pebble) ranks
-  no_answer_added none = added_known ranks (IsAnswerStep board rank pebble) (λ to step. absurd (none step.label step.best.0.legal))
+  no_answer_added none =
+      added_known ranks (IsAnswerStep board rank pebble) (λ to step. absurd (none step.label step.best.0.legal))
 
   pub worthless_not_added : (best : Best) → IsBestFor board (configuration_at board rank) pebble (Some best)
       → ¬ IsLess (Finite 0) best.value
@@ -60,7 +61,8 @@ module _ (board : PlainBoard) (rank pebble : ℕ) (ranks : List ℕ) where
         some = record { value = best.value; has_value = is.1; some = some };
       })
       (λ other step.
-      let same : step.label ≡ best.label = same_answer board (configuration_at board rank) pebble step.label best.label step.best is.0 in
+      let same : step.label ≡ best.label =
+      same_answer board (configuration_at board rank) pebble step.label best.label step.best is.0 in
       step.to_is ∙ ap (λ (l : ℕ). rank_of board (moved (configuration_at board rank) pebble l)) same ∙ sym to_is)
 
 -- ---- all answers of a gap, by a walk over them
@@ -135,7 +137,11 @@ module _ (board : PlainBoard) (rank : ℕ) (is_rank : rank < configurations boar
       c = configuration_at board rank
 
       is : IsMemberOf board c pebble gap
-      is = record { is_configuration = configuration_at_is board rank is_rank; is_pebble = best.0.is_pebble; its_gap = sym gap_is }
+      is = record {
+        is_configuration = configuration_at_is board rank is_rank;
+        is_pebble = best.0.is_pebble;
+        its_gap = sym gap_is;
+      }
 
       there : IsAnswerOf board gap to → RequestLeads board rank to
       there (label, answer) = (
@@ -173,7 +179,9 @@ expanded_more board expanded gap ranks more are is_gap added = record {
   one_each = length-set expanded gap true ∙ are.one_each;
   there = λ other is_other marked rank answer. elim (cases_eq other gap) [
     | inl same ↦ (added.each rank).1 (inr (subst (λ (g : ℕ). IsAnswerOf board g rank) same answer))
-    | inr differ ↦ (added.each rank).1 (inl (are.there other is_other (sym (get_or-set_other expanded gap other true false differ) ∙ marked) rank answer))
+    | inr differ ↦ (added.each rank).1
+        (inl (are.there other is_other
+        (sym (get_or-set_other expanded gap other true false differ) ∙ marked) rank answer))
   ];
 }
 

@@ -1,5 +1,6 @@
 -- A request with a legal answer has one best answer.
-use Rattle.std.proofs.Common.{◌≡◌, ℕ, zero, suc, ◌+◌, ◌<◌, ◌≤◌, ◌⊎◌, List, Option, None, Some, inl, inr, refl, sym, ◌∙◌, subst, arith}
+use Rattle.std.proofs.Common.{◌≡◌, ℕ, zero, suc, ◌+◌, ◌<◌, ◌≤◌, ◌⊎◌, List, Option, None, Some, inl, inr, refl, sym, ◌∙◌}
+use Rattle.std.proofs.Common.{subst, arith}
 use Rattle.std.proofs.lemmas.Bool.{cases_lt}
 use Rattle.board_text.specs.PlainBoard.{PlainBoard, IsConfiguration}
 use Rattle.positions.specs.declared.value.Value.{Value}
@@ -22,12 +23,14 @@ pub record IsBestBelow (board : PlainBoard) (configuration : List ℕ) (pebble b
   pub early : best.label < bound
   pub legal : Legal board configuration pebble best.label
   pub has : HasValue board (moved configuration pebble best.label) best.value
-  pub behind : (other : ℕ) → other < bound → Legal board configuration pebble other → IsBehind board configuration pebble best other
+  pub behind : (other : ℕ) → other < bound → Legal board configuration pebble other
+      → IsBehind board configuration pebble best other
 
 -- that label, or none of the labels is legal
 abbrev pub IsFoundBelow : PlainBoard → List ℕ → ℕ → ℕ → Option Best → Type 0
 IsFoundBelow board configuration pebble bound (Some best) = IsBestBelow board configuration pebble bound best
-IsFoundBelow board configuration pebble bound None = (other : ℕ) → other < bound → ¬ Legal board configuration pebble other
+IsFoundBelow board configuration pebble bound None =
+    (other : ℕ) → other < bound → ¬ Legal board configuration pebble other
 
 better_exists : (best : Option Best) (later : Best) → (result : Best) × IsBetter best later result
 better_exists None later = (later, refl)
@@ -58,7 +61,8 @@ module _ (board : PlainBoard) (configuration : List ℕ) (pebble : ℕ) where
   -- if no legal label below a bound or at it is better, none below the next bound is better
   below_or_last : (best : Best) (bound : ℕ) → ((other : ℕ) → other < bound → Legal board configuration pebble other
       → IsBehind board configuration pebble best other)
-      → IsBehind board configuration pebble best bound → (other : ℕ) → other < bound + 1 → Legal board configuration pebble other
+      → IsBehind board configuration pebble best bound → (other : ℕ) → other < bound + 1
+      → Legal board configuration pebble other
       → IsBehind board configuration pebble best other
   below_or_last best bound before last other below legal = elim (cases_lt other bound) [
     | inl less ↦ before other less legal
@@ -68,7 +72,8 @@ module _ (board : PlainBoard) (configuration : List ℕ) (pebble : ℕ) where
   -- a legal label is the best if it is better than all legal ones before it
   leads_all : (later : Best) → Legal board configuration pebble later.label
       → HasValue board (moved configuration pebble later.label) later.value
-      → ((other : ℕ) → other < later.label → Legal board configuration pebble other → IsBehind board configuration pebble later other)
+      → ((other : ℕ) → other < later.label → Legal board configuration pebble other
+      → IsBehind board configuration pebble later other)
       → IsBestBelow board configuration pebble (later.label + 1) later
   leads_all later legal has before = record {
     early = omega arith;
@@ -79,7 +84,8 @@ module _ (board : PlainBoard) (configuration : List ℕ) (pebble : ℕ) where
 
   -- the best label after one more legal label
   pub next_label : (best : Option Best) (later result : Best) → IsFoundBelow board configuration pebble later.label best
-      → Legal board configuration pebble later.label → HasValue board (moved configuration pebble later.label) later.value
+      → Legal board configuration pebble later.label
+      → HasValue board (moved configuration pebble later.label) later.value
       → IsBetter best later result → IsBestBelow board configuration pebble (later.label + 1) result
   next_label None later result none legal has is =
       subst (IsBestBelow board configuration pebble (later.label + 1)) (sym is)
@@ -120,10 +126,12 @@ module _ (board : PlainBoard) (configuration : List ℕ) (pebble : ℕ) where
         | inr not ↦ (
           before.0,
           widen bound (suc bound) before.0 (omega arith) (λ label late early legal.
-              let same : label ≡ bound = omega arith in not (subst (Dominates board configuration pebble) same legal.dominates)) before.1,
+              let same : label ≡ bound = omega arith in
+              not (subst (Dominates board configuration pebble) same legal.dominates)) before.1,
         )
         | inl dominates ↦
-            let legal : Legal board configuration pebble bound = record { is_label = omega arith; dominates = dominates } in
+            let legal : Legal board configuration pebble bound =
+            record { is_label = omega arith; dominates = dominates } in
             let value = some_value board (moved configuration pebble bound)
             (moved_is_configuration board configuration pebble bound legal.is_label is) in
             let later : Best = record { label = bound; value = value.0 } in
@@ -137,7 +145,8 @@ module _ (board : PlainBoard) (configuration : List ℕ) (pebble : ℕ) where
 
   -- the best label below a bound is the best answer if it is better than all legal ones from there on
   pub best_of_all : (bound : ℕ) (best : Best) → IsBestBelow board configuration pebble bound best
-      → ((other : ℕ) → bound ≤ other → Legal board configuration pebble other → IsBehind board configuration pebble best other)
+      → ((other : ℕ) → bound ≤ other → Legal board configuration pebble other
+      → IsBehind board configuration pebble best other)
       → IsBestFor board configuration pebble (Some best)
   best_of_all bound best found late = (
     (
@@ -150,7 +159,8 @@ module _ (board : PlainBoard) (configuration : List ℕ) (pebble : ℕ) where
               bound = best.value;
               of_first = known.1;
               of_second = found.has;
-              not_greater = not_above best.value known.0 (elim known.2 [ inl less ↦ inr less | inr equal ↦ inl (sym equal.0) ]);
+              not_greater =
+                  not_above best.value known.0 (elim known.2 [ inl less ↦ inr less | inr equal ↦ inl (sym equal.0) ]);
             };
       },
       is_smallest,
@@ -159,7 +169,11 @@ module _ (board : PlainBoard) (configuration : List ℕ) (pebble : ℕ) where
   )
     where
       behind : (other : ℕ) → Legal board configuration pebble other → IsBehind board configuration pebble best other
-      behind other legal = elim (cases_lt other bound) [ inl below ↦ found.behind other below legal | inr above ↦ late other above legal ]
+      behind other legal = elim (cases_lt other bound) [
+        | inl below ↦ found.behind other below legal
+        | inr above ↦
+            late other above legal
+      ]
 
       is_smallest : (other : ℕ) → HasGreatestResult board configuration pebble other → best.label ≤ other
       is_smallest other also =
@@ -168,9 +182,12 @@ module _ (board : PlainBoard) (configuration : List ℕ) (pebble : ℕ) where
             | inr equal ↦ equal.1
             | inl less ↦
                 let most = also.greatest best.label found.legal in
-                let same = same_value board (moved configuration pebble best.label) best.value most.value found.has most.of_first in
-                let bound = same_value board (moved configuration pebble other) known.0 most.bound known.1 most.of_second in
-                absurd (most.not_greater (subst (λ (u : Value). IsLess u most.value) bound (subst (IsLess known.0) same less)))
+                let same = same_value board
+                (moved configuration pebble best.label) best.value most.value found.has most.of_first in
+                let bound =
+                same_value board (moved configuration pebble other) known.0 most.bound known.1 most.of_second in
+                absurd (most.not_greater (subst (λ (u : Value). IsLess u most.value) bound
+                (subst (IsLess known.0) same less)))
           ]
 
 pub best_answer : (board : PlainBoard) (configuration : List ℕ) (pebble : ℕ) → IsConfiguration board configuration
@@ -195,15 +212,23 @@ pub lasts_after : (board : PlainBoard) (number : ℕ) (configuration : List ℕ)
     → LabellerTree board number (moved configuration pebble label)
 lasts_after board number configuration pebble label is_pebble best lasts =
     let answer = lasts pebble is_pebble in
-    lasts_too board number (moved configuration pebble answer.0) (moved configuration pebble label) (best.0.greatest answer.0 answer.1) answer.2
+    lasts_too board number (moved configuration pebble answer.0) (moved configuration pebble label)
+    (best.0.greatest answer.0 answer.1) answer.2
 
 -- each smaller legal label has a result of a smaller value
-pub smaller_before : (board : PlainBoard) (configuration : List ℕ) (pebble label other : ℕ) → IsBestAnswer board configuration pebble label
+pub smaller_before : (board : PlainBoard) (configuration : List ℕ) (pebble label other : ℕ)
+    → IsBestAnswer board configuration pebble label
     → other < label → Legal board configuration pebble other
     → HasSmallerValue board (moved configuration pebble other) (moved configuration pebble label)
 smaller_before board configuration pebble label other best before legal =
     elim (cases_value most.value most.bound) [
-      | inl less ↦ record { smaller = most.value; greater = most.bound; of_first = most.of_first; of_second = most.of_second; less = less }
+      | inl less ↦ record {
+        smaller = most.value;
+        greater = most.bound;
+        of_first = most.of_first;
+        of_second = most.of_second;
+        less = less;
+      }
       | inr (inl same) ↦ let behind : label ≤ other = best.1 other (as_great same) in absurd (omega arith)
       | inr (inr more) ↦ absurd (most.not_greater more)
     ]
@@ -217,7 +242,8 @@ smaller_before board configuration pebble label other best before legal =
       greatest = λ third is_legal.
           let least = best.0.greatest third is_legal in
           let bound : least.bound ≡ most.value =
-          same_value board (moved configuration pebble label) least.bound most.bound least.of_second most.of_second ∙ sym same in
+          same_value board (moved configuration pebble label) least.bound most.bound least.of_second most.of_second
+          ∙ sym same in
           record {
             value = least.value;
             bound = most.value;

@@ -1,8 +1,10 @@
 -- Bits as marks.
-use Rattle.std.proofs.Common.{◌≡◌, ℕ, ◌/◌, ◌%◌, ◌<◌, nat_eq, Bool, true, false, List, length, get_or, set, replicate, sym, ap, ◌∙◌, inl, inr, arith}
+use Rattle.std.proofs.Common.{◌≡◌, ℕ, ◌/◌, ◌%◌, ◌<◌, nat_eq, Bool, true, false, List, length, get_or, set, replicate}
+use Rattle.std.proofs.Common.{sym, ap, ◌∙◌, inl, inr, arith}
 use Rattle.std.specs.Int.{bit_at}
 use Rattle.std.proofs.lemmas.Bool.{cases_eq, cases_lt}
-use Rattle.std.proofs.lemmas.List.{ext_get_or, length-set, length-replicate, get_or-replicate, get_or-set_same, get_or-set_other, get_or_past}
+use Rattle.std.proofs.lemmas.List.{ext_get_or, length-set, length-replicate, get_or-replicate, get_or-set_same}
+use Rattle.std.proofs.lemmas.List.{get_or-set_other, get_or_past}
 use Rattle.std.proofs.lemmas.List.FromFn.{length-map-range_with_len, get_or-map-range_with_len}
 use Rattle.std.proofs.lemmas.Nat.Bits.{bit_at-zero}
 use Rattle.board_text.specs.Domination.{has_bit}
@@ -12,8 +14,10 @@ use Rattle.strategies.specs.Inside.Marks.{marks_of}
 pub so_many : (size : ℕ) (words : List ℕ) → length (marks_of size words) ≡ size
 so_many size words = length-map-range_with_len (has_bit words) 0 size
 
-pub mark_at : (size : ℕ) (words : List ℕ) (number : ℕ) → number < size → get_or (marks_of size words) number false ≡ has_bit words number
-mark_at size words number inside = get_or-map-range_with_len (has_bit words) 0 size number number false inside (omega arith)
+pub mark_at : (size : ℕ) (words : List ℕ) (number : ℕ) → number < size
+    → get_or (marks_of size words) number false ≡ has_bit words number
+mark_at size words number inside =
+    get_or-map-range_with_len (has_bit words) 0 size number number false inside (omega arith)
 
 no_word : (count place : ℕ) → ◌≡◌ {A = ℕ} (get_or (replicate count 0) place 0) 0
 no_word count place = elim (cases_lt place count) [
@@ -28,19 +32,23 @@ none_marked size count = ext_get_or false (marks_of size (replicate count 0)) (r
     (λ number inside.
     let low : number < size = omega (arith, inside, so_many size (replicate count 0)) in
     mark_at size (replicate count 0) number low
-    ∙ ap (λ (w : ℕ). nat_eq (bit_at w (number % 64)) 1) (no_word count (number / 64)) ∙ ap (λ (b : ℕ). nat_eq b 1) (bit_at-zero (number % 64))
+    ∙ ap (λ (w : ℕ). nat_eq (bit_at w (number % 64)) 1) (no_word count (number / 64))
+    ∙ ap (λ (b : ℕ). nat_eq b 1) (bit_at-zero (number % 64))
     ∙ sym (get_or-replicate {A = Bool} size number false false low))
 
 -- one more bit is set
-pub one_marked : (size : ℕ) (words : List ℕ) (number : ℕ) → number < size → number / 64 < length words → marks_of size (with_bit words number) ≡ set (marks_of size words) number true
-one_marked size words number low inside = ext_get_or false (marks_of size (with_bit words number)) (set (marks_of size words) number true)
+pub one_marked : (size : ℕ) (words : List ℕ) (number : ℕ) → number < size → number / 64 < length words
+    → marks_of size (with_bit words number) ≡ set (marks_of size words) number true
+one_marked size words number low inside =
+    ext_get_or false (marks_of size (with_bit words number)) (set (marks_of size words) number true)
     (so_many size (with_bit words number) ∙ sym (length-set (marks_of size words) number true ∙ so_many size words))
     (λ other within.
     let here : other < size = omega (arith, within, so_many size (with_bit words number)) in
     mark_at size (with_bit words number) other here ∙ elim (cases_eq other number) [
       | inl same ↦
           ap (has_bit (with_bit words number)) same ∙ has_bit-set_same words number inside
-          ∙ sym (ap (λ (n : ℕ). get_or (set (marks_of size words) number true) n false) same ∙ get_or-set_same (marks_of size words) number true false (omega (arith, low, so_many size words)))
+          ∙ sym (ap (λ (n : ℕ). get_or (set (marks_of size words) number true) n false) same
+          ∙ get_or-set_same (marks_of size words) number true false (omega (arith, low, so_many size words)))
       | inr differ ↦
           has_bit-set_other words number other inside differ ∙ sym (mark_at size words other here)
           ∙ sym (get_or-set_other (marks_of size words) number other true false differ)

@@ -14,7 +14,8 @@ use Rattle.positions.specs.Ranks.{configurations, rank_of, configuration_at}
 use Rattle.positions.proofs.Cited.{dominates_or_not, moved_is_configuration, some_value, configuration_at_is}
 use Rattle.strategies.specs.Best.{IsBestAnswer, IsBestRequest}
 use Rattle.strategies.specs.Document.{IsAnswerable}
-use Rattle.strategies.specs.Inside.ReachedRanks.{IsAnswerStep, AnswerLeads, IsRequestStep, RequestLeads, IsWith, IsWithAll}
+use Rattle.strategies.specs.Inside.ReachedRanks.{IsAnswerStep, AnswerLeads, IsRequestStep, RequestLeads, IsWith}
+use Rattle.strategies.specs.Inside.ReachedRanks.{IsWithAll}
 use Rattle.strategies.specs.Inside.ReachedRanks.{IsReachedBy, IsReachedByAnswers, IsReachedByRequests, AreRanksOf}
 use Rattle.strategies.proofs.AddedRanks.{contains_or_not, few_apart, added_known, added_one, added_same}
 use Rattle.strategies.proofs.AddedRanks.{Below, added_start, added_more, below_all}
@@ -65,8 +66,12 @@ add_below P zero one ranks apart = (ranks, added_start ranks P, apart)
 add_below P (suc bound) one ranks apart =
     let first = add_below P bound (λ number below. one number (omega arith)) ranks apart in
     let last = add_one (P bound) (one bound (omega arith)) first.0 first.2 in
-    let next : bound + 1 ≡ suc bound = omega arith in
-    (last.0, subst (λ (n : ℕ). IsWithAll ranks (Below P n) last.0) next (added_more ranks first.0 last.0 P bound first.1 last.1), last.2)
+    let next : bound + 1 ≡ suc bound = omega arith in (
+      last.0,
+      subst (λ (n : ℕ). IsWithAll ranks (Below P n) last.0) next
+          (added_more ranks first.0 last.0 P bound first.1 last.1),
+      last.2,
+    )
 
 -- the ranks to which any number leads can be added
 add_all : (P : ℕ → ℕ → Type 0) (bound : ℕ) → ((number rank : ℕ) → P number rank → number < bound)
@@ -86,7 +91,8 @@ module _ (board : PlainBoard) (IsMove : List ℕ → ℕ → ℕ → Type 0) (Ho
     (is : IsConfiguration board board.start) (are : AreMoves board IsMove Holds Leads)
     (add : (rank : ℕ) → rank < configurations board → Holds (configuration_at board rank)
     → (ranks : List ℕ) → AreApart ranks → CanAdd ranks (Leads rank)) where
-  works_off : (left place : ℕ) (ranks : List ℕ) → configurations board ≤ place + left → IsSpreadBy board IsMove Holds Leads place ranks
+  works_off : (left place : ℕ) (ranks : List ℕ) → configurations board ≤ place + left
+      → IsSpreadBy board IsMove Holds Leads place ranks
       → AreApart ranks → (all : List ℕ) × AreRanksOf board (IsReachedBy board IsMove Holds) all
   works_off zero place ranks enough spread apart = elim (slice_get_cases ranks place).1 [
     | inr end ↦ (ranks, spread_ends board IsMove Holds Leads is are place ranks spread end.1)
@@ -103,14 +109,16 @@ module _ (board : PlainBoard) (IsMove : List ℕ → ℕ → ℕ → Type 0) (Ho
         (spread_more board IsMove Holds Leads is are place there.0 ranks added.0 spread there.2 added.1) added.2
   ]
 
-  all_reached : Holds board.start ⊎ ¬ Holds board.start → (all : List ℕ) × AreRanksOf board (IsReachedBy board IsMove Holds) all
+  all_reached : Holds board.start ⊎ ¬ Holds board.start
+      → (all : List ℕ) × AreRanksOf board (IsReachedBy board IsMove Holds) all
   all_reached either =
       let one : OneOrNone (IsStart board IsMove Holds Leads is) = elim either [
         | inl holds ↦ inl (rank_of board board.start, (holds, refl), λ rank starts. starts.1)
         | inr not ↦ inr (λ rank starts. not starts.0)
       ] in
       let begun = add_one (IsStart board IsMove Holds Leads is) one [] none_apart in
-      works_off (configurations board) 0 begun.0 (omega arith) (spread_begins board IsMove Holds Leads is begun.0 begun.1) begun.2
+      works_off (configurations board) 0 begun.0 (omega arith)
+      (spread_begins board IsMove Holds Leads is begun.0 begun.1) begun.2
 
 -- ---- best answers
 
@@ -118,13 +126,15 @@ pub answerable_or_not : (board : PlainBoard) (configuration : List ℕ) → IsCo
     → IsAnswerable board configuration ⊎ ¬ IsAnswerable board configuration
 answerable_or_not board configuration is = let value = some_value board configuration is in by value.0 value.1
   where
-    by : (value : Value) → HasValue board configuration value → IsAnswerable board configuration ⊎ ¬ IsAnswerable board configuration
+    by : (value : Value) → HasValue board configuration value
+        → IsAnswerable board configuration ⊎ ¬ IsAnswerable board configuration
     by (Finite zero) has = inr (λ some. not_answerable board configuration some has)
     by (Finite (suc number)) has = inl (record { value = Finite (suc number); has_value = has; some = omega arith })
     by Forever has = inl (record { value = Forever; has_value = has; some = tt })
 
 -- a request of a pebble leads to one rank, or to none
-answer_step : (board : PlainBoard) (rank pebble : ℕ) → rank < configurations board → IsAnswerable board (configuration_at board rank)
+answer_step : (board : PlainBoard) (rank pebble : ℕ) → rank < configurations board
+    → IsAnswerable board (configuration_at board rank)
     → pebble < board.pebbles → OneOrNone (IsAnswerStep board rank pebble)
 answer_step board rank pebble below some is_pebble =
     let c : List ℕ = configuration_at board rank in
@@ -140,7 +150,8 @@ answer_step board rank pebble below some is_pebble =
         record { is_pebble = is_pebble; label = best.0; best = best.1; to_is = refl; some = holds },
         λ other step. step.to_is ∙ ap (λ (l : ℕ). rank_of board (moved c pebble l)) (one step.label step.best),
       )
-      | inr not ↦ inr (λ other step. not (subst (λ (l : ℕ). IsAnswerable board (moved c pebble l)) (one step.label step.best) step.some))
+      | inr not ↦ inr (λ other step. not
+          (subst (λ (l : ℕ). IsAnswerable board (moved c pebble l)) (one step.label step.best) step.some))
     ]
 
 pub answers_reach : (board : PlainBoard) → IsConfiguration board board.start
@@ -162,7 +173,8 @@ request_step board rank label below is_label =
     is : IsConfiguration board (configuration_at board rank)
     is = configuration_at_is board rank below
 
-    by : (value : Value) → HasValue board (configuration_at board rank) value → OneOrNone (IsRequestStep board rank label)
+    by : (value : Value) → HasValue board (configuration_at board rank) value
+        → OneOrNone (IsRequestStep board rank label)
     by Forever has = inr (λ to step. not_lowered board (configuration_at board rank) step.pebble is has step.best.0)
     by (Finite number) has =
         let c : List ℕ = configuration_at board rank in
@@ -172,10 +184,16 @@ request_step board rank label below is_label =
         elim (dominates_or_not board c best.0 label) [
           | inl dominates ↦ inl (
             rank_of board (moved c best.0 label),
-            record { pebble = best.0; best = best.1; legal = record { is_label = is_label; dominates = dominates }; to_is = refl },
+            record {
+              pebble = best.0;
+              best = best.1;
+              legal = record { is_label = is_label; dominates = dominates };
+              to_is = refl;
+            },
             λ other step. step.to_is ∙ ap (λ (p : ℕ). rank_of board (moved c p label)) (one step.pebble step.best),
           )
-          | inr not ↦ inr (λ other step. not (subst (λ (p : ℕ). Legal board c p label) (one step.pebble step.best) step.legal).dominates)
+          | inr not ↦ inr (λ other step. not
+              (subst (λ (p : ℕ). Legal board c p label) (one step.pebble step.best) step.legal).dominates)
         ]
 
 pub requests_reach : (board : PlainBoard) → IsConfiguration board board.start

@@ -1,5 +1,6 @@
 -- The document of a board is one as the format has it.
-use Rattle.std.proofs.Common.{◌≡◌, ℕ, zero, suc, ◌<◌, ◌≤◌, false, List, [], ◌∷◌, length, get_or, refl, sym, subst, inl, inr, arith}
+use Rattle.std.proofs.Common.{◌≡◌, ℕ, zero, suc, ◌<◌, ◌≤◌, false, List, [], ◌∷◌, length, get_or, refl, sym, subst, inl}
+use Rattle.std.proofs.Common.{inr, arith}
 use Rattle.std.specs.List.{All, AllPairs, Contains}
 use Rattle.std.proofs.lemmas.Bool.{cases_lt}
 use Rattle.std.proofs.lemmas.List.{get_or_default}
@@ -13,49 +14,60 @@ use Rattle.positions.specs.Table.{AnswerRow, RequestRow}
 use Rattle.positions.specs.Ranks.{rank_of, configurations}
 use Rattle.positions.specs.declared.space.TheConstants.{MAX_CONFIGURATIONS}
 use Rattle.positions.proofs.Cited.{lasts_at_most, same_value, forever_from_count, rank_below}
-use Rattle.proof_text.specs.Proof.{PlainProof, IsClaim, AreTurns, IsAnswerRow, IsRequestRow, AreRows, AreAnswerRows, asks_labeller, asks_adversary, IsProof}
+use Rattle.proof_text.specs.Proof.{PlainProof, IsClaim, AreTurns, IsAnswerRow, IsRequestRow, AreRows, AreAnswerRows}
+use Rattle.proof_text.specs.Proof.{asks_labeller, asks_adversary, IsProof}
 use Rattle.strategies.specs.Best.{IsLess}
-use Rattle.strategies.specs.Document.{IsAnswerable, IsAnswerMove, LeadsBy, IsLabellerRow, IsAdversaryRow, AsksAdversary, AreExactly, IsDocumentOf, turns_of}
+use Rattle.strategies.specs.Document.{IsAnswerable, IsAnswerMove, LeadsBy, IsLabellerRow, IsAdversaryRow, AsksAdversary}
+use Rattle.strategies.specs.Document.{AreExactly, IsDocumentOf, turns_of}
 use Rattle.positions.specs.Claim.{claim_of}
 use Rattle.strategies.proofs.ValueOrder.{worthless}
 use Rattle.strategies.proofs.ReachedByMoves.{answers_lead_to, requests_lead_to}
 
 -- a finite value is smaller than the number of configurations
-value_below : (board : PlainBoard) (configuration : List ℕ) (number : ℕ) → IsConfiguration board configuration → HasValue board configuration (Finite number)
+value_below : (board : PlainBoard) (configuration : List ℕ) (number : ℕ) → IsConfiguration board configuration
+    → HasValue board configuration (Finite number)
     → number < configurations board
 value_below board configuration number is has =
     elim (cases_lt number (configurations board)) [
       | inl less ↦ less
       | inr many ↦
           let same : Forever ≡ Finite number = same_value board configuration Forever (Finite number)
-          (forever_from_count board configuration is (lasts_at_most board configuration (configurations board) number many has.0)) has in
+          (forever_from_count board configuration is
+          (lasts_at_most board configuration (configurations board) number many has.0)) has in
           absurd cc
     ]
 
 -- an element of an ascending list of numbers is at least its place, so the list is no longer than a bound on them
-place_below : {X : Type 0} (rank : X → ℕ) (rows : List X) (d : X) → AllPairs (λ first second. rank first < rank second) rows → (place : ℕ) → place < length rows
+place_below : {X : Type 0} (rank : X → ℕ) (rows : List X) (d : X)
+    → AllPairs (λ first second. rank first < rank second) rows → (place : ℕ) → place < length rows
     → place ≤ rank (get_or rows place d)
 place_below rank rows d ascends zero inside = omega arith
 place_below rank rows d ascends (suc place) inside =
     let before : place ≤ rank (get_or rows place d) = place_below rank rows d ascends place (omega arith) in
-    let less : rank (get_or rows place d) < rank (get_or rows (suc place) d) = ascends place (suc place) d (omega arith) inside in
+    let less : rank (get_or rows place d) < rank (get_or rows (suc place) d) =
+    ascends place (suc place) d (omega arith) inside in
     omega arith
 
-few_rows : {X : Type 0} (rank : X → ℕ) (bound : ℕ) (rows : List X) → AllPairs (λ first second. rank first < rank second) rows → All (λ row. rank row < bound) rows
+few_rows : {X : Type 0} (rank : X → ℕ) (bound : ℕ) (rows : List X)
+    → AllPairs (λ first second. rank first < rank second) rows → All (λ row. rank row < bound) rows
     → length rows ≤ bound
 few_rows rank bound [] ascends each = omega arith
 few_rows rank bound (row ∷ rows) ascends each =
-    let last : length rows ≤ rank (get_or (row ∷ rows) (length rows) row) = place_below rank (row ∷ rows) row ascends (length rows) (omega arith) in
+    let last : length rows ≤ rank (get_or (row ∷ rows) (length rows) row) =
+    place_below rank (row ∷ rows) row ascends (length rows) (omega arith) in
     let less : rank (get_or (row ∷ rows) (length rows) row) < bound = each (length rows) row (omega arith) in
     omega arith
 
 -- the rows of a section are as the format has them, if each row is
-section : {X : Type 0} (board : PlainBoard) (IsRow IsFormed : X → Type 0) (at : X → List ℕ) (rows : List X) → configurations board ≤ MAX_CONFIGURATIONS
+section : {X : Type 0} (board : PlainBoard) (IsRow IsFormed : X → Type 0) (at : X → List ℕ) (rows : List X)
+    → configurations board ≤ MAX_CONFIGURATIONS
     → ((row : X) → IsRow row → IsConfiguration board (at row)) → ((row : X) → IsRow row → IsFormed row)
     → AreExactly board IsRow at rows → AreRows board IsFormed at rows
 section {X} board IsRow IsFormed at rows few are formed exactly =
-    let is : (k : ℕ) (d : X) → k < length rows → IsRow (get_or rows k d) = λ k d inside. (exactly.each (get_or rows k d)).0 (Contains-get_or rows k d inside) in
-    let size : length rows ≤ configurations board = few_rows (λ row. rank_of board (at row)) (configurations board) rows exactly.ascending
+    let is : (k : ℕ) (d : X) → k < length rows → IsRow (get_or rows k d) =
+    λ k d inside. (exactly.each (get_or rows k d)).0 (Contains-get_or rows k d inside) in
+    let size : length rows ≤ configurations board =
+    few_rows (λ row. rank_of board (at row)) (configurations board) rows exactly.ascending
     (λ k d inside. rank_below board (at (get_or rows k d)) (are (get_or rows k d) (is k d inside))) in
     record {
       few = omega arith;
@@ -72,12 +84,15 @@ turns_formed (Finite (suc number)) (Finite value) low some here = (omega (arith,
 turns_formed (Finite (suc number)) Forever low some here = (omega arith, omega (arith, low))
 
 -- if best answers lead to a configuration of value 1 or more, they lead from one
-pub start_answerable : (board : PlainBoard) (from : List ℕ) (moves : List (ℕ × ℕ)) (to : List ℕ) → LeadsBy (IsAnswerMove board) from moves to → IsAnswerable board to → IsAnswerable board from
+pub start_answerable : (board : PlainBoard) (from : List ℕ) (moves : List (ℕ × ℕ)) (to : List ℕ)
+    → LeadsBy (IsAnswerMove board) from moves to → IsAnswerable board to → IsAnswerable board from
 start_answerable board from [] to leads some = subst (IsAnswerable board) (sym leads) some
 start_answerable board from (move ∷ moves) to leads some = leads.0.answerable
 
-pub not_answerable : (board : PlainBoard) (configuration : List ℕ) → IsAnswerable board configuration → HasValue board configuration (Finite 0) → ⊥
-not_answerable board configuration is has = worthless board configuration (Finite 0) has (λ less. omega (arith, less)) is
+pub not_answerable : (board : PlainBoard) (configuration : List ℕ) → IsAnswerable board configuration
+    → HasValue board configuration (Finite 0) → ⊥
+not_answerable board configuration is has =
+    worthless board configuration (Finite 0) has (λ less. omega (arith, less)) is
 
 module _ (board : PlainBoard) (proof : PlainProof) (is_start : IsConfiguration board board.start)
     (few : configurations board ≤ MAX_CONFIGURATIONS)
@@ -109,8 +124,10 @@ module _ (board : PlainBoard) (proof : PlainProof) (is_start : IsConfiguration b
         );
       }
 
-  requests_configuration : (row : RequestRow) → AsksAdversary is.value × IsAdversaryRow board row → IsConfiguration board row.at
-  requests_configuration row (asks, is_row) = requests_lead_to board board.start is_row.moves row.at is_start is_row.reached
+  requests_configuration : (row : RequestRow) → AsksAdversary is.value × IsAdversaryRow board row
+      → IsConfiguration board row.at
+  requests_configuration row (asks, is_row) =
+      requests_lead_to board board.start is_row.moves row.at is_start is_row.reached
 
   requests_formed : (row : RequestRow) → AsksAdversary is.value × IsAdversaryRow board row → IsRequestRow board row
   requests_formed row (asks, is_row) =
@@ -127,11 +144,13 @@ module _ (board : PlainBoard) (proof : PlainProof) (is_start : IsConfiguration b
   always_labeller (Finite number) same = absurd cc
   always_labeller Forever same = absurd cc
 
-  sometimes_adversary : (start : Value) (rows : List RequestRow) → ((row : RequestRow) → Contains rows row → AsksAdversary start)
+  sometimes_adversary : (start : Value) (rows : List RequestRow)
+      → ((row : RequestRow) → Contains rows row → AsksAdversary start)
       → asks_adversary (claim_of start) ≡ false → rows ≡ []
   sometimes_adversary (Finite number) rows asks same = absurd cc
   sometimes_adversary Forever [] asks same = refl
-  sometimes_adversary Forever (row ∷ rows) asks same = absurd (asks row (Contains-get_or (row ∷ rows) 0 row (omega arith)))
+  sometimes_adversary Forever (row ∷ rows) asks same =
+      absurd (asks row (Contains-get_or (row ∷ rows) 0 row (omega arith)))
 
   pub is_formed : IsProof board proof
   is_formed = record {
@@ -142,7 +161,9 @@ module _ (board : PlainBoard) (proof : PlainProof) (is_start : IsConfiguration b
         answers_configuration answers_formed is.labeller);
     adversary = section board _ (IsRequestRow board) (λ (row : RequestRow). row.at) proof.adversary few
         requests_configuration requests_formed is.adversary;
-    no_labeller = λ none. always_labeller is.value (subst (λ (claim : Claim). asks_labeller claim ≡ false) is.claim none);
-    no_adversary = λ none. sometimes_adversary is.value proof.adversary (λ row among. ((is.adversary.each row).0 among).0)
+    no_labeller =
+        λ none. always_labeller is.value (subst (λ (claim : Claim). asks_labeller claim ≡ false) is.claim none);
+    no_adversary =
+        λ none. sometimes_adversary is.value proof.adversary (λ row among. ((is.adversary.each row).0 among).0)
         (subst (λ (claim : Claim). asks_adversary claim ≡ false) is.claim none);
   }

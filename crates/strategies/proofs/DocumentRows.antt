@@ -23,24 +23,29 @@ each_number P (suc count) some =
     let size : length rest.0 ≡ count = rest.1 in
     (first.0 ∷ rest.0, omega arith, front first.0 first.1 rest.0 rest.2)
   where
-    front : (first : ℕ) → P 0 first → (ns : List ℕ) → ((k : ℕ) → k < count → P (suc k) (slice_index ns k)) → (k : ℕ) → k < suc count → P k (slice_index (first ∷ ns) k)
+    front : (first : ℕ) → P 0 first → (ns : List ℕ) → ((k : ℕ) → k < count → P (suc k) (slice_index ns k)) → (k : ℕ)
+        → k < suc count → P k (slice_index (first ∷ ns) k)
     front first here ns others zero below = here
     front first here ns others (suc k) below = others k (omega arith)
 
 -- at a value of 1 or more a labeller answers one request
-pub answers_one : (board : PlainBoard) (configuration : List ℕ) (value : Value) → HasValue board configuration value → IsLess (Finite 0) value
+pub answers_one : (board : PlainBoard) (configuration : List ℕ) (value : Value) → HasValue board configuration value
+    → IsLess (Finite 0) value
     → LabellerTree board 1 configuration
-answers_one board configuration (Finite number) has some = lasts_at_most board configuration 1 number (omega (arith, some)) has.0
+answers_one board configuration (Finite number) has some =
+    lasts_at_most board configuration 1 number (omega (arith, some)) has.0
 answers_one board configuration Forever has some = has 1
 
 -- each configuration of value 1 or more that best answers lead to has a row
-pub answer_row_for : (board : PlainBoard) (start value : Value) (moves : List (ℕ × ℕ)) (to : List ℕ) → IsConfiguration board board.start
+pub answer_row_for : (board : PlainBoard) (start value : Value) (moves : List (ℕ × ℕ)) (to : List ℕ)
+    → IsConfiguration board board.start
     → LeadsBy (IsAnswerMove board) board.start moves to → HasValue board to value → IsLess (Finite 0) value
     → (row : AnswerRow) × IsLabellerRow board start row × (row.at ≡ to) × (row.turns ≡ turns_of start value)
 answer_row_for board start value moves to is leads has some =
     let lasts = answers_one board to value has some in
     let answers = each_number (IsBestAnswer board to) board.pebbles
-    (λ pebble below. let answer = lasts pebble below in best_answer board to pebble (answers_lead_to board board.start moves to is leads) answer.0 answer.1) in
+    (λ pebble below. let answer = lasts pebble below in
+    best_answer board to pebble (answers_lead_to board board.start moves to is leads) answer.0 answer.1) in
     let row : AnswerRow = record { at = to; turns = turns_of start value; answers = answers.0 } in
     let is_row : IsLabellerRow board start row = record {
       moves = moves;
@@ -55,7 +60,8 @@ answer_row_for board start value moves to is leads has some =
     (row, is_row, refl, refl)
 
 -- each configuration of a finite value that best requests lead to has a row
-pub request_row_for : (board : PlainBoard) (number : ℕ) (moves : List (ℕ × ℕ)) (to : List ℕ) → LeadsBy (IsRequestMove board) board.start moves to → HasValue board to (Finite number)
+pub request_row_for : (board : PlainBoard) (number : ℕ) (moves : List (ℕ × ℕ)) (to : List ℕ)
+    → LeadsBy (IsRequestMove board) board.start moves to → HasValue board to (Finite number)
     → (row : RequestRow) × IsAdversaryRow board row × (row.at ≡ to) × (row.left ≡ number)
 request_row_for board number moves to leads has =
     let best = best_request board number to has in

@@ -135,12 +135,14 @@ module _ (board : PlainBoard) (configuration : List ℕ) (pebble : ℕ) where
 -- ---- the best answers of the first gaps
 
 abbrev pub AreFirstBest : Numbered → List (Option Best) → Type 0
-AreFirstBest n answers = (gap : ℕ) → gap < length answers → IsGapBest (numbered_gap n gap) (slice_index_or answers gap None)
+AreFirstBest n answers =
+    (gap : ℕ) → gap < length answers → IsGapBest (numbered_gap n gap) (slice_index_or answers gap None)
 
 pub listed_more : (n : Numbered) (answers : List (Option Best)) (best : Option Best) → AreFirstBest n answers
     → IsGapBest (numbered_gap n (length answers)) best → AreFirstBest n (answers ++ best ∷ [])
 listed_more n answers best are is gap below = elim (cases_lt gap (length answers)) [
-  | inl early ↦ subst (IsGapBest (numbered_gap n gap)) (sym (get_or_append_left answers (best ∷ []) None gap early)) (are gap early)
+  | inl early ↦ subst (IsGapBest (numbered_gap n gap)) (sym (get_or_append_left answers (best ∷ []) None gap early))
+      (are gap early)
   | inr late ↦
       let last : length answers ≡ gap = omega (arith, late, below, length-append answers (best ∷ [])) in
       subst (λ (o : Option Best). IsGapBest (numbered_gap n gap) o) (sym (get_or_at answers best [] None gap last))

@@ -20,12 +20,14 @@ labellers board start is = record {
   reached = λ row rank is_row at. record {
     moves = is_row.moves;
     reached = subst (LeadsBy (IsAnswerMove board) board.start is_row.moves) at is_row.reached;
-    holds = subst (IsAnswerable board) at (record { value = is_row.value; has_value = is_row.has_value; some = is_row.some });
+    holds = subst (IsAnswerable board) at
+        (record { value = is_row.value; has_value = is_row.has_value; some = is_row.some });
   };
   one = one_answer_row board start;
 }
 
-pub adversarys : (board : PlainBoard) (start : Value) → IsConfiguration board board.start → AreOfReached board (adversary_side board start)
+pub adversarys : (board : PlainBoard) (start : Value) → IsConfiguration board board.start
+    → AreOfReached board (adversary_side board start)
 adversarys board start is = record {
   is_configuration = λ row is_row. requests_lead_to board board.start is_row.moves row.at is is_row.reached;
   reached = λ row rank is_row at. record {
@@ -41,7 +43,8 @@ pub no_request : (board : PlainBoard) (rank : ℕ) → HasValue board (configura
     → (row : RequestRow) → IsAdversaryRow board row → row.at ≡ configuration_at board rank → ⊥
 no_request board rank forever row is_row at =
     let value : Forever ≡ Finite row.left =
-    same_value board (configuration_at board rank) Forever (Finite row.left) forever (subst (λ (c : List ℕ). HasValue board c (Finite row.left)) at is_row.has_value) in
+    same_value board (configuration_at board rank) Forever (Finite row.left) forever
+    (subst (λ (c : List ℕ). HasValue board c (Finite row.left)) at is_row.has_value) in
     absurd cc
 
 module _ {R : Type 0} (board : PlainBoard) (side : Side R) (of_reached : AreOfReached board side) where
@@ -49,14 +52,17 @@ module _ {R : Type 0} (board : PlainBoard) (side : Side R) (of_reached : AreOfRe
   pub at_rank : (row : side.Row) (rank : ℕ) → side.IsRow row → rank_of board (side.at row) ≡ rank
       → side.at row ≡ configuration_at board rank
   at_rank row rank is_row same =
-      sym (configuration_at-rank_of board (side.at row) (of_reached.is_configuration row is_row)) ∙ ap (configuration_at board) same
+      sym (configuration_at-rank_of board (side.at row) (of_reached.is_configuration row is_row))
+      ∙ ap (configuration_at board) same
 
   -- the next rank has this row
   pub row_there : (rank : ℕ) (rows : List side.Row) (row : side.Row) → rank < configurations board
       → AreExactlyBelow board side.IsRow side.at rank rows
-      → side.IsRow row → side.at row ≡ configuration_at board rank → AreExactlyBelow board side.IsRow side.at (rank + 1) (rows ++ row ∷ [])
+      → side.IsRow row → side.at row ≡ configuration_at board rank
+      → AreExactlyBelow board side.IsRow side.at (rank + 1) (rows ++ row ∷ [])
   row_there rank rows row below before is_row here =
-      push_row board side.IsRow side.at rank rows row before is_row (ap (rank_of board) here ∙ rank_of-configuration_at board rank below)
+      push_row board side.IsRow side.at rank rows row before is_row
+      (ap (rank_of board) here ∙ rank_of-configuration_at board rank below)
       (λ other is_other same. of_reached.one row other is_row is_other (here ∙ sym (at_rank other rank is_other same)))
 
   -- the next rank has no row

@@ -13,9 +13,11 @@ use Rattle.positions.specs.Claim.{Holds, claim_of}
 use Rattle.positions.specs.Table.{AnswerRow, RequestRow}
 use Rattle.positions.proofs.Cited.{moved_is_configuration, some_value, same_value}
 use Rattle.proof_text.specs.Proof.{PlainProof}
-use Rattle.proof_text.specs.Rules.{IsEnough, one_less, IsListedFor, Serves, MeetsRequests, IsListedBelow, MeetsAnswers, wanted_of, StartIsBelow, BreaksNoRule}
+use Rattle.proof_text.specs.Rules.{IsEnough, one_less, IsListedFor, Serves, MeetsRequests, IsListedBelow, MeetsAnswers}
+use Rattle.proof_text.specs.Rules.{wanted_of, StartIsBelow, BreaksNoRule}
 use Rattle.strategies.specs.Best.{IsLess}
-use Rattle.strategies.specs.Document.{IsAnswerMove, IsRequestMove, LeadsBy, IsLabellerRow, IsAdversaryRow, AsksAdversary, IsDocumentOf, turns_of}
+use Rattle.strategies.specs.Document.{IsAnswerMove, IsRequestMove, LeadsBy, IsLabellerRow, IsAdversaryRow}
+use Rattle.strategies.specs.Document.{AsksAdversary, IsDocumentOf, turns_of}
 use Rattle.strategies.proofs.ValueOrder.{at_least, less_than_finite}
 use Rattle.strategies.proofs.BestAnswers.{lasts_after}
 use Rattle.strategies.proofs.ReachedByMoves.{one_more, answers_lead_to, stays_forever}
@@ -23,14 +25,16 @@ use Rattle.strategies.proofs.RowTurns.{Keeps, enough_left, enough_at_start}
 use Rattle.strategies.proofs.DocumentRows.{answer_row_for, request_row_for}
 
 -- if a tree for the first configuration leaves one less for the second, the value is at most one less there
-keeps : (board : PlainBoard) (from to : List ℕ) → ((number : ℕ) → LabellerTree board (suc number) from → LabellerTree board number to)
+keeps : (board : PlainBoard) (from to : List ℕ)
+    → ((number : ℕ) → LabellerTree board (suc number) from → LabellerTree board number to)
     → (value after : Value) → HasValue board from value → HasValue board to after → Keeps value after
 keeps board from to lasts (Finite zero) (Finite after) one other = omega arith
 keeps board from to lasts (Finite (suc value)) (Finite after) one other =
     let most : value ≤ after = at_least board value after to (lasts value one.0) other in omega arith
 keeps board from to lasts (Finite value) Forever one other = tt
 keeps board from to lasts Forever (Finite after) one other =
-    let most : suc after ≤ after = at_least board (suc after) after to (lasts (suc after) (one (suc (suc after)))) other in absurd (omega arith)
+    let most : suc after ≤ after =
+    at_least board (suc after) after to (lasts (suc after) (one (suc (suc after)))) other in absurd (omega arith)
 keeps board from to lasts Forever Forever one other = tt
 
 pub claims_what_holds : (board : PlainBoard) (proof : PlainProof) → IsDocumentOf board proof → Holds board proof.claim
@@ -40,13 +44,15 @@ claims_what_holds board proof is = subst (Holds board) (sym is.claim) (by is.val
     by (Finite number) has = has
     by Forever has = has
 
-module _ (board : PlainBoard) (proof : PlainProof) (is_start : IsConfiguration board board.start) (is : IsDocumentOf board proof) where
+module _ (board : PlainBoard) (proof : PlainProof) (is_start : IsConfiguration board board.start)
+    (is : IsDocumentOf board proof) where
   -- ---- the labeller's rows
 
   -- a configuration that best answers lead to is listed for the turns of its value
   listed : (moves : List (ℕ × ℕ)) (to : List ℕ) → LeadsBy (IsAnswerMove board) board.start moves to → (value : Value)
       → HasValue board to value
-      → (wanted : Turns) → IsLess (Finite 0) value × IsEnough wanted (turns_of is.value value) → IsListedFor proof.labeller to wanted
+      → (wanted : Turns) → IsLess (Finite 0) value × IsEnough wanted (turns_of is.value value)
+      → IsListedFor proof.labeller to wanted
   listed moves to leads value has wanted (some, enough) =
       let found = answer_row_for board is.value value moves to is_start leads has some in
       record {
@@ -71,7 +77,8 @@ module _ (board : PlainBoard) (proof : PlainProof) (is_start : IsConfiguration b
         best = best;
       }) in
       let still : Keeps is_row.value after.0 = keeps board row.at to
-      (λ number. lasts_after board number row.at pebble label below best) is_row.value after.0 is_row.has_value after.1 in
+      (λ number. lasts_after board number row.at pebble label below best) is_row.value after.0 is_row.has_value
+      after.1 in
       let stays : is.value ≡ Forever → after.0 ≡ Forever = λ same.
       same_value board to after.0 Forever after.1 (stays_forever board board.start _ to
       (subst (HasValue board board.start) same is.has_value) leads) in
@@ -88,7 +95,8 @@ module _ (board : PlainBoard) (proof : PlainProof) (is_start : IsConfiguration b
   -- ---- the adversary's rows
 
   -- a configuration that best requests lead to is listed with its value
-  listed_below : AsksAdversary is.value → (moves : List (ℕ × ℕ)) (to : List ℕ) → LeadsBy (IsRequestMove board) board.start moves to
+  listed_below : AsksAdversary is.value → (moves : List (ℕ × ℕ)) (to : List ℕ)
+      → LeadsBy (IsRequestMove board) board.start moves to
       → (number bound : ℕ)
       → HasValue board to (Finite number) → number < bound → IsListedBelow proof.adversary to bound
   listed_below asks moves to leads number bound has below =
@@ -100,7 +108,8 @@ module _ (board : PlainBoard) (proof : PlainProof) (is_start : IsConfiguration b
         below = omega (arith, found.3, below);
       }
 
-  meets_answers : (row : RequestRow) → AsksAdversary is.value → IsAdversaryRow board row → MeetsAnswers board proof.adversary row
+  meets_answers : (row : RequestRow) → AsksAdversary is.value → IsAdversaryRow board row
+      → MeetsAnswers board proof.adversary row
   meets_answers row asks is_row label legal =
       let to = moved row.at row.request label in
       let less = less_than_finite board row.left to row.at is_row.has_value (is_row.best.0.lowers label legal) in
@@ -113,13 +122,15 @@ module _ (board : PlainBoard) (proof : PlainProof) (is_start : IsConfiguration b
 
   start_below : (start : Value) → HasValue board board.start start → (AsksAdversary start → AsksAdversary is.value)
       → StartIsBelow proof.adversary board.start (claim_of start)
-  start_below (Finite number) has asks = listed_below (asks tt) [] board.start refl number (suc number) has (omega arith)
+  start_below (Finite number) has asks =
+      listed_below (asks tt) [] board.start refl number (suc number) has (omega arith)
   start_below Forever has asks = tt
 
   pub breaks_no_rule : BreaksNoRule board proof
   breaks_no_rule = record {
     start_serves = subst (λ (claim : Claim). Serves proof.labeller board.start (wanted_of claim)) (sym is.claim)
-        (λ wanted. listed [] board.start refl is.value is.has_value (wanted_of (claim_of is.value)) (enough_at_start is.value wanted));
+        (λ wanted. listed [] board.start refl is.value is.has_value (wanted_of (claim_of is.value))
+        (enough_at_start is.value wanted));
     start_below = subst (λ (claim : Claim). StartIsBelow proof.adversary board.start claim) (sym is.claim)
         (start_below is.value is.has_value (λ asks. asks));
     labeller = λ k d inside. meets (get_or proof.labeller k d)

@@ -9,7 +9,8 @@ use Rattle.positions.specs.Game.{Legal, LabellerTree, moved}
 use Rattle.positions.specs.Inside.Game.{HasAnswer}
 use Rattle.positions.specs.Table.{AnswerRow, RequestRow}
 use Rattle.strategies.specs.Best.{HasNoGreaterValue, IsBestAnswer}
-use Rattle.strategies.specs.Document.{IsAnswerMove, LeadsBy, IsLabellerRow, IsAdversaryRow, AsksAdversary, AreExactly, IsDocumentOf}
+use Rattle.strategies.specs.Document.{IsAnswerMove, LeadsBy, IsLabellerRow, IsAdversaryRow, AsksAdversary, AreExactly}
+use Rattle.strategies.specs.Document.{IsDocumentOf}
 use Rattle.strategies.specs.Example.{lone_board, lone_document}
 use Rattle.strategies.proofs.OneList.{one_answer_row}
 use Rattle.strategies.proofs.RowLists.{no_rows, one_row}
@@ -18,7 +19,8 @@ pub is_board : IsBoard lone_board
 is_board = record {
   labels = (omega arith, omega arith);
   pebbles = (omega arith, omega arith);
-  start = start_from_numbers lone_board (refl, All-cons (λ place. place < 2) 0 [] (omega arith) (All-nil (λ place. place < 2)));
+  start = start_from_numbers lone_board
+      (refl, All-cons (λ place. place < 2) 0 [] (omega arith) (All-nil (λ place. place < 2)));
   pairs = record {
     of_labels = λ k d inside. absurd (omega arith);
     ascending = λ i j d less inside. absurd (omega arith);
@@ -77,15 +79,19 @@ is_row = record {
 only_start : (moves : List (ℕ × ℕ)) (to : List ℕ) → LeadsBy (IsAnswerMove lone_board) start moves to → start ≡ to
 only_start [] to leads = leads
 only_start ((zero, label) ∷ moves) to leads =
-    only_start moves to (subst (λ (l : ℕ). LeadsBy (IsAnswerMove lone_board) (moved start 0 l) moves to) (only_label label leads.0.best.0.legal) leads.1)
+    only_start moves to (subst (λ (l : ℕ). LeadsBy (IsAnswerMove lone_board) (moved start 0 l) moves to)
+    (only_label label leads.0.best.0.legal) leads.1)
 only_start ((suc pebble, label) ∷ moves) to leads = absurd (omega (arith, leads.0.is_pebble))
 
-labeller_rows : AreExactly lone_board (IsLabellerRow lone_board Forever) (λ (row : AnswerRow). row.at) lone_document.labeller
+labeller_rows : AreExactly lone_board (IsLabellerRow lone_board Forever)
+    (λ (row : AnswerRow). row.at) lone_document.labeller
 labeller_rows = one_row lone_board (λ (row : AnswerRow). row.at) (IsLabellerRow lone_board Forever) answers is_row
     (λ row is. one_answer_row lone_board Forever answers row is_row is (only_start is.moves row.at is.reached))
 
-adversary_rows : AreExactly lone_board (λ (row : RequestRow). AsksAdversary Forever × IsAdversaryRow lone_board row) (λ (row : RequestRow). row.at) lone_document.adversary
+adversary_rows : AreExactly lone_board (λ (row : RequestRow). AsksAdversary Forever × IsAdversaryRow lone_board row)
+    (λ (row : RequestRow). row.at) lone_document.adversary
 adversary_rows = no_rows lone_board (λ (row : RequestRow). row.at) _ (λ row asked. asked.0)
 
 pub is_document : IsDocumentOf lone_board lone_document
-is_document = record { value = Forever; has_value = lasts; claim = refl; labeller = labeller_rows; adversary = adversary_rows }
+is_document =
+    record { value = Forever; has_value = lasts; claim = refl; labeller = labeller_rows; adversary = adversary_rows }

@@ -1,5 +1,6 @@
 -- One row of a document, as it is made.
-use Rattle.std.proofs.Common.{◌≡◌, ℕ, ◌+◌, ◌<◌, ◌≤◌, List, length, slice_index, slice_set, take, None, inl, inr, refl, sym, ◌∙◌, subst, arith}
+use Rattle.std.proofs.Common.{◌≡◌, ℕ, ◌+◌, ◌<◌, ◌≤◌, List, length, slice_index, slice_set, take, None, inl, inr, refl}
+use Rattle.std.proofs.Common.{sym, ◌∙◌, subst, arith}
 use Rattle.std.proofs.Math.ListN.{length-set}
 use Rattle.std.proofs.lemmas.Bool.{cases_eq}
 use Rattle.std.proofs.lemmas.List.{get_or-set_same, get_or-set_other, length-take-le, get_or-take}
@@ -22,8 +23,10 @@ pub record AreTaken (board : PlainBoard) (configuration : List ℕ) (bound : ℕ
   pub best : (pebble : ℕ) → pebble < bound → IsBestAnswer board configuration pebble (slice_index labels pebble)
   pub rest : (pebble : ℕ) → bound ≤ pebble → slice_index labels pebble ≡ 0
 
-pub taken_more : (board : PlainBoard) (configuration : List ℕ) (pebble label : ℕ) (labels : List ℕ) → pebble < MAX_PEBBLES → AreTaken board configuration pebble labels
-    → IsBestAnswer board configuration pebble label → AreTaken board configuration (pebble + 1) (slice_set labels pebble label)
+pub taken_more : (board : PlainBoard) (configuration : List ℕ) (pebble label : ℕ) (labels : List ℕ)
+    → pebble < MAX_PEBBLES → AreTaken board configuration pebble labels
+    → IsBestAnswer board configuration pebble label
+    → AreTaken board configuration (pebble + 1) (slice_set labels pebble label)
 taken_more board configuration pebble label labels low taken is = record {
   six = length-set labels pebble label ∙ taken.six;
   best = λ other below. elim (cases_eq other pebble) [
@@ -31,9 +34,11 @@ taken_more board configuration pebble label labels low taken is = record {
         let inside : pebble < length labels = omega (arith, taken.six) in
         subst (λ (p : ℕ). IsBestAnswer board configuration p (slice_index (slice_set labels pebble label) p)) (sym same)
         (subst (IsBestAnswer board configuration pebble) (sym (get_or-set_same labels pebble label 0 inside)) is)
-    | inr differ ↦ subst (IsBestAnswer board configuration other) (sym (get_or-set_other labels pebble other label 0 differ)) (taken.best other (omega (arith, differ)))
+    | inr differ ↦ subst (IsBestAnswer board configuration other)
+        (sym (get_or-set_other labels pebble other label 0 differ)) (taken.best other (omega (arith, differ)))
   ];
-  rest = λ other above. get_or-set_other labels pebble other label 0 (λ same. omega arith) ∙ taken.rest other (omega arith);
+  rest = λ other above. get_or-set_other labels pebble other label 0 (λ same. omega arith)
+      ∙ taken.rest other (omega arith);
 }
 
 -- a configuration of value 1 or more has an answer to each request
@@ -45,9 +50,12 @@ has_answer board rank pebble reached is_pebble none =
     none answer.0 answer.1
 
 -- the labeller's row of a configuration
-pub labeller_row_is : (board : PlainBoard) (start value : Value) (rank bound : ℕ) (labels : List ℕ) → IsBoard board → board.pebbles ≤ bound
-    → IsReachedByAnswers board rank → HasValue board (configuration_at board rank) value → AreTaken board (configuration_at board rank) bound labels
-    → IsLabellerRow board start (record { at = configuration_at board rank; turns = turns_of start value; answers = take board.pebbles labels })
+pub labeller_row_is : (board : PlainBoard) (start value : Value) (rank bound : ℕ) (labels : List ℕ) → IsBoard board
+    → board.pebbles ≤ bound
+    → IsReachedByAnswers board rank → HasValue board (configuration_at board rank) value
+    → AreTaken board (configuration_at board rank) bound labels
+    → IsLabellerRow board start
+    (record { at = configuration_at board rank; turns = turns_of start value; answers = take board.pebbles labels })
 labeller_row_is board start value rank bound labels is_board enough reached has taken =
     let c : List ℕ = configuration_at board rank in
     let same : reached.holds.value ≡ value = same_value board c reached.holds.value value reached.holds.has_value has in
@@ -61,5 +69,6 @@ labeller_row_is board start value rank bound labels is_board enough reached has 
       some = subst (IsLess (Finite 0)) same reached.holds.some;
       turns = refl;
       one_each = length-take-le board.pebbles labels room;
-      best = λ pebble below. subst (IsBestAnswer board c pebble) (sym (get_or-take board.pebbles labels pebble 0 below)) (taken.best pebble (omega (arith, below, enough)));
+      best = λ pebble below. subst (IsBestAnswer board c pebble) (sym (get_or-take board.pebbles labels pebble 0 below))
+          (taken.best pebble (omega (arith, below, enough)));
     }

@@ -1,5 +1,6 @@
 -- A board has one document at most, and that has one row at most for each configuration.
-use Rattle.std.proofs.Common.{◌≡◌, ℕ, zero, suc, ◌<◌, ◌↔◌, List, [], ◌∷◌, length, get_or, slice_index, refl, sym, ap, ◌∙◌, subst, arith}
+use Rattle.std.proofs.Common.{◌≡◌, ℕ, zero, suc, ◌<◌, ◌↔◌, List, [], ◌∷◌, length, get_or, slice_index, refl, sym, ap}
+use Rattle.std.proofs.Common.{◌∙◌, subst, arith}
 use Rattle.std.specs.List.{AllPairs, Contains}
 use Rattle.std.proofs.lemmas.List.{ext_get_or}
 use Rattle.std.proofs.lemmas.List.Elements.{Contains-append_right}
@@ -27,9 +28,11 @@ module _ {X : Type 0} (rank : X → ℕ) where
   pub tail_ascends : (first : X) (rows : List X) → IsAscending (first ∷ rows) → IsAscending rows
   tail_ascends first rows ascends i j d less inside = ascends (suc i) (suc j) d (omega arith) (omega arith)
 
-  pub behind_first : (first : X) (rows : List X) (row : X) → IsAscending (first ∷ rows) → Contains rows row → rank first < rank row
+  pub behind_first : (first : X) (rows : List X) (row : X) → IsAscending (first ∷ rows) → Contains rows row
+      → rank first < rank row
   behind_first first rows row ascends among =
-      let larger : rank first < rank (get_or rows among.0 row) = ascends 0 (suc among.0) row (omega arith) (let inside : among.0 < length rows = among.1 in omega arith) in
+      let larger : rank first < rank (get_or rows among.0 row) =
+      ascends 0 (suc among.0) row (omega arith) (let inside : among.0 < length rows = among.1 in omega arith) in
       subst (λ (r : X). rank first < rank r) among.2 larger
 
   in_first : (first : X) (rows : List X) → Contains (first ∷ rows) first
@@ -45,14 +48,19 @@ module _ {X : Type 0} (rank : X → ℕ) where
       let more : rank other < rank one = behind_first other others one also (at, omega arith, equal) in
       absurd (omega arith)
 
-  same_list : (ones others : List X) → IsAscending ones → IsAscending others → ((row : X) → Contains ones row ↔ Contains others row) → ones ≡ others
+  same_list : (ones others : List X) → IsAscending ones → IsAscending others
+      → ((row : X) → Contains ones row ↔ Contains others row) → ones ≡ others
   same_list [] [] ascends also same = refl
-  same_list [] (other ∷ others) ascends also same = let among = (same other).1 (in_first other others) in let inside : among.0 < 0 = among.1 in absurd (omega arith)
-  same_list (one ∷ ones) [] ascends also same = let among = (same one).0 (in_first one ones) in let inside : among.0 < 0 = among.1 in absurd (omega arith)
+  same_list [] (other ∷ others) ascends also same =
+      let among = (same other).1 (in_first other others) in let inside : among.0 < 0 = among.1 in absurd (omega arith)
+  same_list (one ∷ ones) [] ascends also same =
+      let among = (same one).0 (in_first one ones) in let inside : among.0 < 0 = among.1 in absurd (omega arith)
   same_list (one ∷ ones) (other ∷ others) ascends also same =
-      let equal : one ≡ other = same_first one other ones others ascends also ((same other).1 (in_first other others)) ((same one).0 (in_first one ones)) in
+      let equal : one ≡ other = same_first one other ones others ascends also ((same other).1 (in_first other others))
+      ((same one).0 (in_first one ones)) in
       let level : rank one ≡ rank other = ap rank equal in
-      let rest : ones ≡ others = same_list ones others (tail_ascends one ones ascends) (tail_ascends other others also) (λ row. (
+      let rest : ones ≡ others = same_list ones others (tail_ascends one ones ascends) (tail_ascends other others also)
+      (λ row. (
         λ among. let larger : rank one < rank row = behind_first one ones row ascends among in
             Contains-tail other others row (λ is. omega (arith, ap rank is))
             ((same row).0 (Contains-append_right (one ∷ []) ones row among)),
@@ -71,46 +79,66 @@ same_rows board IsRow at ones others exactly also =
       λ among. (exactly.each row).1 ((also.each row).0 among),
     ))
 
-pub one_document : (board : PlainBoard) (first second : PlainProof) → IsDocumentOf board first → IsDocumentOf board second → first ≡ second
+pub one_document : (board : PlainBoard) (first second : PlainProof) → IsDocumentOf board first
+    → IsDocumentOf board second → first ≡ second
 one_document board first second one other =
-    let value : other.value ≡ one.value = same_value board board.start other.value one.value other.has_value one.has_value in
+    let value : other.value ≡ one.value =
+    same_value board board.start other.value one.value other.has_value one.has_value in
     let claim : first.claim ≡ second.claim = one.claim ∙ sym (ap claim_of value) ∙ sym other.claim in
-    let labeller : first.labeller ≡ second.labeller = same_rows board (IsLabellerRow board one.value) (λ (row : AnswerRow). row.at) first.labeller second.labeller one.labeller
-    (subst (λ (v : Value). AreExactly board (IsLabellerRow board v) (λ (row : AnswerRow). row.at) second.labeller) value other.labeller) in
-    let adversary : first.adversary ≡ second.adversary = same_rows board (λ (row : RequestRow). AsksAdversary one.value × IsAdversaryRow board row) (λ (row : RequestRow). row.at) first.adversary second.adversary one.adversary
-    (subst (λ (v : Value). AreExactly board (λ (row : RequestRow). AsksAdversary v × IsAdversaryRow board row) (λ (row : RequestRow). row.at) second.adversary) value other.adversary) in
-    let same : ◌≡◌ {A = PlainProof} (record { claim = first.claim; labeller = first.labeller; adversary = first.adversary }) second = rw (claim, labeller, adversary) refl in
+    let labeller : first.labeller ≡ second.labeller =
+    same_rows board (IsLabellerRow board one.value)
+    (λ (row : AnswerRow). row.at) first.labeller second.labeller one.labeller
+    (subst (λ (v : Value). AreExactly board (IsLabellerRow board v)
+    (λ (row : AnswerRow). row.at) second.labeller) value other.labeller) in
+    let adversary : first.adversary ≡ second.adversary =
+    same_rows board (λ (row : RequestRow). AsksAdversary one.value × IsAdversaryRow board row)
+    (λ (row : RequestRow). row.at) first.adversary second.adversary one.adversary
+    (subst (λ (v : Value). AreExactly board (λ (row : RequestRow). AsksAdversary v × IsAdversaryRow board row)
+    (λ (row : RequestRow). row.at) second.adversary) value other.adversary) in
+    let same : ◌≡◌ {A = PlainProof}
+    (record { claim = first.claim; labeller = first.labeller; adversary = first.adversary }) second =
+    rw (claim, labeller, adversary) refl in
     same
 
 -- ---- one row for each configuration
 
-same_answers : (board : PlainBoard) (configuration ones others : List ℕ) → length ones ≡ board.pebbles → length others ≡ board.pebbles
+same_answers : (board : PlainBoard) (configuration ones others : List ℕ) → length ones ≡ board.pebbles
+    → length others ≡ board.pebbles
     → ((pebble : ℕ) → pebble < board.pebbles → IsBestAnswer board configuration pebble (slice_index ones pebble))
-    → ((pebble : ℕ) → pebble < board.pebbles → IsBestAnswer board configuration pebble (slice_index others pebble)) → ones ≡ others
+    → ((pebble : ℕ) → pebble < board.pebbles → IsBestAnswer board configuration pebble (slice_index others pebble))
+    → ones ≡ others
 same_answers board configuration ones others size long best also =
-    ext_get_or 0 ones others (size ∙ sym long) (λ k inside. same_answer board configuration k (slice_index ones k) (slice_index others k)
+    ext_get_or 0 ones others (size ∙ sym long)
+    (λ k inside. same_answer board configuration k (slice_index ones k) (slice_index others k)
     (best k (omega (arith, inside, size))) (also k (omega (arith, inside, size))))
 
-pub one_answer_row : (board : PlainBoard) (start : Value) (first second : AnswerRow) → IsLabellerRow board start first → IsLabellerRow board start second
+pub one_answer_row : (board : PlainBoard) (start : Value) (first second : AnswerRow) → IsLabellerRow board start first
+    → IsLabellerRow board start second
     → first.at ≡ second.at → first ≡ second
 one_answer_row board start first second one other at =
     let value : one.value ≡ other.value = same_value board second.at one.value other.value
     (subst (λ (c : List ℕ). HasValue board c one.value) at one.has_value) other.has_value in
     let turns : first.turns ≡ second.turns = one.turns ∙ ap (turns_of start) value ∙ sym other.turns in
-    let answers : first.answers ≡ second.answers = same_answers board second.at first.answers second.answers one.one_each other.one_each
-    (subst (λ (c : List ℕ). (pebble : ℕ) → pebble < board.pebbles → IsBestAnswer board c pebble (slice_index first.answers pebble)) at one.best) other.best in
-    let same : ◌≡◌ {A = AnswerRow} (record { at = first.at; turns = first.turns; answers = first.answers }) second = rw (at, turns, answers) refl in
+    let answers : first.answers ≡ second.answers =
+    same_answers board second.at first.answers second.answers one.one_each other.one_each
+    (subst (λ (c : List ℕ). (pebble : ℕ) → pebble < board.pebbles
+    → IsBestAnswer board c pebble (slice_index first.answers pebble)) at one.best) other.best in
+    let same : ◌≡◌ {A = AnswerRow} (record { at = first.at; turns = first.turns; answers = first.answers }) second =
+    rw (at, turns, answers) refl in
     same
 
 finite_is : (a b : ℕ) → Finite a ≡ Finite b → a ≡ b
 finite_is a b same = cc
 
-pub one_request_row : (board : PlainBoard) (first second : RequestRow) → IsAdversaryRow board first → IsAdversaryRow board second
+pub one_request_row : (board : PlainBoard) (first second : RequestRow) → IsAdversaryRow board first
+    → IsAdversaryRow board second
     → first.at ≡ second.at → first ≡ second
 one_request_row board first second one other at =
-    let left : first.left ≡ second.left = finite_is first.left second.left (same_value board second.at (Finite first.left) (Finite second.left)
+    let left : first.left ≡ second.left =
+    finite_is first.left second.left (same_value board second.at (Finite first.left) (Finite second.left)
     (subst (λ (c : List ℕ). HasValue board c (Finite first.left)) at one.has_value) other.has_value) in
     let request : first.request ≡ second.request = requests.same_request board second.at first.request second.request
     (subst (λ (c : List ℕ). IsBestRequest board c first.request) at one.best) other.best in
-    let same : ◌≡◌ {A = RequestRow} (record { at = first.at; left = first.left; request = first.request }) second = rw (at, left, request) refl in
+    let same : ◌≡◌ {A = RequestRow} (record { at = first.at; left = first.left; request = first.request }) second =
+    rw (at, left, request) refl in
     same

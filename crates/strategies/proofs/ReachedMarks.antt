@@ -1,5 +1,6 @@
 -- Marks of the ranks that were reached.
-use Rattle.std.proofs.Common.{◌≡◌, ◌≢◌, ℕ, ◌<◌, ◌≤◌, inl, inr, Bool, true, false, List, [], ◌∷◌, ◌++◌, length, slice_index_or, slice_set, sym, ◌∙◌, subst}
+use Rattle.std.proofs.Common.{◌≡◌, ◌≢◌, ℕ, ◌<◌, ◌≤◌, inl, inr, Bool, true, false, List, [], ◌∷◌, ◌++◌, length}
+use Rattle.std.proofs.Common.{slice_index_or, slice_set, sym, ◌∙◌, subst}
 use Rattle.std.specs.List.{Contains}
 use Rattle.std.proofs.lemmas.Bool.{both_ways, cases_lt, cases_eq}
 use Rattle.std.proofs.lemmas.List.{get_or-set_same, get_or-set_other, get_or_past}
@@ -19,7 +20,8 @@ mark_more marks ranks rank are inside unmarked = record {
       λ among. rw same (get_or-set_same marks rank true false inside),
     )
     | inr differ ↦ (
-      λ marked. Contains-append_left ranks (rank ∷ []) other ((are.marked other).0 (sym (get_or-set_other marks rank other true false differ) ∙ marked)),
+      λ marked. Contains-append_left ranks (rank ∷ []) other
+          ((are.marked other).0 (sym (get_or-set_other marks rank other true false differ) ∙ marked)),
       λ among. elim (Contains-push_cases ranks rank other among) [
         | inl old ↦ get_or-set_other marks rank other true false differ ∙ (are.marked other).1 old
         | inr last ↦ absurd (differ (sym last))
@@ -35,11 +37,13 @@ mark_more marks ranks rank are inside unmarked = record {
 pub few_ranks : (marks : List Bool) (ranks : List ℕ) → AreMarked marks ranks → length ranks ≤ length marks
 few_ranks marks ranks are = few_apart ranks (length marks) are.once (λ rank among. elim (cases_lt rank (length marks)) [
   | inl inside ↦ inside
-  | inr beyond ↦ absurd (both_ways (slice_index_or marks rank false) (get_or_past marks rank false beyond) ((are.marked rank).1 among))
+  | inr beyond ↦ absurd (both_ways (slice_index_or marks rank false) (get_or_past marks rank false beyond)
+      ((are.marked rank).1 among))
 ])
 
 -- the marked numbers, in ascending order, are the ranks in order
-pub ordered_marks : (marks : List Bool) (ranks numbers : List ℕ) → AreMarked marks ranks → AreMarkedNumbers marks numbers
+pub ordered_marks : (marks : List Bool) (ranks numbers : List ℕ) → AreMarked marks ranks
+    → AreMarkedNumbers marks numbers
     → AreInOrder ranks numbers
 ordered_marks marks ranks numbers are listed = record {
   each = λ rank. (

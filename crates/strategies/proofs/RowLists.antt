@@ -16,7 +16,8 @@ AreExactlyBelow board IsRow at bound = AreExactly board (λ row. IsRow row × (r
 
 module _ {X : Type 0} (board : PlainBoard) (at : X → List ℕ) where
   -- if two facts hold of the same rows, exactly these rows are listed for both
-  pub same_fact : (P Q : X → Type 0) (rows : List X) → ((row : X) → P row ↔ Q row) → AreExactly board P at rows → AreExactly board Q at rows
+  pub same_fact : (P Q : X → Type 0) (rows : List X) → ((row : X) → P row ↔ Q row) → AreExactly board P at rows
+      → AreExactly board Q at rows
   same_fact P Q rows same exactly = record {
     each = λ row. (λ among. (same row).0 ((exactly.each row).0 among), λ is. (exactly.each row).1 ((same row).1 is));
     ascending = exactly.ascending;
@@ -44,20 +45,30 @@ module _ {X : Type 0} (board : PlainBoard) (at : X → List ℕ) where
 module _ {X : Type 0} (board : PlainBoard) (IsRow : X → Type 0) (at : X → List ℕ) where
   -- ranks without a row are passed over
   pub pass_ranks : (bound next : ℕ) (rows : List X) → bound ≤ next → AreExactlyBelow board IsRow at bound rows
-      → ((row : X) → IsRow row → bound ≤ rank_of board (at row) → rank_of board (at row) < next → ⊥) → AreExactlyBelow board IsRow at next rows
+      → ((row : X) → IsRow row → bound ≤ rank_of board (at row) → rank_of board (at row) < next → ⊥)
+      → AreExactlyBelow board IsRow at next rows
   pass_ranks bound next rows more exactly none = same_fact board at _ _ rows (λ row. (
     λ is. (is.0, let below : rank_of board (at row) < bound = is.1 in omega arith),
-    λ is. (is.0, elim (cases_lt (rank_of board (at row)) bound) [ inl below ↦ below | inr above ↦ absurd (none row is.0 above is.1) ]),
+    λ is. (
+      is.0,
+      elim (cases_lt (rank_of board (at row)) bound) [
+        | inl below ↦ below
+        | inr above ↦
+            absurd (none row is.0 above is.1)
+      ],
+    ),
   )) exactly
 
   -- the only row of the next rank is appended
-  pub push_row : (bound : ℕ) (rows : List X) (row : X) → AreExactlyBelow board IsRow at bound rows → IsRow row → rank_of board (at row) ≡ bound
+  pub push_row : (bound : ℕ) (rows : List X) (row : X) → AreExactlyBelow board IsRow at bound rows → IsRow row
+      → rank_of board (at row) ≡ bound
       → ((other : X) → IsRow other → rank_of board (at other) ≡ bound → row ≡ other)
       → AreExactlyBelow board IsRow at (bound + 1) (rows ++ row ∷ [])
   push_row bound rows row exactly is_row rank only = record {
     each = λ other. (
       λ among. elim (Contains-push_cases rows row other among) [
-        | inl before ↦ let is = (exactly.each other).0 before in (is.0, let below : rank_of board (at other) < bound = is.1 in omega arith)
+        | inl before ↦ let is = (exactly.each other).0 before in
+            (is.0, let below : rank_of board (at other) < bound = is.1 in omega arith)
         | inr same ↦ subst (λ (r : X). IsRow r × (rank_of board (at r) < bound + 1)) same (is_row, omega (arith, rank))
       ],
       λ is. elim (cases_lt (rank_of board (at other)) bound) [
@@ -67,13 +78,16 @@ module _ {X : Type 0} (board : PlainBoard) (IsRow : X → Type 0) (at : X → Li
             subst (Contains (rows ++ row ∷ [])) (only other is.0 (omega arith)) (Contains-push rows row)
       ],
     );
-    ascending = all_pairs_push (λ first second. IsBefore board (at first) (at second)) rows row exactly.ascending (λ k d inside.
+    ascending = all_pairs_push (λ first second. IsBefore board (at first) (at second)) rows row exactly.ascending
+        (λ k d inside.
         let below : rank_of board (at (get_or rows k d)) < bound = ((exactly.each (get_or rows k d)).0
         (Contains-get_or rows k d inside)).1 in
         omega arith);
   }
 
   -- all ranks have been passed
-  pub all_rows : (bound : ℕ) (rows : List X) → AreExactlyBelow board IsRow at bound rows → ((row : X) → IsRow row → rank_of board (at row) < bound)
+  pub all_rows : (bound : ℕ) (rows : List X) → AreExactlyBelow board IsRow at bound rows
+      → ((row : X) → IsRow row → rank_of board (at row) < bound)
       → AreExactly board IsRow at rows
-  all_rows bound rows exactly below = same_fact board at _ IsRow rows (λ row. (λ is. is.0, λ is. (is, below row is))) exactly
+  all_rows bound rows exactly below =
+      same_fact board at _ IsRow rows (λ row. (λ is. is.0, λ is. (is, below row is))) exactly

@@ -15,11 +15,14 @@ Keeps Forever (Finite after) = ⊥
 Keeps Forever Forever = Unit {0}
 
 -- if turns are wanted after a request, the value there is 1 or more, and its row has enough turns
-pub enough_left : (start value after : Value) → (start ≡ Forever → after ≡ Forever) → Keeps value after → IsWanted (one_less (turns_of start value))
+pub enough_left : (start value after : Value) → (start ≡ Forever → after ≡ Forever) → Keeps value after
+    → IsWanted (one_less (turns_of start value))
     → IsLess (Finite 0) after × IsEnough (one_less (turns_of start value)) (turns_of start after)
 enough_left Forever value Forever stays keeps wanted = (tt, tt)
-enough_left Forever value (Finite after) stays keeps wanted = let same : Finite after ≡ Forever = stays refl in absurd cc
-enough_left (Finite number) (Finite value) (Finite after) stays keeps wanted = (omega (arith, keeps, wanted), omega (arith, keeps, wanted))
+enough_left Forever value (Finite after) stays keeps wanted =
+    let same : Finite after ≡ Forever = stays refl in absurd cc
+enough_left (Finite number) (Finite value) (Finite after) stays keeps wanted =
+    (omega (arith, keeps, wanted), omega (arith, keeps, wanted))
 enough_left (Finite number) (Finite value) Forever stays keeps wanted = (tt, omega arith)
 enough_left (Finite number) Forever (Finite after) stays keeps wanted = absurd keeps
 enough_left (Finite number) Forever Forever stays keeps wanted = (tt, omega arith)

@@ -1,5 +1,6 @@
 -- The document of the small board.
-use Rattle.std.proofs.Common.{◌≡◌, ℕ, zero, suc, ◌-◌, ◌<◌, ◌≤◌, List, [], ◌∷◌, slice_index, refl, sym, ap, ◌∙◌, subst, arith}
+use Rattle.std.proofs.Common.{◌≡◌, ℕ, zero, suc, ◌-◌, ◌<◌, ◌≤◌, List, [], ◌∷◌, slice_index, refl, sym, ap, ◌∙◌, subst}
+use Rattle.std.proofs.Common.{arith}
 use Rattle.std.specs.List.{Contains}
 use Rattle.std.proofs.lemmas.List.Elements.{All-cons, All-nil}
 use Rattle.std.proofs.lemmas.List.Kept.{AllPairs-cons}
@@ -12,7 +13,8 @@ use Rattle.positions.specs.Value.{HasValue}
 use Rattle.positions.specs.Table.{AnswerRow, RequestRow}
 use Rattle.proof_text.specs.Proof.{IsBefore}
 use Rattle.strategies.specs.Best.{HasSmallerValue, HasNoGreaterValue, IsBestAnswer, LowersValue, IsBestRequest}
-use Rattle.strategies.specs.Document.{IsAnswerable, IsAnswerMove, IsRequestMove, LeadsBy, IsLabellerRow, IsAdversaryRow, AsksAdversary, AreExactly, IsDocumentOf}
+use Rattle.strategies.specs.Document.{IsAnswerable, IsAnswerMove, IsRequestMove, LeadsBy, IsLabellerRow, IsAdversaryRow}
+use Rattle.strategies.specs.Document.{AsksAdversary, AreExactly, IsDocumentOf}
 use Rattle.strategies.specs.Example.{small_board, small_document}
 use Rattle.strategies.proofs.ValueOrder.{not_less}
 use Rattle.strategies.proofs.BestRequests as requests
@@ -47,13 +49,15 @@ is_board = record {
 abbrev another : ℕ → ℕ
 another pebble = 1 - pebble
 
-legal_is : (configuration : List ℕ) (pebble : ℕ) → slice_index configuration (another pebble) < 2 → (label : ℕ) → Legal small_board configuration pebble label
+legal_is : (configuration : List ℕ) (pebble : ℕ) → slice_index configuration (another pebble) < 2 → (label : ℕ)
+    → Legal small_board configuration pebble label
     → (label ≡ 1) × (slice_index configuration (another pebble) ≡ 0)
 legal_is configuration pebble held label legal =
     beats_is label (slice_index configuration (another pebble))
     (legal.dominates (another pebble) (omega arith) (λ same. omega (arith, same)) held)
 
-legal_from : (configuration : List ℕ) (pebble : ℕ) → pebble < 2 → slice_index configuration (another pebble) ≡ 0 → Legal small_board configuration pebble 1
+legal_from : (configuration : List ℕ) (pebble : ℕ) → pebble < 2 → slice_index configuration (another pebble) ≡ 0
+    → Legal small_board configuration pebble 1
 legal_from configuration pebble below free = record {
   is_label = omega arith;
   dominates = λ other within differs held.
@@ -71,8 +75,10 @@ abbrev after : ℕ → List ℕ
 after pebble = moved start pebble 1
 
 none_after : (pebble : ℕ) → pebble < 2 → (label : ℕ) → Legal small_board (after pebble) (another pebble) label → ⊥
-none_after zero below label legal = let taken : 1 ≡ 0 = (legal_is (1 ∷ 0 ∷ []) 1 (omega arith) label legal).1 in omega (arith, taken)
-none_after (suc zero) below label legal = let taken : 1 ≡ 0 = (legal_is (0 ∷ 1 ∷ []) 0 (omega arith) label legal).1 in omega (arith, taken)
+none_after zero below label legal =
+    let taken : 1 ≡ 0 = (legal_is (1 ∷ 0 ∷ []) 1 (omega arith) label legal).1 in omega (arith, taken)
+none_after (suc zero) below label legal =
+    let taken : 1 ≡ 0 = (legal_is (0 ∷ 1 ∷ []) 0 (omega arith) label legal).1 in omega (arith, taken)
 none_after (suc (suc pebble)) below label legal = omega arith
 
 after_value : (pebble : ℕ) → pebble < 2 → HasValue small_board (after pebble) (Finite 0)
@@ -93,7 +99,8 @@ start_value = (
     0,
     omega arith,
     λ label legal.
-        subst (λ (l : ℕ). AdversaryTree small_board 1 (moved start 0 l)) (sym (legal_is start 0 (start_held 0) label legal).0) (after_value 0 (omega arith)).1,
+        subst (λ (l : ℕ). AdversaryTree small_board 1 (moved start 0 l))
+        (sym (legal_is start 0 (start_held 0) label legal).0) (after_value 0 (omega arith)).1,
   ),
 )
 
@@ -104,8 +111,15 @@ best_answer pebble below = (
   record {
     legal = legal_from start pebble below (start_free (another pebble));
     greatest = λ other legal.
-        subst (λ (l : ℕ). HasNoGreaterValue small_board (moved start pebble l) (after pebble)) (sym (legal_is start pebble (start_held pebble) other legal).0)
-        (record { value = Finite 0; bound = Finite 0; of_first = after_value pebble below; of_second = after_value pebble below; not_greater = λ less. omega (arith, less) });
+        subst (λ (l : ℕ). HasNoGreaterValue small_board (moved start pebble l) (after pebble))
+        (sym (legal_is start pebble (start_held pebble) other legal).0)
+        (record {
+          value = Finite 0;
+          bound = Finite 0;
+          of_first = after_value pebble below;
+          of_second = after_value pebble below;
+          not_greater = λ less. omega (arith, less);
+        });
   },
   λ other best. omega (arith, (legal_is start pebble (start_held pebble) other best.legal).0),
 )
@@ -115,17 +129,28 @@ best_at_start = (
   record {
     is_pebble = omega arith;
     lowers = λ label legal.
-        subst (λ (l : ℕ). HasSmallerValue small_board (moved start 0 l) start) (sym (legal_is start 0 (start_held 0) label legal).0)
-        (record { smaller = Finite 0; greater = Finite 1; of_first = after_value 0 (omega arith); of_second = start_value; less = omega arith });
+        subst (λ (l : ℕ). HasSmallerValue small_board (moved start 0 l) start)
+        (sym (legal_is start 0 (start_held 0) label legal).0)
+        (record {
+          smaller = Finite 0;
+          greater = Finite 1;
+          of_first = after_value 0 (omega arith);
+          of_second = start_value;
+          less = omega arith;
+        });
   },
   λ other lowers. omega arith,
 )
 
 best_after : IsBestRequest small_board (after 0) 1
-best_after = (record { is_pebble = omega arith; lowers = λ label legal. absurd (none_after 0 (omega arith) label legal) }, smallest)
+best_after = (
+  record { is_pebble = omega arith; lowers = λ label legal. absurd (none_after 0 (omega arith) label legal) },
+  smallest,
+)
   where
     smallest : (other : ℕ) → LowersValue small_board (after 0) other → 1 ≤ other
-    smallest zero lowers = absurd (not_less small_board 0 (after 0) (after 0) tt (after_value 0 (omega arith)) (lowers.lowers 1 (legal_from (after 0) 0 (omega arith) refl)))
+    smallest zero lowers = absurd (not_less small_board 0 (after 0) (after 0) tt (after_value 0 (omega arith))
+        (lowers.lowers 1 (legal_from (after 0) 0 (omega arith) refl)))
     smallest (suc other) lowers = omega arith
 
 -- ---- the labeller's row
@@ -150,16 +175,21 @@ is_labeller_row = record {
     best (suc zero) below = best_answer 1 below
     best (suc (suc pebble)) below = absurd (omega arith)
 
-only_start : (moves : List (ℕ × ℕ)) (to : List ℕ) → LeadsBy (IsAnswerMove small_board) start moves to → IsAnswerable small_board to → start ≡ to
+only_start : (moves : List (ℕ × ℕ)) (to : List ℕ) → LeadsBy (IsAnswerMove small_board) start moves to
+    → IsAnswerable small_board to → start ≡ to
 only_start [] to leads some = leads
 only_start ((pebble, label) ∷ moves) to leads some =
-    let reached : IsAnswerable small_board (moved start pebble label) = start_answerable small_board (moved start pebble label) moves to leads.1 some in
+    let reached : IsAnswerable small_board (moved start pebble label) =
+    start_answerable small_board (moved start pebble label) moves to leads.1 some in
     absurd (not_answerable small_board (after pebble)
-    (subst (λ (l : ℕ). IsAnswerable small_board (moved start pebble l)) (legal_is start pebble (start_held pebble) label leads.0.best.0.legal).0 reached)
+    (subst (λ (l : ℕ). IsAnswerable small_board (moved start pebble l))
+    (legal_is start pebble (start_held pebble) label leads.0.best.0.legal).0 reached)
     (after_value pebble leads.0.is_pebble))
 
-labeller_rows : AreExactly small_board (IsLabellerRow small_board (Finite 1)) (λ (row : AnswerRow). row.at) small_document.labeller
-labeller_rows = one_row small_board (λ (row : AnswerRow). row.at) (IsLabellerRow small_board (Finite 1)) answers is_labeller_row
+labeller_rows : AreExactly small_board (IsLabellerRow small_board (Finite 1))
+    (λ (row : AnswerRow). row.at) small_document.labeller
+labeller_rows =
+    one_row small_board (λ (row : AnswerRow). row.at) (IsLabellerRow small_board (Finite 1)) answers is_labeller_row
     (λ row is. one_answer_row small_board (Finite 1) answers row is_labeller_row is
     (only_start is.moves row.at is.reached (record { value = is.value; has_value = is.has_value; some = is.some })))
 
@@ -183,16 +213,19 @@ is_second = record {
 }
 
 -- after the first move best requests lead nowhere else
-then_after : (moves : List (ℕ × ℕ)) (to : List ℕ) → LeadsBy (IsRequestMove small_board) (after 0) moves to → after 0 ≡ to
+then_after : (moves : List (ℕ × ℕ)) (to : List ℕ) → LeadsBy (IsRequestMove small_board) (after 0) moves to
+    → after 0 ≡ to
 then_after [] to leads = leads
 then_after ((pebble, label) ∷ moves) to leads =
     let asked : pebble ≡ 1 = requests.same_request small_board (after 0) pebble 1 leads.0.best best_after in
-    absurd (none_after 0 (omega arith) label (subst (λ (p : ℕ). Legal small_board (after 0) p label) asked leads.0.legal))
+    absurd (none_after 0 (omega arith) label
+    (subst (λ (p : ℕ). Legal small_board (after 0) p label) asked leads.0.legal))
 
 one_of_two : (row : RequestRow) → IsAdversaryRow small_board row → Contains small_document.adversary row
 one_of_two row is = by is.moves is.reached
   where
-    by : (moves : List (ℕ × ℕ)) → LeadsBy (IsRequestMove small_board) start moves row.at → Contains (first_request ∷ second_request ∷ []) row
+    by : (moves : List (ℕ × ℕ)) → LeadsBy (IsRequestMove small_board) start moves row.at
+        → Contains (first_request ∷ second_request ∷ []) row
     by [] leads = (0, omega arith, one_request_row small_board first_request row is_first is leads)
     by ((pebble, label) ∷ moves) leads =
         let asked : pebble ≡ 0 = requests.same_request small_board start pebble 0 leads.0.best best_at_start in
@@ -202,7 +235,9 @@ one_of_two row is = by is.moves is.reached
         (subst (λ (p : ℕ). LeadsBy (IsRequestMove small_board) (moved start p label) moves row.at) asked leads.1) in
         (1, omega arith, one_request_row small_board second_request row is_second is (then_after moves row.at rest))
 
-adversary_rows : AreExactly small_board (λ (row : RequestRow). AsksAdversary (Finite 1) × IsAdversaryRow small_board row) (λ (row : RequestRow). row.at) small_document.adversary
+adversary_rows : AreExactly small_board
+    (λ (row : RequestRow). AsksAdversary (Finite 1) × IsAdversaryRow small_board row)
+    (λ (row : RequestRow). row.at) small_document.adversary
 unfolding places
 adversary_rows = record {
   each = λ row. (λ among. (tt, either row among), λ is. one_of_two row is.1);
@@ -220,4 +255,10 @@ adversary_rows = record {
     either row (suc (suc place), inside, same) = absurd (omega arith)
 
 pub is_document : IsDocumentOf small_board small_document
-is_document = record { value = Finite 1; has_value = start_value; claim = refl; labeller = labeller_rows; adversary = adversary_rows }
+is_document = record {
+  value = Finite 1;
+  has_value = start_value;
+  claim = refl;
+  labeller = labeller_rows;
+  adversary = adversary_rows;
+}

@@ -32,8 +32,10 @@ module _ {R : Type 0} (board : PlainBoard) (side : Side R) (of_reached : AreOfRe
     | inr not ↦ inr (λ row is here. not ((are rank).1 (below, of_reached.reached row rank is here)))
   ]
 
-  rows_below : (bound : ℕ) → bound ≤ configurations board → (rows : List side.Row) × AreExactlyBelow board side.IsRow side.at bound rows
-  rows_below zero few = ([], no_rows board side.at _ (λ row is. let below : rank_of board (side.at row) < 0 = is.1 in omega arith))
+  rows_below : (bound : ℕ) → bound ≤ configurations board
+      → (rows : List side.Row) × AreExactlyBelow board side.IsRow side.at bound rows
+  rows_below zero few =
+      ([], no_rows board side.at _ (λ row is. let below : rank_of board (side.at row) < 0 = is.1 in omega arith))
   rows_below (suc bound) few =
       let before = rows_below bound (omega arith) in
       let next : bound + 1 ≡ suc bound = omega arith in
@@ -71,25 +73,30 @@ module _ (board : PlainBoard) (is : IsConfiguration board board.start) where
   adversary_stands : (start : Value) (rank : ℕ) → rank < configurations board → IsReachedByRequests board rank
       → StandsOrNot board (adversary_side board start) rank
   adversary_stands start rank below reached =
-      let value = some_value board (configuration_at board rank) (configuration_at_is board rank below) in by value.0 value.1
+      let value = some_value board (configuration_at board rank) (configuration_at_is board rank below) in
+      by value.0 value.1
     where
-      by : (value : Value) → HasValue board (configuration_at board rank) value → StandsOrNot board (adversary_side board start) rank
+      by : (value : Value) → HasValue board (configuration_at board rank) value
+          → StandsOrNot board (adversary_side board start) rank
       by (Finite number) has =
           let row = request_row_for board number reached.moves (configuration_at board rank) reached.reached has in
           inl (row.0, row.1, row.2)
       by Forever has = inr (no_request board rank has)
 
-  labeller_exists : (start : Value) → (rows : List AnswerRow) × AreExactly board (IsLabellerRow board start) (λ row. row.at) rows
+  labeller_exists : (start : Value)
+      → (rows : List AnswerRow) × AreExactly board (IsLabellerRow board start) (λ row. row.at) rows
   labeller_exists start =
       let ranks = answers_reach board is in
       rows_exist board (labeller_side board start) (labellers board start is) ranks.0 ranks.1 (labeller_stands start)
 
   adversary_exists : (start : Value)
-      → (rows : List RequestRow) × AreExactly board (λ row. AsksAdversary start × IsAdversaryRow board row) (λ row. row.at) rows
+      → (rows : List RequestRow)
+      × AreExactly board (λ row. AsksAdversary start × IsAdversaryRow board row) (λ row. row.at) rows
   adversary_exists Forever = ([], no_rows board (λ row. row.at) _ (λ row asked. asked.0))
   adversary_exists (Finite number) =
       let ranks = requests_reach board is in
-      let rows = rows_exist board (adversary_side board (Finite number)) (adversarys board (Finite number) is) ranks.0 ranks.1
+      let rows = rows_exist board (adversary_side board (Finite number))
+      (adversarys board (Finite number) is) ranks.0 ranks.1
       (adversary_stands (Finite number)) in
       (rows.0, same_fact board (λ row. row.at) _ _ rows.0 (λ row. (λ is_row. (tt, is_row), λ asked. asked.1)) rows.1)
 

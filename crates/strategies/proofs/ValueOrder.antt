@@ -16,7 +16,8 @@ pub at_least : (board : PlainBoard) (number depth : ℕ) (configuration : List �
     → LabellerTree board number configuration → HasValue board configuration (Finite depth) → number ≤ depth
 at_least board number depth configuration lasts has =
     elim (cases_lt depth number) [
-      | inl less ↦ absurd (not_both_trees board (suc depth) configuration (lasts_at_most board configuration (suc depth) number (omega arith) lasts) has.1)
+      | inl less ↦ absurd (not_both_trees board (suc depth) configuration
+          (lasts_at_most board configuration (suc depth) number (omega arith) lasts) has.1)
       | inr enough ↦ enough
     ]
 
@@ -27,10 +28,17 @@ less_from_tree board zero first second stops has = absurd stops
 less_from_tree board (suc number) first second stops has =
     let value = at_most_from_tree board number first stops in
     let bound : value.0 ≤ number = value.1 in
-    record { smaller = Finite value.0; greater = Finite (suc number); of_first = value.2; of_second = has; less = omega arith }
+    record {
+      smaller = Finite value.0;
+      greater = Finite (suc number);
+      of_first = value.2;
+      of_second = has;
+      less = omega arith;
+    }
 
 -- a configuration with a smaller value than a finite one has a finite value below that
-pub less_than_finite : (board : PlainBoard) (number : ℕ) (first second : List ℕ) → HasValue board second (Finite number) → HasSmallerValue board first second
+pub less_than_finite : (board : PlainBoard) (number : ℕ) (first second : List ℕ) → HasValue board second (Finite number)
+    → HasSmallerValue board first second
     → (depth : ℕ) × (depth < number) × HasValue board first (Finite depth)
 less_than_finite board number first second has less =
     let same = same_value board second less.greater (Finite number) less.of_second has in
@@ -55,7 +63,8 @@ pub lasts_too : (board : PlainBoard) (number : ℕ) (first second : List ℕ) �
     → LabellerTree board number first → LabellerTree board number second
 lasts_too board number first second most lasts = by most.value most.bound most.of_first most.of_second most.not_greater
   where
-    by : (value bound : Value) → HasValue board first value → HasValue board second bound → ¬ IsLess bound value → LabellerTree board number second
+    by : (value bound : Value) → HasValue board first value → HasValue board second bound → ¬ IsLess bound value
+        → LabellerTree board number second
     by value Forever one other not = other number
     by Forever (Finite bound) one other not = absurd (not tt)
     by (Finite value) (Finite bound) one other not =
@@ -68,7 +77,13 @@ lasts_too board number first second most lasts = by most.value most.bound most.o
 
 -- two values are in order or equal
 pub cases_value : (v w : Value) → IsLess v w ⊎ ((v ≡ w) ⊎ IsLess w v)
-cases_value (Finite m) (Finite n) = elim (cases_order m n) [ inl same ↦ inr (inl (ap Finite same)) | inr (inl less) ↦ inl less | inr (inr more) ↦ inr (inr more) ]
+cases_value (Finite m) (Finite n) =
+    elim (cases_order m n) [
+      | inl same ↦ inr (inl (ap Finite same))
+      | inr (inl less) ↦ inl less
+      | inr (inr more) ↦
+          inr (inr more)
+    ]
 cases_value (Finite m) Forever = inl tt
 cases_value Forever (Finite n) = inr (inr tt)
 cases_value Forever Forever = inr (inl refl)
@@ -89,7 +104,8 @@ not_above v w (inl same) less = IsLess-irrefl w (subst (λ (u : Value). IsLess u
 not_above v w (inr more) less = IsLess-irrefl v (IsLess-trans v w v less more)
 
 -- there is at most one smallest number of which P holds
-pub one_smallest : (P : ℕ → Type 0) (first second : ℕ) → IsSmallest P (Some first) → IsSmallest P (Some second) → first ≡ second
+pub one_smallest : (P : ℕ → Type 0) (first second : ℕ) → IsSmallest P (Some first) → IsSmallest P (Some second)
+    → first ≡ second
 one_smallest P first second one other = omega (arith, one.1 second other.0, other.1 first one.0)
 
 -- a configuration whose value is less than 1 isn't answerable

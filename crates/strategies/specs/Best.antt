@@ -30,14 +30,17 @@ pub record HasNoGreaterValue (board : PlainBoard) (first second : List ℕ) : Ty
   pub not_greater : ¬ IsLess bound value
 
 -- the label is legal for the pebble, and no legal label has a result of a greater value
-pub record HasGreatestResult (board : PlainBoard) (configuration : List ℕ) (pebble label : ℕ) : Type 0 where
+pub record HasGreatestResult (board : PlainBoard) (configuration : List ℕ)
+    (pebble label : ℕ) : Type 0 where
   pub legal : Legal board configuration pebble label
   pub greatest : (other : ℕ) → Legal board configuration pebble other
-      → HasNoGreaterValue board (moved configuration pebble other) (moved configuration pebble label)
+      → HasNoGreaterValue board (moved configuration pebble other)
+      (moved configuration pebble label)
 
 -- the smallest legal label whose result has the greatest value
 abbrev pub IsBestAnswer : PlainBoard → List ℕ → ℕ → ℕ → Type 0
-IsBestAnswer board configuration pebble label = IsSmallest (HasGreatestResult board configuration pebble) (Some label)
+IsBestAnswer board configuration pebble label =
+    IsSmallest (HasGreatestResult board configuration pebble) (Some label)
 
 -- the best answer to a request of the pebble; there is none exactly if no label is legal
 pub record IsBestAnswerIfAny (board : PlainBoard) (configuration : List ℕ) (pebble : ℕ)
@@ -48,11 +51,13 @@ pub record IsBestAnswerIfAny (board : PlainBoard) (configuration : List ℕ) (pe
 -- all legal results of a request of the pebble have a smaller value than the configuration
 pub record LowersValue (board : PlainBoard) (configuration : List ℕ) (pebble : ℕ) : Type 0 where
   pub is_pebble : pebble < board.pebbles
-  pub lowers : (label : ℕ) → Legal board configuration pebble label → HasSmallerValue board (moved configuration pebble label) configuration
+  pub lowers : (label : ℕ) → Legal board configuration pebble label
+      → HasSmallerValue board (moved configuration pebble label) configuration
 
 -- the smallest pebble all of whose legal results have a smaller value
 abbrev pub IsBestRequest : PlainBoard → List ℕ → ℕ → Type 0
-IsBestRequest board configuration pebble = IsSmallest (LowersValue board configuration) (Some pebble)
+IsBestRequest board configuration pebble =
+    IsSmallest (LowersValue board configuration) (Some pebble)
 
 -- the best request; there is none exactly if the value is forever
 pub record IsBestRequestIfAny (board : PlainBoard) (configuration : List ℕ) (request : Option ℕ)

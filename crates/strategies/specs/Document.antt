@@ -1,5 +1,6 @@
 -- The strategy document of a board: the value of the start, and the rows that show it.
-use Rattle.std.specs.Prelude.{◌≡◌, ℕ, ◌<◌, ◌↔◌, min, List, [], ◌∷◌, length, slice_index, AllPairs, Contains}
+use Rattle.std.specs.Prelude.{◌≡◌, ℕ, ◌<◌, ◌↔◌, min, List, [], ◌∷◌, length, slice_index, AllPairs}
+use Rattle.std.specs.Prelude.{Contains}
 use Rattle.board_text.specs.PlainBoard.{PlainBoard}
 use Rattle.positions.specs.declared.value.Value.{Value}
 use Rattle.positions.specs.declared.value.Value.TheVariants.{Finite, Forever}
@@ -19,20 +20,23 @@ pub record IsAnswerable (board : PlainBoard) (configuration : List ℕ) : Type 0
   pub some : IsLess (Finite 0) value
 
 -- the pebble is asked at a value of 1 or more, and the label is the best answer
-pub record IsAnswerMove (board : PlainBoard) (configuration : List ℕ) (pebble label : ℕ) : Type 0 where
+pub record IsAnswerMove (board : PlainBoard) (configuration : List ℕ)
+    (pebble label : ℕ) : Type 0 where
   pub is_pebble : pebble < board.pebbles
   pub answerable : IsAnswerable board configuration
   pub best : IsBestAnswer board configuration pebble label
 
 -- the pebble is the best request, and the label is a legal answer
-pub record IsRequestMove (board : PlainBoard) (configuration : List ℕ) (pebble label : ℕ) : Type 0 where
+pub record IsRequestMove (board : PlainBoard) (configuration : List ℕ)
+    (pebble label : ℕ) : Type 0 where
   pub best : IsBestRequest board configuration pebble
   pub legal : Legal board configuration pebble label
 
 -- these moves of pebbles to labels, each of the kind, lead from one configuration to another
 abbrev pub LeadsBy : (List ℕ → ℕ → ℕ → Type 0) → List ℕ → List (ℕ × ℕ) → List ℕ → Type 0
 LeadsBy IsMove from [] to = from ≡ to
-LeadsBy IsMove from ((pebble, label) ∷ moves) to = IsMove from pebble label × LeadsBy IsMove (moved from pebble label) moves to
+LeadsBy IsMove from ((pebble, label) ∷ moves) to =
+    IsMove from pebble label × LeadsBy IsMove (moved from pebble label) moves to
 
 -- the turns for which a configuration of the second value is listed, if the start has the first:
 -- always if the start lasts forever, and else the smaller of the two values
@@ -51,7 +55,8 @@ pub record IsLabellerRow (board : PlainBoard) (start : Value) (row : AnswerRow) 
   pub some : IsLess (Finite 0) value
   pub turns : row.turns ≡ turns_of start value
   pub one_each : length row.answers ≡ board.pebbles
-  pub best : (pebble : ℕ) → pebble < board.pebbles → IsBestAnswer board row.at pebble (slice_index row.answers pebble)
+  pub best : (pebble : ℕ) → pebble < board.pebbles
+      → IsBestAnswer board row.at pebble (slice_index row.answers pebble)
 
 -- a row that the document of a start with a finite value has for the adversary: a configuration
 -- that answers to best requests lead to from the start, its value, and the best request
@@ -67,7 +72,8 @@ AsksAdversary (Finite number) = Unit {0}
 AsksAdversary Forever = ⊥
 
 -- exactly these rows, in ascending order of the ranks of their configurations
-pub record AreExactly {X : Type 0} (board : PlainBoard) (IsRow : X → Type 0) (at : X → List ℕ) (rows : List X) : Type 0 where
+pub record AreExactly {X : Type 0} (board : PlainBoard) (IsRow : X → Type 0) (at : X → List ℕ)
+    (rows : List X) : Type 0 where
   pub each : (row : X) → Contains rows row ↔ IsRow row
   pub ascending : AllPairs (λ first second. IsBefore board (at first) (at second)) rows
 
@@ -77,4 +83,5 @@ pub record IsDocumentOf (board : PlainBoard) (proof : PlainProof) : Type 0 where
   pub has_value : HasValue board board.start value
   pub claim : proof.claim ≡ claim_of value
   pub labeller : AreExactly board (IsLabellerRow board value) (λ row. row.at) proof.labeller
-  pub adversary : AreExactly board (λ row. AsksAdversary value × IsAdversaryRow board row) (λ row. row.at) proof.adversary
+  pub adversary : AreExactly board (λ row. AsksAdversary value × IsAdversaryRow board row)
+      (λ row. row.at) proof.adversary

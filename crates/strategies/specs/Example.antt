@@ -14,7 +14,12 @@ abbrev pub small_document : PlainProof
 small_document = record {
   claim = Exactly 1;
   labeller = record { at = 0 ∷ 0 ∷ []; turns = Count 1; answers = 1 ∷ 1 ∷ [] } ∷ [];
-  adversary = record { at = 0 ∷ 0 ∷ []; left = 1; request = 0 } ∷ record { at = 1 ∷ 0 ∷ []; left = 0; request = 1 } ∷ [];
+  adversary =
+      record { at = 0 ∷ 0 ∷ []; left = 1; request = 0 } ∷ record {
+        at = 1 ∷ 0 ∷ [];
+        left = 0;
+        request = 1;
+      } ∷ [];
 }
 
 -- a lone pebble on the only label

@@ -24,10 +24,12 @@ impl BestMoves<'_> {
     /// The document of the board: the value of its start, a strategy for the labeller, and one for
     /// the adversary if the value is finite.
     pub fn document(&self, alloc: Global) -> Result<Proof, Memory>
-        ensures document { IfOk result (λ proof. IsDocumentOf self.now (plain_proof self.now proof)) }
+        ensures document { IfOk result
+            (λ proof. IsDocumentOf self.now (plain_proof self.now proof)) }
         ensures form { IfOk result (IsDocument self.now) }
         ensures rules { IfOk result (λ proof. BreaksNoRule self.now (plain_proof self.now proof)) }
-        ensures shows { IfOk result (λ proof. Shows self.now (answer_rows self.now proof.labeller.items)
+        ensures shows { IfOk result (λ proof. Shows self.now
+            (answer_rows self.now proof.labeller.items)
             (request_rows self.now proof.adversary.items) proof.claim) }
     {
         let best = GapBest::new(self.values().numbered());
@@ -107,7 +109,8 @@ pub fn document(alloc: Global, board: &Board, values: &Values) -> Result<Proof, 
     ensures document { IfOk result (λ proof. IsDocumentOf board.now (plain_proof board.now proof)) }
     ensures form { IfOk result (IsDocument board.now) }
     ensures rules { IfOk result (λ proof. BreaksNoRule board.now (plain_proof board.now proof)) }
-    ensures shows { IfOk result (λ proof. Shows board.now (answer_rows board.now proof.labeller.items)
+    ensures shows { IfOk result (λ proof. Shows board.now
+        (answer_rows board.now proof.labeller.items)
         (request_rows board.now proof.adversary.items) proof.claim) }
 {
     BestMoves::new(board, values).document(alloc)

@@ -17,17 +17,20 @@ use positions::MAX_CONFIGURATIONS;
 
 /// Each board has a document.
 pub fn each_board_has_a_document()
-    ensures { (board : PlainBoard) → IsConfiguration board board.start → (proof : PlainProof) × IsDocumentOf board proof }
+    ensures { (board : PlainBoard) → IsConfiguration board board.start
+        → (proof : PlainProof) × IsDocumentOf board proof }
 {}
 
 /// The claim of the document of a board holds.
 pub fn documents_claim_what_holds()
-    ensures { (board : PlainBoard) → (proof : PlainProof) → IsDocumentOf board proof → Holds board proof.claim }
+    ensures { (board : PlainBoard) → (proof : PlainProof) → IsDocumentOf board proof
+        → Holds board proof.claim }
 {}
 
 /// The rows of the document of a board show its claim.
 pub fn documents_show_their_claim()
-    ensures { (board : PlainBoard) → (proof : PlainProof) → IsConfiguration board board.start → IsDocumentOf board proof
+    ensures { (board : PlainBoard) → (proof : PlainProof) → IsConfiguration board board.start
+        → IsDocumentOf board proof
         → Shows board proof.labeller proof.adversary proof.claim }
 {}
 
@@ -40,25 +43,30 @@ pub fn documents_mean_their_value()
 
 /// The document of a board breaks no rule of checking.
 pub fn documents_break_no_rule()
-    ensures { (board : PlainBoard) → (proof : PlainProof) → IsConfiguration board board.start → IsDocumentOf board proof
+    ensures { (board : PlainBoard) → (proof : PlainProof) → IsConfiguration board board.start
+        → IsDocumentOf board proof
         → BreaksNoRule board proof }
 {}
 
 /// The document of a board with few configurations is one as the format has it.
 pub fn documents_have_their_form()
-    ensures { (board : PlainBoard) → (proof : PlainProof) → IsConfiguration board board.start → configurations board ≤ MAX_CONFIGURATIONS
+    ensures { (board : PlainBoard) → (proof : PlainProof) → IsConfiguration board board.start
+        → configurations board ≤ MAX_CONFIGURATIONS
         → IsDocumentOf board proof → IsProof board proof }
 {}
 
-/// A board has one document at most, and for each configuration there is one row at most that its
-/// document may have.
+/// A board has one document at most, and for each configuration there
+/// is one row at most that its document may have.
 pub fn one_document_of_a_board()
     ensures document { (board : PlainBoard) → (first : PlainProof) → (second : PlainProof)
         → IsDocumentOf board first → IsDocumentOf board second → first ≡ second }
-    ensures labeller { (board : PlainBoard) → (start : ValueData) → (first : AnswerRow) → (second : AnswerRow)
-        → IsLabellerRow board start first → IsLabellerRow board start second → first.at ≡ second.at → first ≡ second }
+    ensures labeller { (board : PlainBoard) → (start : ValueData) → (first : AnswerRow)
+        → (second : AnswerRow)
+        → IsLabellerRow board start first → IsLabellerRow board start second
+        → first.at ≡ second.at → first ≡ second }
     ensures adversary { (board : PlainBoard) → (first : RequestRow) → (second : RequestRow)
-        → IsAdversaryRow board first → IsAdversaryRow board second → first.at ≡ second.at → first ≡ second }
+        → IsAdversaryRow board first → IsAdversaryRow board second → first.at ≡ second.at
+        → first ≡ second }
 {}
 
 /// Documents in full: one of a start with a finite value, and one of a start that lasts forever.

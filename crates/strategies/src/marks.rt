@@ -1,6 +1,7 @@
 //! A set of numbers below a size, with a bit for each.
 
-ghost use Rattle.std.specs.Prelude.{◌≡◌, ◌+◌, ◌^◌, ◌<◌, ◌≤◌, true, false, length, IfOk, IfSome, replicate, slice_index_or, slice_set};
+ghost use Rattle.std.specs.Prelude.{◌≡◌, ◌+◌, ◌^◌, ◌<◌, ◌≤◌, true, false, length, IfOk, IfSome};
+ghost use Rattle.std.specs.Prelude.{replicate, slice_index_or, slice_set};
 ghost use Rattle.positions.specs.Counts.{IsSmallest};
 ghost use Rattle.strategies.specs.Inside.Marks.{AreMarkedNumbers};
 
@@ -57,7 +58,8 @@ impl Marks {
 
     /// The smallest marked number that is at least `bound`, if there is one.
     pub(crate) fn first_from(&self, bound: u32) -> Option<u32>
-        ensures first { IsSmallest (λ number. (bound ≤ number) × (slice_index_or self.now number false ≡ true)) result }
+        ensures first { IsSmallest (λ number. (bound ≤ number)
+            × (slice_index_or self.now number false ≡ true)) result }
         ensures below { IfSome result (λ number. number + 1 < 2 ^ 32) }
     {
         let size = self.size as usize;

@@ -3,7 +3,8 @@
 ghost use Rattle.std.specs.Prelude.{◌≡◌, ◌<◌, IfOk};
 ghost use Rattle.positions.specs.Gaps.{gap_of};
 ghost use Rattle.positions.specs.Ranks.{configurations};
-ghost use Rattle.strategies.specs.Inside.ReachedRanks.{AnswerLeads, RequestLeads, IsWithAll, AreExpanded, IsAnswerOf};
+ghost use Rattle.strategies.specs.Inside.ReachedRanks.{AnswerLeads, RequestLeads, IsWithAll};
+ghost use Rattle.strategies.specs.Inside.ReachedRanks.{AreExpanded, IsAnswerOf};
 
 use crate::best_moves::BestMoves;
 use crate::marks::Marks;
@@ -33,8 +34,8 @@ impl BestMoves<'_> {
         Ok(())
     }
 
-    /// Adds each result of the best request at the configuration of `rank`. The results of a gap
-    /// are added once.
+    /// Adds each result of the best request at the configuration of `rank`.
+    /// The results of a gap are added once.
     pub(crate) fn add_results(
         &self,
         rank: u32,

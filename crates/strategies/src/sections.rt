@@ -5,7 +5,8 @@ ghost use Rattle.board_text.specs.PlainBoard.{PlainBoard};
 ghost use Rattle.positions.specs.Ranks.{configurations};
 ghost use Rattle.positions.specs.declared.value.Value.{Value as ValueData};
 ghost use Rattle.strategies.specs.Document.{turns_of};
-ghost use Rattle.strategies.specs.Inside.Side.{Side, AreReached, AreSection, IsRowAt, adversary_side, labeller_side};
+ghost use Rattle.strategies.specs.Inside.Side.{Side, AreReached, AreSection, IsRowAt};
+ghost use Rattle.strategies.specs.Inside.Side.{adversary_side, labeller_side};
 
 use crate::best_moves::BestMoves;
 use crate::marks::Marks;
@@ -21,11 +22,12 @@ pub(crate) trait SectionRow: Copy {
 
     /// The configurations that a row may stand at.
     fn reached(moves: &BestMoves<'_>, alloc: Global) -> Result<Reached, Memory>
-        ensures reached { IfOk result (λ reached. (start : ValueData) → AreReached moves.now (side moves.now start) reached.ranks) }
+        ensures reached { IfOk result (λ reached. (start : ValueData)
+            → AreReached moves.now (side moves.now start) reached.ranks) }
         ensures few { configurations moves.now ≤ MAX_CONFIGURATIONS };
 
-    /// The row of the reached configuration of `rank`, if it has one. The start has the value
-    /// `start`.
+    /// The row of the reached configuration of `rank`,
+    /// if it has one. The start has the value `start`.
     fn at(moves: &BestMoves<'_>, start: Value, rank: u32) -> Option<Self>
         requires rank { rank < configurations moves.now }
         requires reached { (side moves.now start).IsReached rank }
@@ -35,8 +37,8 @@ pub(crate) trait SectionRow: Copy {
 impl SectionRow for LabellerRow {
     ghost side = { labeller_side };
 
-    /// The configurations of value 1 or more that best answers reach from the start, through such
-    /// configurations only.
+    /// The configurations of value 1 or more that best answers reach
+    /// from the start, through such configurations only.
     fn reached(moves: &BestMoves<'_>, alloc: Global) -> Result<Reached, Memory> {
         let mut reached = Reached::new(alloc, moves.space().configurations())?;
         let start = moves.start();
@@ -98,8 +100,8 @@ impl SectionRow for AdversaryRow {
     }
 }
 
-/// The turns for which a configuration with `value` is listed, if the start has the value
-/// `start`.
+/// The turns for which a configuration with `value` is listed,
+/// if the start has the value `start`.
 fn turns(start: Value, value: Value) -> Turns
     ensures { result ≡ turns_of start value }
 {

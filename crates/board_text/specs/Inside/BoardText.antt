@@ -6,4 +6,5 @@ use Rattle.board_text.specs.BoardText.{version_line, labels_line, pebbles_line, 
 -- the first four lines
 abbrev pub board_head : ℕ → ℕ → List ℕ → List ℕ
 board_head labels pebbles start =
-    version_line (version_of labels start) ++ (labels_line labels ++ (pebbles_line pebbles ++ start_line labels start))
+    version_line (version_of labels start)
+    ++ (labels_line labels ++ (pebbles_line pebbles ++ start_line labels start))

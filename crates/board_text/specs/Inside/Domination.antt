@@ -1,5 +1,6 @@
 -- Definitions for this crate's own functions, beside `Domination`.
-use Rattle.std.specs.Prelude.{◌≡◌, ℕ, zero, suc, ◌+◌, ◌*◌, ◌/◌, ◌%◌, ◌<◌, ◌≤◌, ◌==◌, ◌⊎◌, List, [], ◌∷◌, ◌++◌, Bool, true, false}
+use Rattle.std.specs.Prelude.{◌≡◌, ℕ, zero, suc, ◌+◌, ◌*◌, ◌/◌, ◌%◌, ◌<◌, ◌≤◌, ◌==◌, ◌⊎◌, List, []}
+use Rattle.std.specs.Prelude.{◌∷◌, ◌++◌, Bool, true, false}
 use Rattle.std.specs.Prelude.{if◌then◌else◌, length, slice_index}
 use Rattle.std.specs.Int.{bit_at}
 use Rattle.board_text.specs.Ranges.{InRange}
@@ -21,7 +22,8 @@ mark_of labels rows number = beats_in rows (number / labels) (number % labels)
 -- the pairs of the marked numbers below n
 unfoldable pub pairs_below : ℕ → (ℕ → Bool) → ℕ → List (ℕ × ℕ)
 pairs_below labels marks zero = []
-pairs_below labels marks (suc number) = pairs_below labels marks number ++ (if marks number then pair_at labels number ∷ [] else [])
+pairs_below labels marks (suc number) =
+    pairs_below labels marks number ++ (if marks number then pair_at labels number ∷ [] else [])
 
 -- the pairs that the rows have
 abbrev pub pairs_of : ℕ → List ℕ → List (ℕ × ℕ)
@@ -30,12 +32,14 @@ pairs_of labels rows = pairs_below labels (mark_of labels rows) (labels * labels
 -- the number after that of the last pair
 abbrev pub EndsAt : ℕ → List (ℕ × ℕ) → ℕ → Type 0
 EndsAt labels pairs next = ((pairs ≡ []) × (next ≡ 0))
-    ⊎ ((before : List (ℕ × ℕ)) × (last : ℕ × ℕ) × (pairs ≡ before ++ last ∷ []) × AreLabels labels last
+    ⊎ ((before : List (ℕ × ℕ)) × (last : ℕ × ℕ) × (pairs ≡ before ++ last ∷ [])
+    × AreLabels labels last
     × (next ≡ last.0 * labels + last.1 + 1))
 
 -- no pair from a number on is in the rows, and no bit that stands for no label is set
 abbrev pub ClearFrom : ℕ → List ℕ → ℕ → Type 0
-ClearFrom labels rows next = (x y : ℕ) → x < MAX_LABELS → y < labels → next ≤ x * labels + y → beats_in rows x y ≡ false
+ClearFrom labels rows next =
+    (x y : ℕ) → x < MAX_LABELS → y < labels → next ≤ x * labels + y → beats_in rows x y ≡ false
 
 -- four words for each label, and the least number that the next pair may have
 pub record AreBitRows (labels : ℕ) (rows : List ℕ) (next : ℕ) : Type 0 where
@@ -48,4 +52,5 @@ pub record AreBitRows (labels : ℕ) (rows : List ℕ) (next : ℕ) : Type 0 whe
 pub record SetsPair (labels : ℕ) (old new : List ℕ) (x y : ℕ) : Type 0 where
   pub size : length new ≡ length old
   pub here : beats_in new x y ≡ true
-  pub others : (i j : ℕ) → i < MAX_LABELS → ¬ ((i ≡ x) × (j ≡ y)) → beats_in new i j ≡ beats_in old i j
+  pub others : (i j : ℕ) → i < MAX_LABELS → ¬ ((i ≡ x) × (j ≡ y))
+      → beats_in new i j ≡ beats_in old i j

@@ -14,8 +14,8 @@ IsDueIn k rank = IsDue k.solving.game rank k.solving.rounds
 abbrev pub seat_id_of : Inside → SeatId
 seat_id_of s = record { table = s.seat.table_id; view = s.seat.me.0 }
 
--- there is room for the entries that may be won: for all configurations, or for all that may be
--- owed, which are few
+-- there is room for the entries that may be won: for all configurations,
+-- or for all that may be owed, which are few
 pub record SeatHasRoom (k : Key) (won owed todo room : ℕ) : Type 0 where
   pub places : (size k ≤ room) ⊎ (won + owed + most_members k * todo ≤ room)
   pub few : owed + most_members k * todo ≤ most_members k * size k
@@ -33,4 +33,5 @@ pub record IsSeated (s : Inside) : Type 0 where
   pub due : (c : ℕ) → 0 < times c s.seat.me.0.has.todo → IsDueIn s.seat.me.0.key c
   pub inside : (c : ℕ) → 0 < times c s.seat.me.0.has.owed → c < size s.seat.me.0.key
   pub room_owed : most_members s.seat.me.0.key ≤ deque_capacity s.owed
-  pub room : SeatHasRoom s.seat.me.0.key (length s.won.items) (length s.owed.items) (length s.todo.items) (vec_capacity s.won)
+  pub room : SeatHasRoom s.seat.me.0.key (length s.won.items) (length s.owed.items)
+      (length s.todo.items) (vec_capacity s.won)

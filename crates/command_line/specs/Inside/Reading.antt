@@ -24,7 +24,8 @@ abbrev pub has_number : List Row → Text → ℕ → Bool
 has_number rows id most = option_map_or (is_unsigned_in 1 most) (one_of id rows) false
 
 abbrev pub has_side : List Row → Text → Bool
-has_side rows id = option_map_or (λ t. list_any (λ word. bytes_eq word t) side_words) (first_of id rows) false
+has_side rows id =
+    option_map_or (λ t. list_any (λ word. bytes_eq word t) side_words) (first_of id rows) false
 
 abbrev pub most_of : ℤ → ℕ
 most_of (pos number) = number
@@ -55,7 +56,8 @@ has_values rows command = list_all (λ rule. has_value rows rule.id rule.action 
 
 -- the job that the command is asked for; none if the matches lack one of its values
 abbrev pub Reads : Shape → List Row → Option Job → Type 0
-Reads command rows job = MatchOption job (has_values rows command ≡ false) (AsksFor command.name rows)
+Reads command rows job =
+    MatchOption job (has_values rows command ≡ false) (AsksFor command.name rows)
 
 -- the matches are of one of these commands, and have its values
 abbrev pub is_among : List Shape → Option (Text × List Row) → Bool

@@ -1,5 +1,6 @@
 -- Definitions for this crate's own functions, beside `PlainParts`.
-use Rattle.std.specs.Prelude.{◌≡◌, ℕ, ◌^◌, ◌<◌, ◌≤◌, List, [], ◌∷◌, length, map, take, drop, slice_index_or}
+use Rattle.std.specs.Prelude.{◌≡◌, ℕ, ◌^◌, ◌<◌, ◌≤◌, List, [], ◌∷◌, length, map, take, drop}
+use Rattle.std.specs.Prelude.{slice_index_or}
 use Rattle.std.specs.List.{concat}
 use Rattle.index_lists.specs.Lists.{Lists, times, lists_of}
 use Rattle.index_lists.specs.Parts.{PlainParts}
@@ -25,7 +26,8 @@ pub record ArePlain (p : PlainParts) : Type 0 where
   pub short : length p.parts ≤ p.lists
 
 -- the parts are all nodes, of these lengths, and there is room for each node and each length
-pub record AreCut (node_count list_count node_room len_room : ℕ) (lens nodes : List ℕ) : Type 0 where
+pub record AreCut (node_count list_count node_room len_room : ℕ)
+    (lens nodes : List ℕ) : Type 0 where
   pub lens_are : map length (parts_of lens nodes) ≡ lens
   pub nodes_are : concat (parts_of lens nodes) ≡ nodes
   pub for_nodes : node_count ≤ node_room

@@ -7,11 +7,12 @@ use Rattle.nested_cycles.specs.Domination.{labels_of, NestedBeats}
 abbrev pub IsAmong : ℕ → ℕ → ℕ × ℕ → Type 0
 IsAmong labels places pair = pair.0 * labels + pair.1 < places
 
--- Among the first `places` pairs of labels, those of which the first dominates the second,
--- ascending.
+-- Among the first `places` pairs of labels, those of which
+-- the first dominates the second, ascending.
 pub record AreNestedPairs (levels places : ℕ) (pairs : List (ℕ × ℕ)) : Type 0 where
   pub ascending : AllPairs Precedes pairs
   pub only : All (λ pair. AreLabels (labels_of levels) pair × IsAmong (labels_of levels) places pair
       × NestedBeats levels pair.0 pair.1) pairs
-  pub all : (x y : ℕ) → AreLabels (labels_of levels) (x, y) → IsAmong (labels_of levels) places (x, y) → NestedBeats levels x y
+  pub all : (x y : ℕ) → AreLabels (labels_of levels) (x, y)
+      → IsAmong (labels_of levels) places (x, y) → NestedBeats levels x y
       → Contains pairs (x, y)

@@ -1,5 +1,6 @@
 -- The input that is read before the next line is known.
-use Rattle.std.specs.Prelude.{◌≡◌, ◌≢◌, ℕ, ◌<◌, ◌≤◌, ◌⊎◌, Bool, true, false, List, [], ◌++◌, length, Option, None, Some}
+use Rattle.std.specs.Prelude.{◌≡◌, ◌≢◌, ℕ, ◌<◌, ◌≤◌, ◌⊎◌, Bool, true, false, List, [], ◌++◌, length}
+use Rattle.std.specs.Prelude.{Option, None, Some}
 use Rattle.std.specs.Io.KnownBytes.{Consumes, IsAtEnd}
 use Rattle.board_text.specs.Streams.{GaveAll}
 use Rattle.board_text.specs.LineForms.{with_line_feed}
@@ -19,14 +20,16 @@ abbrev pub IsEmptyAtEnd : Unread → Option (List ℕ) → Type 0
 IsEmptyAtEnd unread left = unread.has_ended ≡ true → (unread.bytes ≡ []) × IsAtEnd left
 
 -- a line with its line feed was taken
-pub record IsClosedLine (old new : Unread) (left_old left_new : Option (List ℕ)) (line : List ℕ) : Type 0 where
+pub record IsClosedLine (old new : Unread) (left_old left_new : Option (List ℕ))
+    (line : List ℕ) : Type 0 where
   pub more : List ℕ
   pub read : Consumes left_old left_new more
   pub taken : old.bytes ++ more ≡ with_line_feed line ++ new.bytes
   pub goes_on : new.has_ended ≡ false
 
 -- all that was left was taken
-pub record IsLastLine (old new : Unread) (left_old left_new : Option (List ℕ)) (line : List ℕ) : Type 0 where
+pub record IsLastLine (old new : Unread) (left_old left_new : Option (List ℕ))
+    (line : List ℕ) : Type 0 where
   pub more : List ℕ
   pub read : GaveAll left_old left_new more
   pub taken : old.bytes ++ more ≡ line
@@ -36,23 +39,29 @@ pub record IsLastLine (old new : Unread) (left_old left_new : Option (List ℕ))
 -- the meaning of the next line, if there is one
 abbrev pub GivesLine : Unread → Unread → Option (List ℕ) → Option (List ℕ) → Option LineMeaning
     → Type 0
-GivesLine old new left_old left_new (Some meaning) = (line : List ℕ) × (old.has_ended ≡ false) × Spells line meaning × IsLine line
-    × (IsClosedLine old new left_old left_new line ⊎ (IsLastLine old new left_old left_new line × (line ≢ [])))
+GivesLine old new left_old left_new (Some meaning) =
+    (line : List ℕ) × (old.has_ended ≡ false) × Spells line meaning × IsLine line
+    × (IsClosedLine old new left_old left_new line
+    ⊎ (IsLastLine old new left_old left_new line × (line ≢ [])))
 GivesLine old new left_old left_new None = IsLastLine old new left_old left_new []
 
 -- why there is no next line
 abbrev pub GivesNoLine : Unread → Option (List ℕ) → Option (List ℕ) → PlayFault → Type 0
-GivesNoLine old left_old left_new Read = (more : List ℕ) × (old.has_ended ≡ false) × Consumes left_old left_new more
+GivesNoLine old left_old left_new Read =
+    (more : List ℕ) × (old.has_ended ≡ false) × Consumes left_old left_new more
     × IsLine (old.bytes ++ more)
-GivesNoLine old left_old left_new Limit = (more : List ℕ) × (old.has_ended ≡ false) × Consumes left_old left_new more
+GivesNoLine old left_old left_new Limit =
+    (more : List ℕ) × (old.has_ended ≡ false) × Consumes left_old left_new more
     × BeginsTooLong (old.bytes ++ more)
 GivesNoLine old left_old left_new fault = ⊥
 
 -- more bytes came, or the end was seen
 abbrev pub IsFilled : Unread → Unread → Option (List ℕ) → Option (List ℕ) → Bool → Type 0
 IsFilled old new left_old left_new true =
-    (more : List ℕ) × (new.bytes ≡ old.bytes ++ more) × Consumes left_old left_new more × (0 < length more) × (new.has_ended ≡ false)
-IsFilled old new left_old left_new false = (new.bytes ≡ old.bytes) × GaveAll left_old left_new [] × (new.has_ended ≡ true)
+    (more : List ℕ) × (new.bytes ≡ old.bytes ++ more) × Consumes left_old left_new more
+    × (0 < length more) × (new.has_ended ≡ false)
+IsFilled old new left_old left_new false =
+    (new.bytes ≡ old.bytes) × GaveAll left_old left_new [] × (new.has_ended ≡ true)
 
 -- a part of a buffer, from one place to another
 pub record IsPart (from to size : ℕ) : Type 0 where

@@ -21,21 +21,25 @@ IsLegalAt seat label = (pebble : ℕ) × IsBestRequest seat.board seat.at pebble
     × Legal seat.board seat.at pebble label
 
 -- the best request, and whether no label is legal for it
-pub record IsRequestAt (board : PlainBoard) (configuration : List ℕ) (request : Request) : Type 0 where
+pub record IsRequestAt (board : PlainBoard) (configuration : List ℕ)
+    (request : Request) : Type 0 where
   pub best : IsBestRequest board configuration request.pebble
-  pub stuck : request.is_stuck ≡ true → (label : ℕ) → Legal board configuration request.pebble label → ⊥
+  pub stuck : request.is_stuck ≡ true → (label : ℕ) → Legal board configuration request.pebble label
+      → ⊥
   pub free : request.is_stuck ≡ false → (label : ℕ) × Legal board configuration request.pebble label
 
 -- the text of a request after `requests` answered ones, and the next turn
 abbrev pub HasAsked : Request → ℕ → Next → List ℕ → Type 0
-HasAsked request requests (next.Asks pebble) said = (request.is_stuck ≡ false) × (pebble ≡ request.pebble)
+HasAsked request requests (next.Asks pebble) said =
+    (request.is_stuck ≡ false) × (pebble ≡ request.pebble)
     × (said ≡ ask_line request.pebble)
 HasAsked request requests (next.Ends end) said = (request.is_stuck ≡ true) × (end ≡ Stuck requests)
     × (said ≡ ask_line request.pebble ++ stuck_line request.pebble requests)
 
 -- the state of the play: at the configuration with the best request, or at its end
 abbrev pub IsStandingAfter : PlainBoard → List ℕ → ℕ → Next → Standing → Type 0
-IsStandingAfter board configuration requests (next.Asks pebble) to = IsBestRequest board configuration pebble
+IsStandingAfter board configuration requests (next.Asks pebble) to =
+    IsBestRequest board configuration pebble
     × (to ≡ Going configuration requests)
 IsStandingAfter board configuration requests (next.Ends end) to = to ≡ Over end
 

@@ -6,4 +6,5 @@ use Rattle.positions.specs.Game.{Legal, moved, LabellerTree}
 -- a request has a legal answer that a labeller's tree follows
 abbrev pub HasAnswer : PlainBoard → ℕ → List ℕ → ℕ → Type 0
 HasAnswer board depth configuration pebble =
-    (label : ℕ) × Legal board configuration pebble label × LabellerTree board depth (moved configuration pebble label)
+    (label : ℕ) × Legal board configuration pebble label
+    × LabellerTree board depth (moved configuration pebble label)

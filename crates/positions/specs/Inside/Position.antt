@@ -8,4 +8,5 @@ pub record HasPlaces (board space : PlainBoard) (rank : ℕ) (places : List ℕ)
   pub is_board : IsBoard board
   pub same_board : space ≡ board
   pub is_rank : rank < configurations board
-  pub each : (pebble : ℕ) → pebble < board.pebbles → slice_index places pebble ≡ slice_index (configuration_at board rank) pebble
+  pub each : (pebble : ℕ) → pebble < board.pebbles
+      → slice_index places pebble ≡ slice_index (configuration_at board rank) pebble

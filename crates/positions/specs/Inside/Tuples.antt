@@ -10,10 +10,11 @@ use Rattle.positions.specs.Gaps.{gaps_each}
 abbrev pub BeatsAll : PlainBoard → List ℕ → ℕ → Type 0
 BeatsAll board held label = (label < board.labels) × All (BeatsPlace board label) held
 
--- the bits of the word are those of 64 labels, from 64 times a number on, that dominate all these
--- places
+-- the bits of the word are those of 64 labels, from 64 times
+-- a number on, that dominate all these places
 abbrev pub AreBeating : PlainBoard → ℕ → List ℕ → ℕ → Type 0
-AreBeating board number held word = (bit : ℕ) → bit < 64 → (bit_at word bit ≡ 1) ↔ BeatsAll board held (64 * number + bit)
+AreBeating board number held word =
+    (bit : ℕ) → bit < 64 → (bit_at word bit ≡ 1) ↔ BeatsAll board held (64 * number + bit)
 
 -- the first words are those of tuples of `count` places, in order
 abbrev pub AreTupleWords : PlainBoard → ℕ → ℕ → List ℕ → Type 0
@@ -28,8 +29,10 @@ pub record AreAllWords (board : PlainBoard) (number count : ℕ) (words : List �
 -- the words, or 0 if there is none, are those of all tuples of the pebbles but one
 abbrev pub IsColumn : PlainBoard → ℕ → List ℕ → Type 0
 IsColumn board number words = (tuple : ℕ) → tuple < gaps_each board
-    → AreBeating board number (digits_of (places board) (board.pebbles - 1) tuple) (slice_index_or words tuple 0)
+    → AreBeating board number (digits_of (places board) (board.pebbles - 1) tuple)
+    (slice_index_or words tuple 0)
 
 -- the four columns of the labels that a board may have
 abbrev pub AreColumns : PlainBoard → List (List ℕ) → Type 0
-AreColumns board columns = (number : ℕ) (d : List ℕ) → number < 4 → IsColumn board number (slice_index_or columns number d)
+AreColumns board columns =
+    (number : ℕ) (d : List ℕ) → number < 4 → IsColumn board number (slice_index_or columns number d)

@@ -22,12 +22,17 @@ pub record Checked : Type 0 where
 -- the board, and the document with this claim and these rows
 abbrev pub checked_document : PlainBoard → Claim → List LabellerRow → List AdversaryRow → Checked
 checked_document board claim labeller adversary =
-    let proof : PlainProof = record { claim = claim; labeller = answer_rows board labeller; adversary = request_rows board adversary } in
+    let proof : PlainProof = record {
+      claim = claim;
+      labeller = answer_rows board labeller;
+      adversary = request_rows board adversary;
+    } in
     record { board = board; proof = proof }
 
 -- each answer for a pebble of the board is a label
 abbrev pub GivesLabels : PlainBoard → LabellerRow → Type 0
-GivesLabels board row = (pebble : ℕ) → pebble < board.pebbles → slice_index row.take pebble < board.labels
+GivesLabels board row =
+    (pebble : ℕ) → pebble < board.pebbles → slice_index row.take pebble < board.labels
 
 -- a labeller's row is ready to be checked
 pub record IsAnswering (board : PlainBoard) (row : LabellerRow) : Type 0 where
@@ -42,7 +47,8 @@ pub record IsRequesting (board : PlainBoard) (row : AdversaryRow) : Type 0 where
   pub is_pebble : row.ask < board.pebbles
 
 -- rows in ascending order, each ready to be checked
-pub record AreReady {R : Type 0} (board : PlainBoard) (IsReady : R → Type 0) (rank : R → ℕ) (rows : List R) : Type 0 where
+pub record AreReady {R : Type 0} (board : PlainBoard) (IsReady : R → Type 0) (rank : R → ℕ)
+    (rows : List R) : Type 0 where
   pub ranked : AreRanked rank (configurations board) rows
   pub each : All IsReady rows
 
@@ -55,13 +61,15 @@ abbrev pub AreRequesting : PlainBoard → List AdversaryRow → Type 0
 AreRequesting board rows = AreReady board (IsRequesting board) (λ row. row.at) rows
 
 -- the space is the board's, and the rows of both sides are ready to be checked
-pub record IsChecker (board space : PlainBoard) (labeller : List LabellerRow) (adversary : List AdversaryRow) : Type 0 where
+pub record IsChecker (board space : PlainBoard) (labeller : List LabellerRow)
+    (adversary : List AdversaryRow) : Type 0 where
   pub same_board : space ≡ board
   pub answering : AreAnswering board labeller
   pub requesting : AreRequesting board adversary
 
 -- the row is the only one for the configuration
-pub record IsRowFor {X : Type 0} (at : X → List ℕ) (rows : List X) (configuration : List ℕ) (row : X) : Type 0 where
+pub record IsRowFor {X : Type 0} (at : X → List ℕ) (rows : List X) (configuration : List ℕ)
+    (row : X) : Type 0 where
   pub among : Contains rows row
   pub at_is : at row ≡ configuration
   pub only : (other : X) → Contains rows other → at other ≡ configuration → other ≡ row
@@ -72,11 +80,15 @@ HoldsAtRank board rank P = (configuration : List ℕ) → IsConfiguration board 
     → rank ≡ rank_of board configuration → P configuration
 
 -- some turns are wanted, and the labeller's rows don't serve them
-abbrev pub IsUnservedFor : List AnswerRow → List ℕ → Turns → CheckFault → CheckFault → CheckFault → Type 0
+abbrev pub IsUnservedFor : List AnswerRow → List ℕ → Turns → CheckFault → CheckFault → CheckFault
+    → Type 0
 IsUnservedFor rows configuration wanted missing short fault =
-    IsWanted wanted × IsUnserved (HasRow (λ row. row.at) rows configuration) (IsListedFor rows configuration wanted) missing short fault
+    IsWanted wanted × IsUnserved (HasRow (λ row. row.at) rows configuration)
+    (IsListedFor rows configuration wanted) missing short fault
 
 -- the adversary's rows don't list the configuration with a number below the bound
-abbrev pub IsUnservedBelow : List RequestRow → List ℕ → ℕ → CheckFault → CheckFault → CheckFault → Type 0
+abbrev pub IsUnservedBelow : List RequestRow → List ℕ → ℕ → CheckFault → CheckFault → CheckFault
+    → Type 0
 IsUnservedBelow rows configuration bound missing large fault =
-    IsUnserved (HasRow (λ row. row.at) rows configuration) (IsListedBelow rows configuration bound) missing large fault
+    IsUnserved (HasRow (λ row. row.at) rows configuration)
+    (IsListedBelow rows configuration bound) missing large fault

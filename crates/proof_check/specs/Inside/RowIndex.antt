@@ -15,7 +15,8 @@ pub record AreRanked {X : Type 0} (rank : X → ℕ) (size : ℕ) (rows : List X
 
 -- at each row's rank is its number in the list, and elsewhere a number that no row has
 pub record IsIndex {X : Type 0} (rank : X → ℕ) (rows : List X) (numbers : List ℕ) : Type 0 where
-  pub each : (number : ℕ) (d : X) → number < length rows → (rank (slice_index_or rows number d) < length numbers)
+  pub each : (number : ℕ) (d : X) → number < length rows
+      → (rank (slice_index_or rows number d) < length numbers)
       × (slice_index numbers (rank (slice_index_or rows number d)) ≡ number)
   pub only : (at : ℕ) (d : X) → at < length numbers → slice_index numbers at < length rows
       → rank (slice_index_or rows (slice_index numbers at) d) ≡ at

@@ -1,5 +1,6 @@
 -- The form of one side's rows, and the results of writing and of reading them.
-use Rattle.std.specs.Prelude.{◌≡◌, ℕ, ◌<◌, ◌≤◌, Bool, false, if◌then◌else◌, List, [], ◌++◌, length, Result, Ok, Err, codes}
+use Rattle.std.specs.Prelude.{◌≡◌, ℕ, ◌<◌, ◌≤◌, Bool, false, if◌then◌else◌, List, [], ◌++◌, length}
+use Rattle.std.specs.Prelude.{Result, Ok, Err, codes}
 use Rattle.std.specs.List.{flat_map}
 use Rattle.board_text.specs.LineForms.{number_line}
 use Rattle.board_text.specs.PlainBoard.{PlainBoard}
@@ -10,7 +11,8 @@ use Rattle.proof_text.specs.declared.fault.ProofKind.{ProofKind}
 use Rattle.proof_text.specs.declared.fault.ProofKind.TheVariants as kinds
 use Rattle.proof_text.specs.declared.proof.LabellerRow.{LabellerRow}
 use Rattle.proof_text.specs.declared.proof.AdversaryRow.{AdversaryRow}
-use Rattle.proof_text.specs.Proof.{AreRows, IsAnswerRow, IsRequestRow, IsPadded, answer_row, request_row, asks_labeller, asks_adversary}
+use Rattle.proof_text.specs.Proof.{AreRows, IsAnswerRow, IsRequestRow, IsPadded, answer_row}
+use Rattle.proof_text.specs.Proof.{request_row, asks_labeller, asks_adversary}
 use Rattle.proof_text.specs.ProofText.{answer_line, request_line}
 use Rattle.proof_text.specs.ProofFaults.{AnswerMisread, RequestMisread, RowFault, InSection}
 
@@ -66,27 +68,35 @@ abbrev pub IsFrom : PlainBoard → ℕ → List ℕ → Type 0
 IsFrom board least at = least ≤ rank_of board at
 
 -- the fault of a row's line; its configuration must be one of `MayStand`
-abbrev pub LineFault : {R : Type 0} → PlainBoard → RowForm R → (List ℕ → Type 0) → List ℕ → ProofKind → Type 0
-LineFault {R} board form MayStand rest kind = RowFault form.IsRow (at_of board form) form.line form.Misread MayStand rest kind
+abbrev pub LineFault : {R : Type 0} → PlainBoard → RowForm R → (List ℕ → Type 0) → List ℕ
+    → ProofKind → Type 0
+LineFault {R} board form MayStand rest kind =
+    RowFault form.IsRow (at_of board form) form.line form.Misread MayStand rest kind
 
 -- The row of the next line, whose rank must be at least `least`, or the line's fault.
-abbrev pub NextRow : {R : Type 0} → PlainBoard → RowForm R → ℕ → Result R ProofKind → List ℕ → List ℕ → Type 0
+abbrev pub NextRow : {R : Type 0} → PlainBoard → RowForm R → ℕ → Result R ProofKind → List ℕ
+    → List ℕ → Type 0
 NextRow board form least (Ok row) old new =
-    form.IsRow row × (least ≤ form.rank row) × (form.rank row < configurations board) × (configurations board ≤ MAX_CONFIGURATIONS)
+    form.IsRow row × (least ≤ form.rank row) × (form.rank row < configurations board)
+    × (configurations board ≤ MAX_CONFIGURATIONS)
     × (old ≡ form.line row ++ new)
 NextRow board form least (Err kind) old new = LineFault board form (IsFrom board least) old kind
 
 -- the section's text, if there is one
 abbrev pub section_text : {R : Type 0} → RowForm R → List R → List ℕ
-section_text form rows = if form.asked then number_line form.word (length rows) ++ flat_map form.line rows else []
+section_text form rows =
+    if form.asked then number_line form.word (length rows) ++ flat_map form.line rows else []
 
 -- A section was taken, or none if the document has none.
-pub record PartRead {R : Type 0} (board : PlainBoard) (form : RowForm R) (rows : List R) (old new : List ℕ) : Type 0 where
+pub record PartRead {R : Type 0} (board : PlainBoard) (form : RowForm R) (rows : List R)
+    (old new : List ℕ) : Type 0 where
   pub are_rows : AreRows board form.IsRow (at_of board form) rows
   pub none : form.asked ≡ false → rows ≡ []
   pub spelled : old ≡ section_text form rows ++ new
 
 -- the fault of a section whose head should stand at the line `number`
-abbrev pub SectionFault : {R : Type 0} → PlainBoard → RowForm R → List ℕ → ℕ → ℕ → ProofKind → Type 0
+abbrev pub SectionFault : {R : Type 0} → PlainBoard → RowForm R → List ℕ → ℕ → ℕ → ProofKind
+    → Type 0
 SectionFault board form text number line kind =
-    InSection board form.IsRow (at_of board form) (number_line form.word) form.line (LineFault board form) text number line kind
+    InSection board form.IsRow (at_of board form) (number_line form.word) form.line
+    (LineFault board form) text number line kind

@@ -9,7 +9,8 @@ use Rattle.proof_text.specs.declared.fault.ProofKind.TheVariants as proof_kinds
 use Rattle.solver.specs.declared.fault.SolveFault.{SolveFault}
 use Rattle.solver.specs.declared.fault.SolveFault.TheVariants as solve_faults
 use Rattle.runs.specs.declared.fault.RunFault.{RunFault}
-use Rattle.runs.specs.declared.fault.RunFault.TheVariants.{Board, TooLarge, Proof, Memory, Worker, Read, Limit}
+use Rattle.runs.specs.declared.fault.RunFault.TheVariants.{Board, TooLarge, Proof, Memory, Worker}
+use Rattle.runs.specs.declared.fault.RunFault.TheVariants.{Read, Limit}
 
 -- of a text that wasn't read to its end
 abbrev pub fault_of_reading : ReadFault → RunFault
@@ -20,12 +21,14 @@ fault_of_reading read_faults.Limit = Limit
 -- of a text that is no board's: out of memory, or the text's own fault
 abbrev pub IsFaultOfBoard : BoardFault → RunFault → Type 0
 IsFaultOfBoard fault told =
-    ((fault.kind ≡ board_kinds.Memory) × (told ≡ Memory)) ⊎ ((fault.kind ≢ board_kinds.Memory) × (told ≡ Board fault))
+    ((fault.kind ≡ board_kinds.Memory) × (told ≡ Memory))
+    ⊎ ((fault.kind ≢ board_kinds.Memory) × (told ≡ Board fault))
 
 -- of a text that is no document's, in the same way
 abbrev pub IsFaultOfProof : ProofFault → RunFault → Type 0
 IsFaultOfProof fault told =
-    ((fault.kind ≡ proof_kinds.Memory) × (told ≡ Memory)) ⊎ ((fault.kind ≢ proof_kinds.Memory) × (told ≡ Proof fault))
+    ((fault.kind ≡ proof_kinds.Memory) × (told ≡ Memory))
+    ⊎ ((fault.kind ≢ proof_kinds.Memory) × (told ≡ Proof fault))
 
 -- of values that weren't found
 abbrev pub fault_of_solving : SolveFault → RunFault

@@ -9,7 +9,8 @@ use Rattle.solver.specs.Inside.Tables.{IsCounted, AreFirstWords}
 pub record AreZeroed (a : PlainGraph) (gap place : ℕ) (old new : List ℕ) : Type 0 where
   pub same_length : length new ≡ length old
   pub zeroed : (v : ℕ) → v < place → slice_index new (a.member gap v) ≡ 0
-  pub others : (x : ℕ) → (slice_index new x ≡ slice_index old x) ⊎ ((slice_index new x ≡ 0) × (is_member a gap x ≡ true))
+  pub others : (x : ℕ) → (slice_index new x ≡ slice_index old x)
+      ⊎ ((slice_index new x ≡ 0) × (is_member a gap x ≡ true))
 
 -- each configuration has its first word, and none is filed
 pub record IsUnlisted (s : PlainStage) : Type 0 where

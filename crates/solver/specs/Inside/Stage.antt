@@ -176,7 +176,8 @@ unfoldable pub HasSpaceBy : Numbering → PlainBoard → Option PlainBoard → T
 HasSpaceBy Ordered board space = (space ≡ Some board) × (configurations board ≤ MAX_CONFIGURATIONS)
 HasSpaceBy Classes board space = Unit {0}
 
--- numbers that are ranks have a space, each number has its weight, and there is room for the size of
+-- numbers that are ranks have a space, each number has its weight, and there is room for the size
+-- of
 -- each value
 pub record IsEquipped (n : Numbered) (space : Option PlainBoard) (weights sizes : List ℕ)
     (capacity : ℕ) : Type 0 where

@@ -31,7 +31,8 @@ weighed weights test count = sum_below count (λ x. cond (test x) (slice_index w
 
 -- each size is the sum of the weights of the first numbers whose word it is
 pub record AreSums (words weights : List ℕ) (count : ℕ) (sizes : List ℕ) : Type 0 where
-  pub each : (v : ℕ) → v < length sizes → slice_index sizes v ≡ weighed weights (λ x. slice_index words x == v) count
+  pub each : (v : ℕ) → v < length sizes
+      → slice_index sizes v ≡ weighed weights (λ x. slice_index words x == v) count
 
 -- all numbers are 0
 abbrev pub AreZeros : List ℕ → Type 0

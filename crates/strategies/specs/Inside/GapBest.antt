@@ -18,7 +18,8 @@ IsBestFor board configuration pebble None = (label : ℕ) → Legal board config
 
 -- the better of the best answer so far and a later one, which must lead to a greater value
 abbrev pub IsBetter : Option Best → Best → Best → Type 0
-IsBetter (Some first) later better = (IsLess first.value later.value → better ≡ later) × (¬ IsLess first.value later.value → better ≡ first)
+IsBetter (Some first) later better = (IsLess first.value later.value → better ≡ later)
+    × (¬ IsLess first.value later.value → better ≡ first)
 IsBetter None later better = better ≡ later
 
 -- it is the best answer to each request in the gap

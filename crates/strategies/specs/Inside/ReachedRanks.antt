@@ -1,5 +1,6 @@
 -- Steps from one configuration to another, by ranks, and the ranks reached from the start.
-use Rattle.std.specs.Prelude.{◌≡◌, ℕ, ◌<◌, ◌↔◌, ◌⊎◌, ◌++◌, ◌≢◌, Bool, true, false, List, [], ◌∷◌, Contains, AllPairs, length, slice_index_or}
+use Rattle.std.specs.Prelude.{◌≡◌, ℕ, ◌<◌, ◌↔◌, ◌⊎◌, ◌++◌, ◌≢◌, Bool, true, false, List, [], ◌∷◌}
+use Rattle.std.specs.Prelude.{Contains, AllPairs, length, slice_index_or}
 use Rattle.board_text.specs.PlainBoard.{PlainBoard}
 use Rattle.positions.specs.Game.{Legal, moved}
 use Rattle.positions.specs.Ranks.{configurations, rank_of, configuration_at}
@@ -7,8 +8,8 @@ use Rattle.positions.specs.Gaps.{gaps, member_of, IsAnswer}
 use Rattle.strategies.specs.Best.{IsBestAnswer, IsBestRequest}
 use Rattle.strategies.specs.Document.{IsAnswerable, IsAnswerMove, IsRequestMove, LeadsBy}
 
--- the best answer to a request of the pebble leads from one rank to the other, which has a value of
--- 1 or more
+-- the best answer to a request of the pebble leads from one rank
+-- to the other, which has a value of 1 or more
 pub record IsAnswerStep (board : PlainBoard) (from pebble to : ℕ) : Type 0 where
   pub is_pebble : pebble < board.pebbles
   pub label : ℕ
@@ -32,7 +33,8 @@ abbrev pub RequestLeads : PlainBoard → ℕ → ℕ → Type 0
 RequestLeads board from to = (label : ℕ) × IsRequestStep board from label to
 
 -- moves of the kind lead from the start to the configuration of the rank, which has the property
-pub record IsReachedBy (board : PlainBoard) (IsMove : List ℕ → ℕ → ℕ → Type 0) (Holds : List ℕ → Type 0) (rank : ℕ) : Type 0 where
+pub record IsReachedBy (board : PlainBoard) (IsMove : List ℕ → ℕ → ℕ → Type 0)
+    (Holds : List ℕ → Type 0) (rank : ℕ) : Type 0 where
   pub moves : List (ℕ × ℕ)
   pub reached : LeadsBy IsMove board.start moves (configuration_at board rank)
   pub holds : Holds (configuration_at board rank)
@@ -47,7 +49,8 @@ IsReachedByRequests board = IsReachedBy board (IsRequestMove board) (λ configur
 
 -- exactly the ranks of which the fact holds
 abbrev pub AreRanksOf : PlainBoard → (ℕ → Type 0) → List ℕ → Type 0
-AreRanksOf board P ranks = (rank : ℕ) → Contains ranks rank ↔ ((rank < configurations board) × P rank)
+AreRanksOf board P ranks =
+    (rank : ℕ) → Contains ranks rank ↔ ((rank < configurations board) × P rank)
 
 -- the ranks that were reached, in order, and the number of all ranks
 pub record ReachedRanks : Type 0 where
@@ -76,7 +79,8 @@ pub record IsWithAll (before : List ℕ) (P : ℕ → Type 0) (after : List ℕ)
 
 -- the label is an answer of the gap, and leads to the rank
 abbrev pub IsAnswerLeadingTo : PlainBoard → ℕ → ℕ → ℕ → Type 0
-IsAnswerLeadingTo board gap label rank = IsAnswer board gap label × (rank ≡ rank_of board (member_of board gap label))
+IsAnswerLeadingTo board gap label rank =
+    IsAnswer board gap label × (rank ≡ rank_of board (member_of board gap label))
 
 -- some answer of the gap leads to the rank
 abbrev pub IsAnswerOf : PlainBoard → ℕ → ℕ → Type 0
@@ -85,5 +89,6 @@ IsAnswerOf board gap rank = (label : ℕ) × IsAnswerLeadingTo board gap label r
 -- the results of all answers of each expanded gap are among the ranks
 pub record AreExpanded (board : PlainBoard) (expanded : List Bool) (ranks : List ℕ) : Type 0 where
   pub one_each : length expanded ≡ gaps board
-  pub there : (gap : ℕ) → gap < gaps board → slice_index_or expanded gap false ≡ true → (rank : ℕ) → IsAnswerOf board gap rank
+  pub there : (gap : ℕ) → gap < gaps board → slice_index_or expanded gap false ≡ true → (rank : ℕ)
+      → IsAnswerOf board gap rank
       → Contains ranks rank

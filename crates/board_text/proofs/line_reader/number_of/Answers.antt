@@ -23,7 +23,8 @@ returns-in_err-number c =
     let more = digits_value_more 10 c.args.digits.now c.loop-digit.digit-index c.loop-digit-test.true in
     let front = digits_value-take-le 10 c.args.digits.now (c.loop-digit.digit-index + 1) (omega arith) in
     let over = c.in_err-number.ensures in
-    rw c.from_residual-in_err-number.ensures (omega (arith, more, front, over, there, c.in_ok-checked_mul.ensures, c.loop-digit.invariant.so_far))
+    rw c.from_residual-in_err-number.ensures
+    (omega (arith, more, front, over, there, c.in_ok-checked_mul.ensures, c.loop-digit.invariant.so_far))
 
 pub loop-digit-preserved : goal.loop-digit-preserved
 loop-digit-preserved c =
@@ -31,10 +32,18 @@ loop-digit-preserved c =
     let more = digits_value_more 10 c.args.digits.now c.loop-digit.digit-index c.loop-digit-test.true in
     record {
       fits = omega (arith, c.in_ok-number.ensures);
-      so_far = omega (arith, more, there, c.in_ok-number.ensures, c.in_ok-checked_mul.ensures, c.loop-digit.invariant.so_far);
+      so_far = omega (
+        arith,
+        more,
+        there,
+        c.in_ok-number.ensures,
+        c.in_ok-checked_mul.ensures,
+        c.loop-digit.invariant.so_far,
+      );
     }
 
 pub returns : goal.returns
 returns c =
-    let whole = ap (digits_value 10) (take_all c.loop-digit.digit-index c.args.digits.now (omega (arith, c.loop-digit-test.false))) in
+    let whole = ap (digits_value 10)
+    (take_all c.loop-digit.digit-index c.args.digits.now (omega (arith, c.loop-digit-test.false))) in
     (c.loop-digit.invariant.fits, c.loop-digit.invariant.so_far ∙ whole)

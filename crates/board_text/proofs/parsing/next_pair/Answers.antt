@@ -8,4 +8,6 @@ pub returns-in-Some-pair_fault : goal.returns-in-Some-pair_fault
 returns-in-Some-pair_fault c =
     let are : AreLabels c.args.beats.now.labels (c.in-Some.x, c.in-Some.y) = search rules in
     let line : c.args.text.now ≡ beats_line (c.in-Some.x, c.in-Some.y) ++ c.take_pair.new.text = search rules in
-    misfit_fault c.args.beats.now.labels c.args.beats.now.pairs (c.in-Some.x, c.in-Some.y) c.args.text.now c.take_pair.new.text c.in-Some-pair_fault.kind are line c.in-Some-pair_fault.ensures
+    misfit_fault c.args.beats.now.labels c.args.beats.now.pairs
+    (c.in-Some.x, c.in-Some.y) c.args.text.now c.take_pair.new.text c.in-Some-pair_fault.kind are line
+    c.in-Some-pair_fault.ensures

@@ -1,7 +1,8 @@
 use Rattle.std.proofs.Common.{◌≡◌, ◌+◌, ◌∙◌, [], length, arith, refl}
 use Rattle.std.proofs.lemmas.Bool.{both_ways}
 use Rattle.std.proofs.lemmas.Result.{err_from_is_err_and}
-use Rattle.board_text.proofs.Faults.{head_taken, front_taken, FrontRead, text_read, has_pair_fault, has_trailing, is_found, start_kept}
+use Rattle.board_text.proofs.Faults.{head_taken, front_taken, FrontRead, text_read, has_pair_fault, has_trailing}
+use Rattle.board_text.proofs.Faults.{is_found, start_kept}
 use Rattle.board_text.specs.PlainBoard.{plain_board}
 use Rattle.board_text.proofs.Places.{board_from_parts}
 use Rattle.board_text.proofs.parsing.read.Goals as goal
@@ -9,7 +10,8 @@ use Rattle.board_text.proofs.parsing.read.Goals.{In-Some}
 
 -- the first four lines
 front : (c : In-Some)
-    → FrontRead c.in_ok-version.labels c.in_ok-version.pebbles c.take_start.new.start c.args.bytes.now c.take_start.new.text
+    → FrontRead c.in_ok-version.labels c.in_ok-version.pebbles c.take_start.new.start c.args.bytes.now
+    c.take_start.new.text
 front c =
     let h = rw c.new-text.ensures at c.in_ok-version.ensures in
     let room : length c.deref_mut.result.now ≡ c.in_ok-version.pebbles =
@@ -44,7 +46,8 @@ returns-in_err-last-clause-fault c =
 pub returns-then-not-is_empty-clause-fault : goal.returns-then-not-is_empty-clause-fault
 returns-then-not-is_empty-clause-fault c =
     let f = rw c.in_ok-beats.ensures.0 at c.in_ok-last.ensures.read in
-    let read = text_read (front (goal.at.returns-then-not-is_empty-clause-fault c).In-Some) _ c.read_pairs.new.text f.0 f.1 in
+    let read = text_read
+    (front (goal.at.returns-then-not-is_empty-clause-fault c).In-Some) _ c.read_pairs.new.text f.0 f.1 in
     rw c.at-then-not-is_empty.ensures (has_trailing _ _ (c.in_ok-last.last + 1) _ read.0 read.1
     (λ e. both_ways c.is_empty.result c.if-not-is_empty.true (c.is_empty.ensures.1 e)) (omega (arith, f.2)))
 

@@ -10,8 +10,10 @@ loop-filled-preserved g c =
     rw same (record {
       filled = c.in-Ok.ensures.fits;
       room = search (rules, places);
-      given = filled_on _ _ _ c.loop-filled.bytes.items c.make_room.new.bytes.items c.read_at.new.bytes c.loop-filled.filled c.in-Ok.count
-          c.make_room.ensures.front (rw c.as_mut_slice.ensures.value at c.in-Ok.ensures.front) i.given c.in-Ok.ensures.given;
+      given = filled_on _ _ _ c.loop-filled.bytes.items c.make_room.new.bytes.items c.read_at.new.bytes
+          c.loop-filled.filled c.in-Ok.count
+          c.make_room.ensures.front
+          (rw c.as_mut_slice.ensures.value at c.in-Ok.ensures.front) i.given c.in-Ok.ensures.given;
       unfailed = search rules;
       unended = c.in-Ok.ensures.ended.1 (omega (arith, c.in-Ok.count-test.1));
     })
@@ -21,12 +23,20 @@ returns-in-Ok-eq0-clause-ok g c =
     let i = c.loop-filled.invariant in
     let none = c.in-Ok-eq0.field-0-test in
     let same = with_items_is c.make_room.new.bytes c.read_at.new.bytes (search (rules, places)) in
-    let given = filled_on _ _ _ c.loop-filled.bytes.items c.make_room.new.bytes.items c.read_at.new.bytes c.loop-filled.filled c.in-Ok-eq0.field-0
-    c.make_room.ensures.front (rw c.as_mut_slice.ensures.value at c.in-Ok-eq0.ensures.front) i.given c.in-Ok-eq0.ensures.given in
+    let given = filled_on _ _ _ c.loop-filled.bytes.items c.make_room.new.bytes.items c.read_at.new.bytes
+    c.loop-filled.filled c.in-Ok-eq0.field-0
+    c.make_room.ensures.front
+    (rw c.as_mut_slice.ensures.value at c.in-Ok-eq0.ensures.front) i.given c.in-Ok-eq0.ensures.given in
     let whole : c.loop-filled.filled + c.in-Ok-eq0.field-0 ≡ c.loop-filled.filled = omega (arith, none) in
     (rw (rw same at c.truncate.ensures.items) (rw whole at given), c.in-Ok-eq0.ensures.end none)
 
 pub returns-clause-fault : goal.returns-clause-fault
 returns-clause-fault g c =
-    let i = c.loop-filled.invariant in
-    (i.unfailed, (take c.loop-filled.filled c.loop-filled.bytes.items, omega (arith, length-take-le c.loop-filled.filled c.loop-filled.bytes.items i.filled, c.loop-filled-test.false), i.given))
+    let i = c.loop-filled.invariant in (
+      i.unfailed,
+      (
+        take c.loop-filled.filled c.loop-filled.bytes.items,
+        omega (arith, length-take-le c.loop-filled.filled c.loop-filled.bytes.items i.filled, c.loop-filled-test.false),
+        i.given,
+      ),
+    )

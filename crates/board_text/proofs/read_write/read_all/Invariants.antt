@@ -6,7 +6,8 @@ abbrev pub invariant-loop-filled : goal.invariant-loop-filled
 invariant-loop-filled g l = record {
   filled : l.filled ≤ length l.bytes.items;
   room : length l.bytes.items ≤ l.limit + 1;
-  given : Consumes (g.S.Source.remaining l.initial.source) (g.S.Source.remaining l.source) (take l.filled l.bytes.items);
+  given : Consumes (g.S.Source.remaining l.initial.source) (g.S.Source.remaining l.source)
+      (take l.filled l.bytes.items);
   unfailed : g.S.Source.has_failed l.source ≡ false;
   unended : g.S.Source.has_ended l.source ≡ false;
 }

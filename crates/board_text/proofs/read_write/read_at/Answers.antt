@@ -8,4 +8,5 @@ returns-clause-front g c = take_put _ _ c.args.bytes.now _ (omega (arith, c.requ
 
 pub returns-clause-given : goal.returns-clause-given
 returns-clause-given g c =
-    read_in_place _ _ c.read.result _ c.read.new.into _ c.args.at (length-take-le _ c.args.bytes.now (omega (arith, c.requires.inside))) c.read.ensures.bound c.read.ensures.bytes
+    read_in_place _ _ c.read.result _ c.read.new.into _ c.args.at
+    (length-take-le _ c.args.bytes.now (omega (arith, c.requires.inside))) c.read.ensures.bound c.read.ensures.bytes

@@ -26,4 +26,5 @@ number-number-requires-clause-size c =
     omega (arith, size)
 
 pub number-number-requires-clause-is_class : goal.number-number-requires-clause-is_class
-number-number-requires-clause-is_class c = (held (goal.at.number-number-requires-clause-is_class c).After-as_slice-places).is_class
+number-number-requires-clause-is_class c =
+    (held (goal.at.number-number-requires-clause-is_class c).After-as_slice-places).is_class

@@ -7,7 +7,8 @@ use Rattle.clap.specs.declared.parser.matches.SubCommand.{SubCommand}
 use Rattle.command_line.proofs.ReadingLemmas.{halves}
 use Rattle.command_line.proofs.words.named.Goals as goal
 
-same_name : {Z : Type 0} (s : Option (Box SubCommand Z)) → option_map (λ b. (out-SubCommand (box_value b)).name.now) s ≡ option_map (λ p. p.0) (subcommand_rows s)
+same_name : {Z : Type 0} (s : Option (Box SubCommand Z))
+    → option_map (λ b. (out-SubCommand (box_value b)).name.now) s ≡ option_map (λ p. p.0) (subcommand_rows s)
 same_name None = refl
 same_name (Some b) = refl
 

@@ -7,4 +7,5 @@ use Rattle.nested_cycles.proofs.copies.has_word_in.Goals as goal
 pub returns : goal.returns
 returns c =
     some_is_in (λ word. word / c.args.size) c.args.digit c.args.words.now c.any.result
-    (any_from_yields_List (λ word. word / c.args.size == c.args.digit) _ _ _ c.any.ensures.ran (YieldsList-from_slice c.args.words.now cc) (λ x b q k. search (rules, tests)))
+    (any_from_yields_List (λ word. word / c.args.size == c.args.digit) _ _ _ c.any.ensures.ran
+    (YieldsList-from_slice c.args.words.now cc) (λ x b q k. search (rules, tests)))

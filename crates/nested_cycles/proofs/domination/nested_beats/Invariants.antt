@@ -8,5 +8,6 @@ abbrev pub invariant-loop : goal.invariant-loop
 invariant-loop l = record {
   small_a : l.a < 3 ^ (l.levels - l.counter);
   small_b : l.b < 3 ^ (l.levels - l.counter);
-  decided : WordDominates (word_of (l.levels - l.counter) l.a) (word_of (l.levels - l.counter) l.b) ↔ NestedBeats l.levels l.fn.a l.fn.b;
+  decided : WordDominates (word_of (l.levels - l.counter) l.a) (word_of (l.levels - l.counter) l.b)
+      ↔ NestedBeats l.levels l.fn.a l.fn.b;
 }

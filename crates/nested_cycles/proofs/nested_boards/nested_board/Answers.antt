@@ -13,15 +13,22 @@ pub returns-in-Ok : goal.returns-in-Ok
 returns-in-Ok c =
     let labels = c.pow-labels.result in
     let pairs = c.deref.result.now in
-    let parts = parts_from c.args.levels c.args.pebbles c.from.result c.from-2.result labels pairs c.in_ok-pairs.pairs.items c.requires.levels c.requires.pebbles c.from.ensures c.pow-labels.ensures c.from-2.ensures c.in_ok-pairs.ensures c.deref.ensures.value in
-    subst (λ (b : PlainBoard). IsNestedBoard c.args.levels c.args.pebbles b) (sym c.in-Ok.ensures.found.1) (is_nested c.args.levels c.args.pebbles labels (take c.from-2.result six_zeros) pairs parts)
+    let parts = parts_from c.args.levels c.args.pebbles c.from.result c.from-2.result labels pairs
+    c.in_ok-pairs.pairs.items c.requires.levels c.requires.pebbles c.from.ensures c.pow-labels.ensures
+    c.from-2.ensures c.in_ok-pairs.ensures c.deref.ensures.value in
+    subst (λ (b : PlainBoard). IsNestedBoard c.args.levels c.args.pebbles b) (sym c.in-Ok.ensures.found.1)
+    (is_nested c.args.levels c.args.pebbles labels (take c.from-2.result six_zeros) pairs parts)
 
 pub prove-unreachable-requires : goal.prove-unreachable-requires
 prove-unreachable-requires c =
     let labels = c.pow-labels.result in
     let pairs = c.deref.result.now in
-    let parts = parts_from c.args.levels c.args.pebbles c.from.result c.from-2.result labels pairs c.in_ok-pairs.pairs.items c.requires.levels c.requires.pebbles c.from.ensures c.pow-labels.ensures c.from-2.ensures c.in_ok-pairs.ensures c.deref.ensures.value in
+    let parts = parts_from c.args.levels c.args.pebbles c.from.result c.from-2.result labels pairs
+    c.in_ok-pairs.pairs.items c.requires.levels c.requires.pebbles c.from.ensures c.pow-labels.ensures
+    c.from-2.ensures c.in_ok-pairs.ensures c.deref.ensures.value in
     elim c.match-matches.branch [
       | in-Memory w ↦ absurd (false≢true (sym c.if-prove.true ∙ w.matches-is))
-      | in_default w ↦ w.in_default.not-Memory (c.in-Err.ensures.only (parts_are c.args.levels c.args.pebbles labels (take c.from-2.result six_zeros) pairs parts))
+      | in_default w ↦ w.in_default.not-Memory
+          (c.in-Err.ensures.only (parts_are c.args.levels c.args.pebbles labels
+          (take c.from-2.result six_zeros) pairs parts))
     ]

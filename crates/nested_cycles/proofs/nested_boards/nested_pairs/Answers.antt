@@ -11,7 +11,14 @@ loop-number-preserved c =
     let so_far = c.loop-number.invariant in
     elim c.if-nested_beats.branch [
       | then-nested_beats+in_ok-push w ↦
-          next_pair c.args.levels c.from-count.result c.loop-number.number c.from.result c.from-in-loop-number.result c.loop-number.pairs.items c.if-nested_beats.pairs.items count c.loop-number-test.true c.from.ensures c.from-in-loop-number.ensures so_far (c.nested_beats.ensures.0 w.if-nested_beats.true) (ap (λ (v : Vec (ℕ × ℕ) Global). v.items) w.pairs-is ∙ w.in_ok-push.ensures.items)
+          next_pair c.args.levels c.from-count.result c.loop-number.number c.from.result c.from-in-loop-number.result
+          c.loop-number.pairs.items c.if-nested_beats.pairs.items count c.loop-number-test.true c.from.ensures
+          c.from-in-loop-number.ensures so_far (c.nested_beats.ensures.0 w.if-nested_beats.true)
+          (ap (λ (v : Vec (ℕ × ℕ) Global). v.items) w.pairs-is ∙ w.in_ok-push.ensures.items)
       | else-nested_beats w ↦
-          no_pair c.args.levels c.from-count.result c.loop-number.number c.from.result c.from-in-loop-number.result c.loop-number.pairs.items c.if-nested_beats.pairs.items count c.loop-number-test.true c.from.ensures c.from-in-loop-number.ensures so_far (λ beats. absurd (false≢true (sym w.if-nested_beats.false ∙ c.nested_beats.ensures.1 beats))) (ap (λ (v : Vec (ℕ × ℕ) Global). v.items) w.pairs-is)
+          no_pair c.args.levels c.from-count.result c.loop-number.number c.from.result c.from-in-loop-number.result
+          c.loop-number.pairs.items c.if-nested_beats.pairs.items count c.loop-number-test.true c.from.ensures
+          c.from-in-loop-number.ensures so_far
+          (λ beats. absurd (false≢true (sym w.if-nested_beats.false ∙ c.nested_beats.ensures.1 beats)))
+          (ap (λ (v : Vec (ℕ × ℕ) Global). v.items) w.pairs-is)
     ]

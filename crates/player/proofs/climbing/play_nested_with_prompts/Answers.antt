@@ -24,7 +24,8 @@ returns-in_default-write_levels-clause-fault g c =
 
 pub returns-in_err-flush-clause-fault : goal.returns-in_err-flush-clause-fault
 returns-in_err-flush-clause-fault g c =
-    let text = opening_text c.args.levels c.in-Ok.play.nested _ _ _ c.new-text.ensures.bytes c.in-Ok.ensures.0 c.words.ensures.words c.in-Ok-write_levels.ensures in
+    let text = opening_text c.args.levels c.in-Ok.play.nested _ _ _ c.new-text.ensures.bytes c.in-Ok.ensures.0
+    c.words.ensures.words c.in-Ok-write_levels.ensures in
     let p = err_from_is_err_and c.from_residual.result c.from_residual.ensures.1 in
     rw (p.1, p.2, c.in_err-flush.ensures.fault.0) (unshown_opening (IsPlayed (PersonClimbs c.args.levels)) _ _
     (alone c.args.shows (PersonClimbs c.args.levels) (nested_opening_lines c.args.levels)
@@ -33,7 +34,8 @@ returns-in_err-flush-clause-fault g c =
 
 pub returns-clause-ok : goal.returns-clause-ok
 returns-clause-ok g c =
-    let text = opening_text c.args.levels c.in-Ok.play.nested _ _ _ c.new-text.ensures.bytes c.in-Ok.ensures.0 c.words.ensures.words c.in-Ok-write_levels.ensures in
+    let text = opening_text c.args.levels c.in-Ok.play.nested _ _ _ c.new-text.ensures.bytes c.in-Ok.ensures.0
+    c.words.ensures.words c.in-Ok-write_levels.ensures in
     let ended = rw c.in-Ok.ensures.0 at c.play_on.ensures.ok in
     IfOk-weaker c.play_on.result _ _ (λ end h. has_ended (AreResponses (PersonClimbs c.args.levels)
     (Going (replicate c.args.levels 0) 0)) (IsPlayed (PersonClimbs c.args.levels)) _
@@ -43,7 +45,8 @@ returns-clause-ok g c =
 
 pub returns-clause-fault : goal.returns-clause-fault
 returns-clause-fault g c =
-    let text = opening_text c.args.levels c.in-Ok.play.nested _ _ _ c.new-text.ensures.bytes c.in-Ok.ensures.0 c.words.ensures.words c.in-Ok-write_levels.ensures in
+    let text = opening_text c.args.levels c.in-Ok.play.nested _ _ _ c.new-text.ensures.bytes c.in-Ok.ensures.0
+    c.words.ensures.words c.in-Ok-write_levels.ensures in
     let broken = rw c.in-Ok.ensures.0 at c.play_on.ensures.fault in
     IfErr-weaker c.play_on.result _ _ (λ fault h. breaks_off (AreResponses (PersonClimbs c.args.levels)
     (Going (replicate c.args.levels 0) 0)) (IsPlayed (PersonClimbs c.args.levels)) _
@@ -52,11 +55,13 @@ returns-clause-fault g c =
     (subst (Appends _ _) text c.in_ok-flush.ensures.written) fault h) broken
 
 pub returns-clause-value : goal.returns-clause-value
-returns-clause-value g c = IfOk-weaker c.play_on.result _ _ (λ end. keeps_to_value (PersonClimbs c.args.levels) _ _ _ _ end) (returns-clause-ok g c)
+returns-clause-value g c = IfOk-weaker c.play_on.result _ _
+    (λ end. keeps_to_value (PersonClimbs c.args.levels) _ _ _ _ end) (returns-clause-ok g c)
 
 pub returns-clause-prompts : goal.returns-clause-prompts
 returns-clause-prompts g c =
-    let text = opening_text c.args.levels c.in-Ok.play.nested _ _ _ c.new-text.ensures.bytes c.in-Ok.ensures.0 c.words.ensures.words c.in-Ok-write_levels.ensures in
+    let text = opening_text c.args.levels c.in-Ok.play.nested _ _ _ c.new-text.ensures.bytes c.in-Ok.ensures.0
+    c.words.ensures.words c.in-Ok-write_levels.ensures in
     let told = rw c.in-Ok.ensures.0 at c.play_on.ensures.told in (
       told.0,
       prompted c.args.shows (PersonClimbs c.args.levels) (nested_opening_lines c.args.levels)
@@ -83,7 +88,8 @@ returns-in_default-write_levels-clause-prompts g c = (
 
 pub returns-in_err-flush-clause-prompts : goal.returns-in_err-flush-clause-prompts
 returns-in_err-flush-clause-prompts g c =
-    let text = opening_text c.args.levels c.in-Ok.play.nested _ _ _ c.new-text.ensures.bytes c.in-Ok.ensures.0 c.words.ensures.words c.in-Ok-write_levels.ensures in
+    let text = opening_text c.args.levels c.in-Ok.play.nested _ _ _ c.new-text.ensures.bytes c.in-Ok.ensures.0
+    c.words.ensures.words c.in-Ok-write_levels.ensures in
     let p = err_from_is_err_and c.from_residual.result c.from_residual.ensures.1 in (
       [],
       rw (p.1, p.2, c.in_err-flush.ensures.fault.0)

@@ -7,7 +7,8 @@ use Rattle.player.proofs.nested_writing.+write_digits.Goals as goal
 
 pub returns-then-count-eq0 : goal.returns-then-count-eq0
 returns-then-count-eq0 t c =
-    sym (append-nil (string_bytes c.args.text.now)) ∙ ap (λ l. string_bytes c.args.text.now ++ l) (sym (no_digits c.args.count c.args.number (omega arith)))
+    sym (append-nil (string_bytes c.args.text.now))
+    ∙ ap (λ l. string_bytes c.args.text.now ++ l) (sym (no_digits c.args.count c.args.number (omega arith)))
 
 pub pow-size-requires : goal.pow-size-requires
 pow-size-requires t c = words_fit _ (omega arith)
@@ -21,4 +22,6 @@ nonzero_rem-number t c = rw c.pow-size.ensures (one-le-pow (c.from.result - 1) 3
 pub returns : goal.returns
 returns t c =
     on_ok_weaker c.write_digits.result (λ others.
-    first_digit c.args.count (c.args.count - 1) c.args.number c.pow-size.result _ _ _ (omega arith) (c.pow-size.ensures ∙ ap (λ (n : ℕ). 3 ^ n) (omega arith)) c.in_ok-write.ensures.bytes others) c.write_digits.ensures
+    first_digit c.args.count (c.args.count - 1) c.args.number c.pow-size.result _ _ _ (omega arith)
+    (c.pow-size.ensures ∙ ap (λ (n : ℕ). 3 ^ n)
+    (omega arith)) c.in_ok-write.ensures.bytes others) c.write_digits.ensures

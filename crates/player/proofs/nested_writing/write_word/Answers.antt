@@ -8,4 +8,6 @@ returns-then-levels-eq1 c = rw (dot_text (c.args.levels - 1) c.args.word (omega 
 
 pub returns : goal.returns
 returns c =
-    on_ok_weaker c.write_digits.result (λ written. written ∙ ap (λ l. string_bytes c.args.text.now ++ l) (sym (some_text (c.args.levels - 1) (c.args.levels - 1 - 1) c.args.word (omega arith)))) c.write_digits.ensures
+    on_ok_weaker c.write_digits.result
+    (λ written. written ∙ ap (λ l. string_bytes c.args.text.now ++ l)
+    (sym (some_text (c.args.levels - 1) (c.args.levels - 1 - 1) c.args.word (omega arith)))) c.write_digits.ensures

@@ -49,7 +49,8 @@ returns-in_default-clause-ok g c =
     let gives = rw c.in_default.is at c.in_ok-meaning.ensures.line in
     stopped (AreResponses (g.P.Play.game c.args.play.now) (Going (g.P.Play.at c.args.play.now) 0)) _ _ _ _ _ i.said
     i.text _ _ i.brought i.written c.end_play.result
-    (all_came _ _ _ i.said _ _ (omega (arith, i.few, c.loop-test.true)) i.come gives) c.end_play.ensures.end c.end_play.ensures.written
+    (all_came _ _ _ i.said _ _ (omega
+    (arith, i.few, c.loop-test.true)) i.come gives) c.end_play.ensures.end c.end_play.ensures.written
 
 pub returns-in_default-clause-fault : goal.returns-in_default-clause-fault
 returns-in_default-clause-fault g c =
@@ -115,8 +116,17 @@ loop-preserved g c =
 
 pub returns-clause-fault : goal.returns-clause-fault
 returns-clause-fault g c =
-    let i = c.loop.invariant in
-    (i.said, c.loop.lines.bytes, i.text, _, _, came_of _ _ i.said c.loop.lines (omega (arith, i.few, c.loop.auto.counter-end)) i.come, inl (omega (arith, i.few, c.loop-test.false, c.loop.auto.counter-end)), i.brought, i.written)
+    let i = c.loop.invariant in (
+      i.said,
+      c.loop.lines.bytes,
+      i.text,
+      _,
+      _,
+      came_of _ _ i.said c.loop.lines (omega (arith, i.few, c.loop.auto.counter-end)) i.come,
+      inl (omega (arith, i.few, c.loop-test.false, c.loop.auto.counter-end)),
+      i.brought,
+      i.written,
+    )
 
 -- ---- what was told
 

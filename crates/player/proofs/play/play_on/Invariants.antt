@@ -13,7 +13,8 @@ invariant-loop g l = record {
   text : List ℕ;
   come : HasCome (g.R.Source.remaining l.initial.reader) (g.R.Source.remaining l.reader) said l.lines;
   few : length said ≡ l.counter;
-  brought : AreResponses (g.P.Play.game l.initial.play) (Going (g.P.Play.at l.initial.play) 0) said text (Going (g.P.Play.at l.play) (g.P.Play.requests l.play));
+  brought : AreResponses (g.P.Play.game l.initial.play) (Going (g.P.Play.at l.initial.play) 0) said text
+      (Going (g.P.Play.at l.play) (g.P.Play.requests l.play));
   written : Appends (g.W.Sink.contents l.initial.writer) (g.W.Sink.contents l.writer) text;
   same : g.P.Play.game l.play ≡ g.P.Play.game l.initial.play;
   requests : g.P.Play.requests l.play ≤ length said;

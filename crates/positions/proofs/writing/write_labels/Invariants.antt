@@ -4,4 +4,5 @@ use Rattle.positions.specs.Ranks.{configuration_at}
 use Rattle.positions.proofs.writing.write_labels.Given as goal
 
 abbrev pub invariant-loop-pebble : goal.invariant-loop-pebble
-invariant-loop-pebble l = string_bytes l.text ≡ string_bytes l.initial.text ++ spaced_places l.space.labels (take l.pebble (configuration_at l.space l.at))
+invariant-loop-pebble l = string_bytes l.text ≡ string_bytes l.initial.text
+    ++ spaced_places l.space.labels (take l.pebble (configuration_at l.space l.at))

@@ -3,7 +3,8 @@ use Rattle.proof_check.proofs.row_index.numbers_of.Goals as goal
 
 pub loop-number-init : goal.loop-number-init
 loop-number-init g c =
-    rw (c.in_ok-numbers.ensures.items_if_clones_equal (λ y e. e)) (index_start g.R.Ranked.rank c.args.rows.now c.args.size)
+    rw (c.in_ok-numbers.ensures.items_if_clones_equal (λ y e. e))
+    (index_start g.R.Ranked.rank c.args.rows.now c.args.size)
 
 pub loop-number-preserved : goal.loop-number-preserved
 loop-number-preserved g c =

@@ -4,36 +4,42 @@ use Rattle.std.specs.Prelude.{codes}
 use Rattle.board_text.proofs.Cited.{after}
 use Rattle.proof_text.specs.RowWords.{RequestWords, AreRequestWords, request_words_line}
 use Rattle.proof_text.proofs.SpelledRows.{number_of, pebble_of}
-use Rattle.proof_text.proofs.RowWords.{no_digit_lf, numerals_unique, after_position, after_word, request_parts, request_taken}
+use Rattle.proof_text.proofs.RowWords.{no_digit_lf, numerals_unique, after_position, after_word, request_parts}
+use Rattle.proof_text.proofs.RowWords.{request_taken}
 use Rattle.proof_text.specs.declared.proof.TheConstants.{MOST_TURNS}
 use Rattle.proof_text.proofs.row_words.request_words.Goals as goal
 use Rattle.proof_text.proofs.row_words.request_words.Goals.{In_ok-are_places, In_ok-numeral}
 
 -- how a row that stands here goes on after its position, and after its number
 after_at : (c : In_ok-are_places) (words : RequestWords) (more : List ℕ)
-    → AreRequestWords c.args.pebbles c.args.labels c.args.places words → c.args.text.now ≡ request_words_line words ++ more
+    → AreRequestWords c.args.pebbles c.args.labels c.args.places words
+    → c.args.text.now ≡ request_words_line words ++ more
     → c.configuration.new.text ≡ words.left ++ (codes " ask " ++ (words.ask ++ 10 ∷ more))
 after_at c words more are e = let p = c.in_ok-are_places.ensures in
     after_position p.0 words.at _ _ _ (rw c.requires.same at p.1) are.at p.2 (e ∙ request_parts words more)
 
 after_left : (c : In_ok-numeral) (word more : List ℕ) → IsNumeral 10 word → c.configuration.new.text ≡ word ++ 32 ∷ more
     → c.numeral.new.self ≡ 32 ∷ more
-after_left c word more is e = let n = c.in_ok-numeral.ensures in after_word n.0 word _ _ _ (inl n.1) (inl is) (inl n.3) n.2 e
+after_left c word more is e =
+    let n = c.in_ok-numeral.ensures in after_word n.0 word _ _ _ (inl n.1) (inl is) (inl n.3) n.2 e
 
 pub returns-in_err-numeral : goal.returns-in_err-numeral
 returns-in_err-numeral c = rw c.from_residual-in_err-numeral.ensures (λ words more are e.
-    c.in_err-numeral.ensures words.left _ are.left (after_at (goal.at.returns-in_err-numeral c).In_ok-are_places words more are e))
+    c.in_err-numeral.ensures words.left _ are.left
+    (after_at (goal.at.returns-in_err-numeral c).In_ok-are_places words more are e))
 
 pub returns-in_err-take : goal.returns-in_err-take
 returns-in_err-take c = rw c.from_residual-in_err-take.ensures (λ words more are e.
     let s = goal.at.returns-in_err-take c in
-    c.in_err-take.ensures.taken _ (after_left s.In_ok-numeral words.left _ are.left (after_at s.In_ok-are_places words more are e)))
+    c.in_err-take.ensures.taken _ (after_left s.In_ok-numeral words.left _ are.left
+    (after_at s.In_ok-are_places words more are e)))
 
 pub returns-in_err-numeral-2 : goal.returns-in_err-numeral-2
 returns-in_err-numeral-2 c = rw c.from_residual-in_err-numeral-2.ensures (λ words more are e.
     let s = goal.at.returns-in_err-numeral-2 c in
     let b = after_left s.In_ok-numeral words.left _ are.left (after_at s.In_ok-are_places words more are e) in
-    c.in_err-numeral-2.ensures words.ask _ are.ask (after (codes " ask ") _ c.take.new.self _ c.in_ok-take.ensures.taken b))
+    c.in_err-numeral-2.ensures words.ask _ are.ask
+    (after (codes " ask ") _ c.take.new.self _ c.in_ok-take.ensures.taken b))
 
 pub returns-in_err-take-2 : goal.returns-in_err-take-2
 returns-in_err-take-2 c = rw c.from_residual-in_err-take-2.ensures (λ words more are e.
@@ -51,10 +57,13 @@ returns c =
     let k = c.in_ok-numeral-2.ensures in (
       record { at = p.0; left = n.0; ask = k.0 },
       record { at = rw c.requires.same at p.1; left = n.1; ask = k.1 },
-      request_taken p.0 n.0 k.0 c.args.text.now c.configuration.new.text c.numeral.new.self c.take.new.self c.numeral-2.new.self c.take-2.new.self p.2 n.2 c.in_ok-take.ensures.taken k.2 c.in_ok-take-2.ensures.taken,
+      request_taken p.0 n.0 k.0 c.args.text.now c.configuration.new.text c.numeral.new.self c.take.new.self
+          c.numeral-2.new.self c.take-2.new.self p.2 n.2 c.in_ok-take.ensures.taken k.2 c.in_ok-take-2.ensures.taken,
       record {
         places = p.3;
-        number = number_of MOST_TURNS c.within-left.result n.0 c.in_ok-numeral.field-0 (omega arith) n.4 c.within-left.ensures;
-        pebble = pebble_of c.args.pebbles c.below-ask.result k.0 c.in_ok-numeral-2.field-0 (omega arith) k.4 c.below-ask.ensures;
+        number = number_of MOST_TURNS c.within-left.result n.0 c.in_ok-numeral.field-0
+            (omega arith) n.4 c.within-left.ensures;
+        pebble = pebble_of c.args.pebbles c.below-ask.result k.0 c.in_ok-numeral-2.field-0
+            (omega arith) k.4 c.below-ask.ensures;
       },
     )

@@ -10,14 +10,16 @@ pub returns-clause-read : goal.returns-clause-read
 returns-clause-read g c =
     let i = c.loop-come.invariant in
     part_read _ (g.R.Row.form c.args.space.now c.args.claim) _ c.in-Some.count c.loop-come.rows.items _
-    (sym (c.is_asked.ensures c.args.space.now) ∙ c.if-not-is_asked.false) (omega (arith, i.number, i.come.come, c.loop-come-test.false)) i.come
+    (sym (c.is_asked.ensures c.args.space.now) ∙ c.if-not-is_asked.false)
+    (omega (arith, i.number, i.come.come, c.loop-come-test.false)) i.come
 
 pub returns-in-Err-clause-fault : goal.returns-in-Err-clause-fault
 returns-in-Err-clause-fault g c =
     let i = c.loop-come.invariant in
     rw c.at-in-Err.ensures (
       sym (c.is_asked.ensures c.args.space.now) ∙ c.if-not-is_asked.false,
-      line_fault_in _ (g.R.Row.form c.args.space.now c.args.claim) _ c.args.line _ c.in-Some.count c.loop-come.least _ _ c.in-Err.kind
+      line_fault_in _ (g.R.Row.form c.args.space.now c.args.claim) _ c.args.line _ c.in-Some.count c.loop-come.least _ _
+          c.in-Err.kind
           i.come (omega (arith, i.number, c.loop-come-test.true)) (omega (arith, i.number)) i.from c.in-Err.ensures,
     )
 
@@ -42,7 +44,8 @@ pub returns-in_err-rows-clause-fault : goal.returns-in_err-rows-clause-fault
 returns-in_err-rows-clause-fault g c =
     let form = g.R.Row.form c.args.space.now c.args.claim in
     let p = err_from_is_err_and c.from_residual.result c.from_residual.ensures.1 in
-    let word : c.as_bytes.result.now ≡ form.word = c.as_bytes.ensures.value ∙ c.word.ensures c.args.space.now c.args.claim in
+    let word : c.as_bytes.result.now ≡ form.word =
+    c.as_bytes.ensures.value ∙ c.word.ensures c.args.space.now c.args.claim in
     let head : c.args.text.now ≡ number_line form.word c.in-Some.count ++ c.number_line.new.self =
     c.in-Some.ensures.1 ∙ ap (λ (w : List ℕ). number_line w c.in-Some.count ++ c.number_line.new.self) word in
     rw (p.1, p.2) (
@@ -53,7 +56,9 @@ returns-in_err-rows-clause-fault g c =
           c.in-Some.count,
           [],
           c.number_line.new.self,
-          come_none c.args.space.now form.IsRow (at_of c.args.space.now form) (number_line form.word) form.line c.args.text.now c.in-Some.count c.number_line.new.self c.in-Some.ensures.0.1 head,
+          come_none c.args.space.now form.IsRow (at_of c.args.space.now form)
+              (number_line form.word) form.line c.args.text.now c.in-Some.count c.number_line.new.self
+              c.in-Some.ensures.0.1 head,
         ),
       ),
     )

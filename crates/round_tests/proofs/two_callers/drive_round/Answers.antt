@@ -10,4 +10,6 @@ use Rattle.round_tests.proofs.two_callers.drive_round.Goals as goal
 pub drive_both-requires-sync-D : goal.drive_both-requires-sync-D
 drive_both-requires-sync-D g c κs within =
     let life : NamedLft = record { mir = named 2; lft = κs.1.1.0 } in
-    param_sync 0 _ (arg_sync _ no _ (round_sync life (param 0 g.row.S) g.S.ListStore (solver_sync (param 0 g.row.S) g.S.ListStore c.type_bounds.sync-S)))
+    param_sync 0 _ (arg_sync _ no _
+    (round_sync life (param 0 g.row.S) g.S.ListStore
+    (solver_sync (param 0 g.row.S) g.S.ListStore c.type_bounds.sync-S)))

@@ -21,7 +21,8 @@ returns-in_err-write_text-clause-fault g c =
       board,
       c.in_ok-board.ensures.found,
       cut_short (IsChecked board) (HasNoProof board) MAX_PROOF_BYTES proof written
-          c.in_ok-text.text.items c.in_ok-text.ensures.ok c.in_ok-answer.answer.verdict _ (rw c.as_slice.ensures.value at c.in_ok-answer.ensures.checked)
+          c.in_ok-text.text.items c.in_ok-text.ensures.ok c.in_ok-answer.answer.verdict _
+          (rw c.as_slice.ensures.value at c.in_ok-answer.ensures.checked)
           (rw c.deref.ensures at c.in_err-write_text.ensures.prefix),
     ))
 

@@ -13,7 +13,8 @@ returns-in_err-solved-clause-fault g c =
     let read = bytes_of g.R.Source.remaining c.args.reader.now c.read_text.new.reader in
     let written = bytes_of g.W.Sink.contents c.args.writer.now c.args.writer.now in
     rw (p.1, p.2) (nothing_to_write Solution (CannotSolve Ordered c.args.workers) MAX_BOARD_BYTES read written
-    c.in_ok-text.text.items c.in_ok-text.ensures.ok c.in_err-solved.field-0.0 (rw c.as_slice.ensures.value at c.in_err-solved.ensures.fault))
+    c.in_ok-text.text.items c.in_ok-text.ensures.ok c.in_err-solved.field-0.0
+    (rw c.as_slice.ensures.value at c.in_err-solved.ensures.fault))
 
 pub returns-in_err-write_text-clause-fault : goal.returns-in_err-write_text-clause-fault
 returns-in_err-write_text-clause-fault g c =
@@ -23,8 +24,16 @@ returns-in_err-write_text-clause-fault g c =
     rw (p.1, p.2, c.in_err-write_text.ensures.fault)
     (cut_short Solution (CannotSolve Ordered c.args.workers) MAX_BOARD_BYTES read written
     c.in_ok-text.text.items c.in_ok-text.ensures.ok c.in_ok-solved.solved.value _
-    (rw c.as_slice.ensures.value at c.in_ok-solved.ensures.ok) (rw c.deref.ensures at c.in_err-write_text.ensures.prefix))
+    (rw c.as_slice.ensures.value at c.in_ok-solved.ensures.ok)
+    (rw c.deref.ensures at c.in_err-write_text.ensures.prefix))
 
 pub returns-clause-ok : goal.returns-clause-ok
-returns-clause-ok g c =
-    (c.in_ok-text.text.items, c.in_ok-text.ensures.ok, (_, rw c.as_slice.ensures.value at c.in_ok-solved.ensures.ok, rw c.deref.ensures at c.in_ok-write_text.ensures.ok))
+returns-clause-ok g c = (
+  c.in_ok-text.text.items,
+  c.in_ok-text.ensures.ok,
+  (
+    _,
+    rw c.as_slice.ensures.value at c.in_ok-solved.ensures.ok,
+    rw c.deref.ensures at c.in_ok-write_text.ensures.ok,
+  ),
+)

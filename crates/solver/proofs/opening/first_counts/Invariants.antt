@@ -7,5 +7,6 @@ abbrev pub invariant-loop-gap : goal.invariant-loop-gap
 invariant-loop-gap l = record {
   len : length l.counts.items ≡ l.gap;
   room : l.gaps ≤ vec_capacity l.counts;
-  counted : (g : ℕ) → g < l.gap → slice_index l.counts.items g ≡ live_answers (graph_of l.graph) (lasts (graph_of l.graph) 0) g;
+  counted : (g : ℕ) → g < l.gap
+      → slice_index l.counts.items g ≡ live_answers (graph_of l.graph) (lasts (graph_of l.graph) 0) g;
 }

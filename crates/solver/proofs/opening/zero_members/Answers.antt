@@ -29,5 +29,7 @@ loop-place-preserved c =
 pub returns : goal.returns
 returns c =
     let most = c.loop-place.auto.place-end in
-    let end : c.loop-place.place ≡ (graph_of c.args.graph.now).places = omega (arith, most, c.loop-place-test.false, c.places-place-end.ensures) in
-    subst (λ n. AreZeroed (graph_of c.args.graph.now) c.args.gap n c.args.words.now c.loop-place.words) end c.loop-place.invariant
+    let end : c.loop-place.place ≡ (graph_of c.args.graph.now).places =
+    omega (arith, most, c.loop-place-test.false, c.places-place-end.ensures) in
+    subst (λ n. AreZeroed
+    (graph_of c.args.graph.now) c.args.gap n c.args.words.now c.loop-place.words) end c.loop-place.invariant

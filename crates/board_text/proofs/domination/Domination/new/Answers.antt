@@ -11,5 +11,8 @@ pub invariant_of-result : goal.invariant_of-result
 invariant_of-result c = rw (fresh c) (rows_new c.args.labels c.requires)
 
 pub returns : goal.returns
-returns c =
-    (refl, rw (fresh c) (pairs_none c.args.labels (mark_of c.args.labels (replicate (4 * c.args.labels) 0)) (c.args.labels * c.args.labels) (λ place low high. no_bit (4 * c.args.labels) _ _)))
+returns c = (
+  refl,
+  rw (fresh c) (pairs_none c.args.labels (mark_of c.args.labels (replicate (4 * c.args.labels) 0))
+      (c.args.labels * c.args.labels) (λ place low high. no_bit (4 * c.args.labels) _ _)),
+)

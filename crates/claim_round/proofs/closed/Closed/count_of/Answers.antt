@@ -19,5 +19,6 @@ returns c =
     let shown = ap (λ (e : Ended). length e.counts) c.self.view_is in
     let l = length-take c.self.inside.gaps (slots_items c.self.inside.rows.words) in
     let inside : c.args.gap < c.self.inside.gaps = omega arith in
-    sym (read_at (slots_items c.self.inside.rows.words) c.args.gap _ c.word.ensures) ∙ sym (get_or-take c.self.inside.gaps (slots_items c.self.inside.rows.words) c.args.gap 0 inside)
+    sym (read_at (slots_items c.self.inside.rows.words) c.args.gap _ c.word.ensures)
+    ∙ sym (get_or-take c.self.inside.gaps (slots_items c.self.inside.rows.words) c.args.gap 0 inside)
     ∙ ap (λ (e : Ended). slice_index e.counts c.args.gap) c.self.view_is

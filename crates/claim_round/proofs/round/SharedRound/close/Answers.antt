@@ -1,4 +1,5 @@
-use Rattle.std.proofs.Common.{◌≡◌, ℕ, ◌^◌, ◌<◌, ◌+◌, ◌-◌, List, [], map, length, take, drop, sym, ap, ◌∙◌, subst, arith, get_or-take, get_or-drop, length-drop}
+use Rattle.std.proofs.Common.{◌≡◌, ℕ, ◌^◌, ◌<◌, ◌+◌, ◌-◌, List, [], map, length, take, drop, sym, ap, ◌∙◌, subst, arith}
+use Rattle.std.proofs.Common.{get_or-take, get_or-drop, length-drop}
 use Rattle.graphs.specs.Numbered.{Numbered, graph_of}
 use Rattle.std.specs.Prelude.{slice_index}
 use Rattle.std.specs.Slots.{slots_items, slots_len, slots_counts}
@@ -32,7 +33,8 @@ module _ (g : Over) (c : After-close_with g) where
   gaps_are : (graph_of k.solving.game).gaps ≡ c.gaps.result
   gaps_are =
       let given : k.solving ≡ c.self.inside.solver.now = ap (λ (q : Key). q.solving) c.self.invariant.key_is in
-      sym (c.gaps.ensures ∙ ap (λ (n : Numbered). (graph_of n).gaps) c.graph.ensures ∙ ap (λ (s : Solving). (graph_of s.game).gaps) (sym given))
+      sym (c.gaps.ensures ∙ ap (λ (n : Numbered). (graph_of n).gaps) c.graph.ensures
+      ∙ ap (λ (s : Solving). (graph_of s.game).gaps) (sym given))
 
   closed : IsClosed k words v × (v.has.todo ≡ []) × (v.has.owed ≡ [])
   closed =
@@ -101,10 +103,14 @@ invariant_of-result g c =
       full = c.close_with.ensures.values.0;
       slots = counts.1 ∙ slots;
       gaps = omega arith;
-      counts = λ g small. subst (λ n. n < 2 ^ 32) (get_or-take G all g 0 (omega arith)) (small_counts solving _ c.self.invariant.sound end.0.finishes g (omega arith));
+      counts = λ g small. subst (λ n. n < 2 ^ 32) (get_or-take G all g 0 (omega arith))
+          (small_counts solving _ c.self.invariant.sound end.0.finishes g (omega arith));
       values = λ j low high.
           let e : G + (j - G) ≡ j = omega arith in
-          let read : slice_index (drop G all) (j - G) ≡ slice_index all j = get_or-drop G all (j - G) 0 ∙ ap (slice_index all) e in
+          let read : slice_index (drop G all) (j - G) ≡ slice_index all j =
+          get_or-drop G all (j - G) 0 ∙ ap (slice_index all) e in
           subst (λ n. n < 2 ^ 32) read
-          (small_value solving (drop G all) (take G all) (v g b).has.won c.self.invariant.sound.below c.self.invariant.sound.few end.0.finishes (j - G) (let d = length-drop G all in omega arith));
+          (small_value solving (drop G all) (take G all)
+          (v g b).has.won c.self.invariant.sound.below c.self.invariant.sound.few end.0.finishes (j - G)
+          (let d = length-drop G all in omega arith));
     }

@@ -1,4 +1,5 @@
-use Rattle.std.proofs.Common.{◌≡◌, ℕ, ◌<◌, ◌≤◌, ◌+◌, ◌*◌, ◌⊎◌, inl, inr, ⊎_elim, List, ◌++◌, length, refl, sym, ap, ◌∙◌, subst, arith, rules}
+use Rattle.std.proofs.Common.{◌≡◌, ℕ, ◌<◌, ◌≤◌, ◌+◌, ◌*◌, ◌⊎◌, inl, inr, ⊎_elim, List, ◌++◌, length, refl, sym, ap, ◌∙◌}
+use Rattle.std.proofs.Common.{subst, arith, rules}
 use Rattle.graphs.specs.Numbered.{Numbered, graph_of}
 use Rattle.std.specs.Prelude.{vec_capacity}
 use Rattle.atomic_table.specs.Table.{Me}
@@ -30,7 +31,8 @@ load-requires g c =
     let some = some_gaps k r.sound.below in
     let words = r.words in
     let j = c.join_seat.ensures in
-    let wide : 0 < c.join_seat.new.seat.me.0.has.width = subst (λ (m : Me Unit0 View). 0 < m.0.has.width) (sym j.2) (let w = mine.2 in omega arith) in
+    let wide : 0 < c.join_seat.new.seat.me.0.has.width =
+    subst (λ (m : Me Unit0 View). 0 < m.0.has.width) (sym j.2) (let w = mine.2 in omega arith) in
     (j.0 ∙ mine.0, omega arith, look_allowed k _ _ c.join_seat.new.seat.me 0 wide)
 
 pub invariant_of-into-2 : goal.invariant_of-into-2
@@ -42,10 +44,17 @@ invariant_of-into-2 g c =
     let j = c.join_seat.ensures in
     let l = c.load.ensures in
     let m : ℕ = c.places-most.result in
-    let given : c.into.inside.seat.me.0.key.solving ≡ c.self.inside.solver.now = ap (λ (q : Key). q.solving) (mine.1 ∙ r.key_is) in
-    let most_is : most_members c.into.inside.seat.me.0.key ≡ m = sym (c.places-most.ensures ∙ ap (λ (n : Numbered). (graph_of n).places) c.graph.ensures ∙ ap (λ (s : Solving). (graph_of s.game).places) (sym given)) in
-    let size_is : size c.into.inside.seat.me.0.key ≡ (graph_of c.self.inside.solver.now.game).configurations = ap (λ (s : Solving). (graph_of s.game).configurations) given in
-    let room_is : ((graph_of c.self.inside.solver.now.game).configurations ≤ c.won_capacity-capacity.result) ⊎ (c.len-8.result + (c.len.result + m * c.len-2.result) + (c.len-3.result + c.len-4.result + m * c.len-5.result) ≤ c.won_capacity-capacity.result) = c.won_capacity-capacity.ensures in
+    let given : c.into.inside.seat.me.0.key.solving ≡ c.self.inside.solver.now =
+    ap (λ (q : Key). q.solving) (mine.1 ∙ r.key_is) in
+    let most_is : most_members c.into.inside.seat.me.0.key ≡ m =
+    sym (c.places-most.ensures ∙ ap (λ (n : Numbered). (graph_of n).places) c.graph.ensures
+    ∙ ap (λ (s : Solving). (graph_of s.game).places) (sym given)) in
+    let size_is : size c.into.inside.seat.me.0.key ≡ (graph_of c.self.inside.solver.now.game).configurations =
+    ap (λ (s : Solving). (graph_of s.game).configurations) given in
+    let room_is : ((graph_of c.self.inside.solver.now.game).configurations ≤ c.won_capacity-capacity.result)
+    ⊎ (c.len-8.result + (c.len.result + m * c.len-2.result) +
+    (c.len-3.result + c.len-4.result + m * c.len-5.result) ≤ c.won_capacity-capacity.result) =
+    c.won_capacity-capacity.ensures in
     joined_seat c.into.inside c.from.inside _ c.into.invariant c.from.invariant (mine.1 ∙ sym theirs.1)
     (ap (λ (m : Me Unit0 View). m.0) (l.2.0 ∙ j.2)) (ap (λ m. m.1) (l.2.0 ∙ j.2))
     (c.in-Ok.ensures.items ∙ ap (λ (xs : List ℕ). xs ++ c.from.inside.todo.items) c.make_room.ensures.items)
@@ -62,6 +71,7 @@ invariant_of-into-2 g c =
     let y : most_members c.into.inside.seat.me.0.key * length c.from.inside.todo.items ≡ m * c.len-5.result =
     ap (λ (p : ℕ × ℕ). p.0 * p.1) (λ i. (most_is i, sym (c.len-5.ensures ∙ c.from.inside.todo.ok.0) i)) in
     let z = c.append-3.ensures.capacity in
-    ⊎_elim (λ (e : (graph_of c.self.inside.solver.now.game).configurations ≤ c.won_capacity-capacity.result). inl (omega arith)) (λ f. inr (omega arith)) room_is)
+    ⊎_elim (λ (e : (graph_of c.self.inside.solver.now.game).configurations ≤ c.won_capacity-capacity.result). inl
+    (omega arith)) (λ f. inr (omega arith)) room_is)
     (subst (λ (n : Me Unit0 View). IsBounded n.0) (sym l.2.0) l.2.1)
     refl

@@ -22,13 +22,15 @@ strikes g c =
 pub struck-requires : goal.struck-requires
 struck-requires g c =
     let next = strikes g (goal.at.struck-requires g c).After-self in
-    subst (λ (n : Numbered). c.in-Some.config < (graph_of n).configurations) (sym c.graph.ensures) next.due.worth.is_rank
+    subst (λ (n : Numbered). c.in-Some.config < (graph_of n).configurations)
+    (sym c.graph.ensures) next.due.worth.is_rank
 
 pub unreachable-requires-in_default-struck : goal.unreachable-requires-in_default-struck
 unreachable-requires-in_default-struck g c =
     let next = strikes g (goal.at.unreachable-requires-in_default-struck g c).After-self in
     let struck = next.due.struck in
-    let none = subst (λ (n : Numbered). (graph_of n).gaps ≤ (graph_of n).struck c.in-Some.config) c.graph.ensures c.in_default-struck.ensures in
+    let none = subst (λ (n : Numbered). (graph_of n).gaps ≤
+    (graph_of n).struck c.in-Some.config) c.graph.ensures c.in_default-struck.ensures in
     omega (arith, struck, none)
 
 pub fetch_sub-found-requires : goal.fetch_sub-found-requires
@@ -36,7 +38,8 @@ fetch_sub-found-requires g c =
     let k : Key = c.self.inside.table.shared.key in
     let next = strikes g (goal.at.fetch_sub-found-requires g c).After-self in
     let low = in_gaps k _ _ c.in-Some-struck.gap next.solving c.graph.ensures c.in-Some-struck.ensures.1 in
-    let gap_is = struck_in k _ _ c.in-Some-struck.gap c.in-Some.config _ next.solving c.graph.ensures next.first c.in-Some-struck.ensures.0 in
+    let gap_is = struck_in k _ _ c.in-Some-struck.gap c.in-Some.config _ next.solving c.graph.ensures next.first
+    c.in-Some-struck.ensures.0 in
     let words = c.self.invariant.words in
     (next.of.0, omega arith, strike_allowed k _ _ _ _ next.of.2 next.some_todo gap_is)
 
@@ -49,7 +52,8 @@ owe_members-requires-clause-room g c =
     let empty : length c.seat.inside.owed.items ≡ 0 = ap length (c.seat.invariant.owed ∙ next.none_owed) in
     let room = c.seat.invariant.room_owed in
     let few : length (source c.self.inside.solver.now c.in-Some-struck.gap) ≤ most_members k =
-    subst (λ (s : Solving). length (source s c.in-Some-struck.gap) ≤ most_members k) next.solving (few_members k.solving c.self.invariant.sound c.in-Some-struck.gap low) in
+    subst (λ (s : Solving). length (source s c.in-Some-struck.gap) ≤ most_members k) next.solving
+    (few_members k.solving c.self.invariant.sound c.in-Some-struck.gap low) in
     let same : most_members v.key ≡ most_members k = ap most_members next.of.1 in
     omega arith
 
@@ -59,9 +63,13 @@ invariant_of-seat g c =
     let next = strikes g (goal.at.invariant_of-seat g c).After-self in
     let low = in_gaps k _ _ c.in-Some-struck.gap next.solving c.graph.ensures c.in-Some-struck.ensures.1 in
     let e = c.fetch_sub-found.ensures.2 in
-    let members : source c.self.inside.solver.now c.in-Some-struck.gap ≡ source k.solving c.in-Some-struck.gap = ap (λ (s : Solving). source s c.in-Some-struck.gap) (sym next.solving) in
-    struck_seat c.seat.inside _ c.fetch_sub-found.result c.in-Some-struck.gap e.0 k c.seat.invariant c.self.invariant.sound low next.of.1 next.some_todo next.none_owed e.2 e.3 (ap (drop 1) (sym c.in-Some.ensures.items))
-    (c.owe_members.ensures.items ∙ ap (λ (xs : List ℕ). c.seat.inside.owed.items ++ xs) members ∙ sym (cond_same _ _ _ _ c.if-found-eq1.true)) c.owe_members.ensures.room refl refl refl
+    let members : source c.self.inside.solver.now c.in-Some-struck.gap ≡ source k.solving c.in-Some-struck.gap =
+    ap (λ (s : Solving). source s c.in-Some-struck.gap) (sym next.solving) in
+    struck_seat c.seat.inside _ c.fetch_sub-found.result c.in-Some-struck.gap e.0 k c.seat.invariant
+    c.self.invariant.sound low next.of.1 next.some_todo next.none_owed e.2 e.3
+    (ap (drop 1) (sym c.in-Some.ensures.items))
+    (c.owe_members.ensures.items ∙ ap (λ (xs : List ℕ). c.seat.inside.owed.items ++ xs) members
+    ∙ sym (cond_same _ _ _ _ c.if-found-eq1.true)) c.owe_members.ensures.room refl refl refl
 
 pub invariant_of-seat-else-found-eq1 : goal.invariant_of-seat-else-found-eq1
 invariant_of-seat-else-found-eq1 g c =
@@ -69,5 +77,7 @@ invariant_of-seat-else-found-eq1 g c =
     let next = strikes g (goal.at.invariant_of-seat-else-found-eq1 g c).After-self in
     let low = in_gaps k _ _ c.in-Some-struck.gap next.solving c.graph.ensures c.in-Some-struck.ensures.1 in
     let e = c.fetch_sub-found.ensures.2 in
-    struck_seat c.seat.inside _ c.fetch_sub-found.result c.in-Some-struck.gap e.0 k c.seat.invariant c.self.invariant.sound low next.of.1 next.some_todo next.none_owed e.2 e.3 (ap (drop 1) (sym c.in-Some.ensures.items))
+    struck_seat c.seat.inside _ c.fetch_sub-found.result c.in-Some-struck.gap e.0 k c.seat.invariant
+    c.self.invariant.sound low next.of.1 next.some_todo next.none_owed e.2 e.3
+    (ap (drop 1) (sym c.in-Some.ensures.items))
     (sym (cond_other _ _ _ _ c.if-found-eq1.false)) refl refl refl refl

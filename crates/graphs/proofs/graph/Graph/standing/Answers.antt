@@ -35,7 +35,8 @@ pub returns-in-Ranks-clause-gaps : goal.returns-in-Ranks-clause-gaps
 returns-in-Ranks-clause-gaps c = λ pebble low.
     let n : Numbered = c.args.self.now in
     let found = by-ranks n c.self.inside.finder c.self.view_is c.in-Ranks.numbers c.in-Ranks.is in
-    c.ordered_standing.ensures.gaps pebble (subst (λ (b : PlainBoard). pebble < b.pebbles) (sym (c.space.ensures ∙ found.1)) low)
+    c.ordered_standing.ensures.gaps pebble
+    (subst (λ (b : PlainBoard). pebble < b.pebbles) (sym (c.space.ensures ∙ found.1)) low)
     ∙ ap (λ (b : PlainBoard). gap_of b c.args.held.now pebble) (c.space.ensures ∙ found.1)
     ∙ sym (rank-gap n c.args.held.now pebble found.0)
 
@@ -63,7 +64,8 @@ pub returns-in-Classes-clause-gaps : goal.returns-in-Classes-clause-gaps
 returns-in-Classes-clause-gaps c = λ pebble low.
     let n : Numbered = c.args.self.now in
     let found = by-classes n c.self.inside.finder c.self.view_is c.in-Classes.numbers c.in-Classes.is in
-    c.standing.ensures.gaps pebble (subst (λ (b : PlainBoard). pebble < b.pebbles) (sym (c.classes.ensures ∙ found.1)) low)
+    c.standing.ensures.gaps pebble
+    (subst (λ (b : PlainBoard). pebble < b.pebbles) (sym (c.classes.ensures ∙ found.1)) low)
     ∙ sym (class-gap n c.args.held.now pebble found.0)
 
 pub returns-in-Classes-clause-gaps_below : goal.returns-in-Classes-clause-gaps_below

@@ -7,8 +7,10 @@ use Rattle.index_lists.proofs.link_lists.LinkListsListStore.first.Goals as goal
 
 pub returns : goal.returns
 returns c =
-    let read = field-read (λ e. e.first) _ _ _ _ _ (ap (λ s. s.links.first) c.self-inside.view_is) (c.self.invariant.first_length ∙ ap (λ w. w.lists) c.self.view_is) c.requires c.index.ensures in
-    let answer = c.some_unless.ensures ∙ ap (λ s. unless_none s.node_count c.index.result.now.first) c.self-inside.view_is ∙ ap (unless_none _) read in
+    let read = field-read (λ e. e.first) _ _ _ _ _ (ap (λ s. s.links.first) c.self-inside.view_is)
+    (c.self.invariant.first_length ∙ ap (λ w. w.lists) c.self.view_is) c.requires c.index.ensures in
+    let answer = c.some_unless.ensures
+    ∙ ap (λ s. unless_none s.node_count c.index.result.now.first) c.self-inside.view_is ∙ ap (unless_none _) read in
     let shows = answer ∙ sym (first-seen c.self.view_is c.self.invariant c.args.of c.requires) in
     record {
       first = shows;

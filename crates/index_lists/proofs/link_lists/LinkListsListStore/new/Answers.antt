@@ -9,13 +9,16 @@ pub invariant_of-result : goal.invariant_of-result
 invariant_of-result c =
     let n = c.args.node_count in
     let l = c.args.list_count in
-    subst (IsLinks n l) (bare-links n l _ _ (c.in_ok-nodes.ensures.items_if_clones_equal (λ y e. e)) (c.in_ok-ends.ensures.items_if_clones_equal (λ y e. e))) (empty-links n l)
+    subst (IsLinks n l) (bare-links n l _ _ (c.in_ok-nodes.ensures.items_if_clones_equal (λ y e. e))
+    (c.in_ok-ends.ensures.items_if_clones_equal (λ y e. e))) (empty-links n l)
 
 pub returns-clause-empty : goal.returns-clause-empty
 returns-clause-empty c =
     let n = c.args.node_count in
     let l = c.args.list_count in
-    subst (λ s. AreSame (chained_lists (chains_of n l s)) (empty_lists n l)) (bare-links n l _ _ (c.in_ok-nodes.ensures.items_if_clones_equal (λ y e. e)) (c.in_ok-ends.ensures.items_if_clones_equal (λ y e. e)))
+    subst (λ s. AreSame (chained_lists (chains_of n l s)) (empty_lists n l))
+    (bare-links n l _ _ (c.in_ok-nodes.ensures.items_if_clones_equal (λ y e. e))
+    (c.in_ok-ends.ensures.items_if_clones_equal (λ y e. e)))
     (empty-same n l)
 
 pub returns-clause-kept : goal.returns-clause-kept

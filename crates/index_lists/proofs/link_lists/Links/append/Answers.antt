@@ -6,7 +6,10 @@ use Rattle.index_lists.proofs.link_lists.Links.append.Goals as goal
 
 pub returns : goal.returns
 returns c =
-    let first_same = map-set_same _ _ _ _ c.index_mut-ends.result.now (ap (λ e. e.first) c.index_mut-ends.ensures.value) in
+    let first_same = map-set_same _ _ _ _ c.index_mut-ends.result.now
+    (ap (λ e. e.first) c.index_mut-ends.ensures.value) in
     let lens = map (λ e. e.len) c.self.inside.ends.items in
-    let read = field-read (λ e. e.len) _ lens _ _ _ refl (ap (λ s. length s.len) c.self.view_is) c.requires.list_in c.index_mut-ends.ensures.value in
-    rw (← c.self.view_is) (links-same refl refl refl first_same (map-set _ _ _ _) (map-set _ _ _ _ ∙ ap (λ k. slice_set lens c.args.list (k + 1)) read))
+    let read = field-read (λ e. e.len) _ lens _ _ _ refl
+    (ap (λ s. length s.len) c.self.view_is) c.requires.list_in c.index_mut-ends.ensures.value in
+    rw (← c.self.view_is) (links-same refl refl refl first_same (map-set _ _ _ _)
+    (map-set _ _ _ _ ∙ ap (λ k. slice_set lens c.args.list (k + 1)) read))

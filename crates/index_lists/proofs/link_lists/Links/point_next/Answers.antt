@@ -8,14 +8,23 @@ use Rattle.index_lists.proofs.link_lists.Links.point_next.Goals as goal
 pub returns-then-node-len : goal.returns-then-node-len
 returns-then-node-len c =
     let column = map (λ n. n.next) c.self.inside.nodes.items in
-    let none : c.args.node ≡ length column = omega (arith, c.if-node-len.true, c.len.ensures, length-map c.self.inside.nodes.items (λ n. n.next)) in
+    let none : c.args.node ≡ length column =
+    omega (arith, c.if-node-len.true, c.len.ensures, length-map c.self.inside.nodes.items (λ n. n.next)) in
     let last_same = map-set_same _ _ _ _ c.index_mut.result.now (ap (λ n. n.last) c.index_mut.ensures.value) in
     let len_same = map-set_same _ _ _ _ c.index_mut.result.now (ap (λ n. n.len) c.index_mut.ensures.value) in
-    rw (← c.self.view_is) (links-same (sym (set_past column c.args.node c.args.to (omega arith))) refl refl (map-set _ _ _ _ ∙ sym (cond_same _ _ _ _ none)) last_same len_same)
+    rw (← c.self.view_is) (links-same (sym (set_past column c.args.node c.args.to (omega arith))) refl refl
+    (map-set _ _ _ _ ∙ sym (cond_same _ _ _ _ none)) last_same len_same)
 
 pub returns-else-node-len : goal.returns-else-node-len
 returns-else-node-len c =
-    let some : c.args.node ≢ length (map (λ n. n.next) c.self.inside.nodes.items) = λ none. omega (arith, none, c.if-node-len.false, c.len.ensures, length-map c.self.inside.nodes.items (λ n. n.next)) in
+    let some : c.args.node ≢ length (map (λ n. n.next) c.self.inside.nodes.items) =
+    λ none. omega (
+      arith,
+      none,
+      c.if-node-len.false,
+      c.len.ensures,
+      length-map c.self.inside.nodes.items (λ n. n.next),
+    ) in
     let element = c.index_mut-else-node-len.result.now in
     let prev_same = map-set_same _ _ _ _ element (ap (λ n. n.prev) c.index_mut-else-node-len.ensures.value) in
     let home_same = map-set_same _ _ _ _ element (ap (λ n. n.home) c.index_mut-else-node-len.ensures.value) in

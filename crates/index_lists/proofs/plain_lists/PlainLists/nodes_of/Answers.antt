@@ -8,10 +8,12 @@ use Rattle.index_lists.proofs.plain_lists.PlainLists.nodes_of.Goals as goal
 use Rattle.index_lists.proofs.plain_lists.PlainLists.nodes_of.Goals.{After-end_of-end}
 
 pub returns-then-len-of-clause-kept : goal.returns-then-len-of-clause-kept
-returns-then-len-of-clause-kept c = subst (λ (p : PlainParts). AreLists (lists_of_parts p)) c.self.view_is (plain-are _ c.self.invariant.0)
+returns-then-len-of-clause-kept c =
+    subst (λ (p : PlainParts). AreLists (lists_of_parts p)) c.self.view_is (plain-are _ c.self.invariant.0)
 
 pub end_of-end-requires-clause-whole : goal.end_of-end-requires-clause-whole
-end_of-end-requires-clause-whole c = ap sum c.deref-2.ensures.value ∙ cut-sum c.self.invariant.1 ∙ sym (ap length c.deref.ensures.value)
+end_of-end-requires-clause-whole c =
+    ap sum c.deref-2.ensures.value ∙ cut-sum c.self.invariant.1 ∙ sym (ap length c.deref.ensures.value)
 
 pub end_of-end-requires-clause-few : goal.end_of-end-requires-clause-few
 end_of-end-requires-clause-few c =
@@ -23,18 +25,21 @@ module _ (c : After-end_of-end) where
   inside = omega (arith, c.if-len-of.false, c.len.ensures, c.self.inside.lens.ok.0)
 
   ends : c.end_of-end.result + sum (drop (c.args.of + 1) c.self.inside.lens.items) ≡ length c.self.inside.nodes.items
-  ends = sym (ap (λ ns. c.end_of-end.result + sum (drop (c.args.of + 1) ns)) c.deref-2.ensures.value) ∙ c.end_of-end.ensures
+  ends = sym (ap (λ ns. c.end_of-end.result + sum (drop (c.args.of + 1) ns)) c.deref-2.ensures.value)
+      ∙ c.end_of-end.ensures
       ∙ ap length c.deref.ensures.value
 
 pub overflow_sub-result : goal.overflow_sub-result
 overflow_sub-result c =
     let b = (goal.at.overflow_sub-result c).After-end_of-end in
-    (cut-part c.self.invariant.1 c.args.of c.end_of-end.result c.index.result.now c.index.result.now (inside b) (ends b) c.index.ensures).0
+    (cut-part c.self.invariant.1 c.args.of c.end_of-end.result c.index.result.now c.index.result.now (inside b)
+    (ends b) c.index.ensures).0
 
 pub returns-clause-nodes : goal.returns-clause-nodes
 returns-clause-nodes c =
     let b = (goal.at.returns-clause-nodes c).After-end_of-end in
-    let found = cut-part c.self.invariant.1 c.args.of c.end_of-end.result c.index.result.now c.index.result.now (inside b) (ends b)
+    let found = cut-part c.self.invariant.1 c.args.of c.end_of-end.result c.index.result.now c.index.result.now
+    (inside b) (ends b)
     c.index.ensures in
     rw c.deref-3.ensures.value (found.2 ∙ ap (λ (p : PlainParts). part p.parts c.args.of) c.self.view_is)
 

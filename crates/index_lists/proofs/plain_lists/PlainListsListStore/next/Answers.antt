@@ -6,14 +6,16 @@ use Rattle.index_lists.proofs.plain_lists.PlainListsListStore.next.Goals.{After-
 
 module _ (c : After-next_in) where
   stands : slice_get (part c.args.self.now.parts c.in-Some.home) c.next_in.ensures.0 ≡ Some c.args.node
-  stands = subst (λ xs. slice_get xs c.next_in.ensures.0 ≡ Some c.args.node) c.nodes_of.ensures.nodes c.next_in.ensures.1
+  stands =
+      subst (λ xs. slice_get xs c.next_in.ensures.0 ≡ Some c.args.node) c.nodes_of.ensures.nodes c.next_in.ensures.1
 
   shows : c.next_in.result ≡ slice_get (part c.args.self.now.parts c.in-Some.home) (c.next_in.ensures.0 + 1)
   shows = c.next_in.ensures.2 ∙ ap (λ xs. slice_get xs (c.next_in.ensures.0 + 1)) c.nodes_of.ensures.nodes
 
 pub returns-in-Some-clause-behind : goal.returns-in-Some-clause-behind
 returns-in-Some-clause-behind c = λ l place at.
-    let same = same-place _ c.in-Some.home l c.args.node c.next_in.ensures.0 place c.nodes_of.ensures.kept (stands c) at in
+    let same = same-place _ c.in-Some.home l c.args.node c.next_in.ensures.0 place c.nodes_of.ensures.kept
+    (stands c) at in
     rw (same.0, same.1) (shows c)
 
 pub returns-in-Some-clause-below : goal.returns-in-Some-clause-below

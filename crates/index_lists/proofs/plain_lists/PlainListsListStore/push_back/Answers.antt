@@ -1,4 +1,5 @@
-use Rattle.std.proofs.Common.{◌≡◌, ◌+◌, ◌-◌, ◌++◌, ◌∷◌, [], ◌<◌, ◌==◌, if◌then◌else◌, length, drop, replicate, sym, subst, ap, ◌∙◌, arith}
+use Rattle.std.proofs.Common.{◌≡◌, ◌+◌, ◌-◌, ◌++◌, ◌∷◌, [], ◌<◌, ◌==◌, if◌then◌else◌, length, drop, replicate, sym}
+use Rattle.std.proofs.Common.{subst, ap, ◌∙◌, arith}
 use Rattle.std.specs.Prelude.{sum}
 use Rattle.std.specs.List.{insert}
 use Rattle.std.proofs.lemmas.List.{append-nil, drop_all}
@@ -28,13 +29,15 @@ module _ (c : After-index_mut) where
   last = omega (arith, c.if-len-to.true, c.len.ensures, c.self.inside.lens.ok.0)
 
   -- the list has a length already
-  begun : c.self.inside.lens.items ≡ c.self.inside.lens.items ++ replicate (c.args.to + 1 - length c.self.inside.lens.items) 0
+  begun : c.self.inside.lens.items ≡ c.self.inside.lens.items
+      ++ replicate (c.args.to + 1 - length c.self.inside.lens.items) 0
   begun =
       let none : c.args.to + 1 - length c.self.inside.lens.items ≡ 0 = let e = last in omega (arith, e) in
       rw none (sym (append-nil c.self.inside.lens.items))
 
   -- the part ends at the end of all nodes
-  ends : length c.self.inside.nodes.items + sum (drop (c.args.to + 1) c.self.inside.lens.items) ≡ length c.self.inside.nodes.items
+  ends : length c.self.inside.nodes.items + sum (drop (c.args.to + 1) c.self.inside.lens.items)
+      ≡ length c.self.inside.nodes.items
   ends = ap (λ ns. length c.self.inside.nodes.items + sum ns)
       (drop_all (c.args.to + 1) c.self.inside.lens.items (let e = last in omega (arith, e))) ∙ omega arith
 
@@ -45,14 +48,16 @@ put c = c.push_reserved.ensures.items ∙ sym (insert_end c.self.inside.nodes.it
 pub overflow_add-index_mut : goal.overflow_add-index_mut
 overflow_add-index_mut c =
     let b = (goal.at.overflow_add-index_mut c).After-index_mut in
-    let small = list-small _ _ c.self.invariant.0 c.self.invariant.1 c.args.to c.args.node (to-in b) (node-in b) (free b) _ (begun b)
+    let small = list-small _ _ c.self.invariant.0 c.self.invariant.1 c.args.to c.args.node (to-in b) (node-in b)
+    (free b) _ (begun b)
     c.index_mut.result.now c.index_mut.result.now c.index_mut.ensures.value in
     omega (arith, small, c.self.invariant.0.few)
 
 pub push_reserved-requires : goal.push_reserved-requires
 push_reserved-requires c =
     let b = (goal.at.push_reserved-requires c).After-index_mut in
-    let room = list-room _ _ c.self.invariant.0 c.self.invariant.1 c.args.to c.args.node (to-in b) (node-in b) (free b) _ (begun b) in
+    let room = list-room _ _ c.self.invariant.0 c.self.invariant.1 c.args.to c.args.node (to-in b) (node-in b)
+    (free b) _ (begun b) in
     omega (arith, room, c.self.invariant.1.for_nodes, c.self.inside.nodes.ok.0)
 
 pub invariant_of-self : goal.invariant_of-self
@@ -61,9 +66,11 @@ invariant_of-self c =
     let more = put (goal.at.invariant_of-self c).After-push_reserved in
     let n = c.self.inside.node_count in
     let l = c.self.inside.list_count in (
-      pushed-plain n l c.self.invariant.0 c.self.invariant.1 c.args.to c.args.node (to-in b) (node-in b) (free b) _ (begun b) _
+      pushed-plain n l c.self.invariant.0 c.self.invariant.1 c.args.to c.args.node (to-in b) (node-in b) (free b) _
+          (begun b) _
           c.index_mut.result.now _ (ends b) c.index_mut.ensures.value more,
-      pushed-cut n l c.self.invariant.0 c.self.invariant.1 c.args.to c.args.node (to-in b) (node-in b) (free b) _ (begun b) _
+      pushed-cut n l c.self.invariant.0 c.self.invariant.1 c.args.to c.args.node (to-in b) (node-in b) (free b) _
+          (begun b) _
           c.index_mut.result.now _ (ends b) c.index_mut.ensures.value more _ _
           (omega (arith, c.self.invariant.1.for_nodes, c.push_reserved.ensures.capacity)) c.self.invariant.1.for_lens,
     )
@@ -77,9 +84,11 @@ returns-then-len-to-clause-pushed c =
     record {
       same_nodes = ap (λ (p : PlainParts). p.nodes) c.self.view_is;
       same_lists = ap (λ (p : PlainParts). p.lists) c.self.view_is;
-      same_list = λ m. pushed-list n l c.self.invariant.0 c.self.invariant.1 c.args.to c.args.node (to-in b) (node-in b) (free b) _ (begun b) _
+      same_list = λ m. pushed-list n l c.self.invariant.0 c.self.invariant.1 c.args.to c.args.node (to-in b) (node-in b)
+          (free b) _ (begun b) _
           c.index_mut.result.now _ (ends b) c.index_mut.ensures.value more m
-          ∙ ap (λ (p : PlainParts). if m == c.args.to then part p.parts m ++ c.args.node ∷ [] else part p.parts m) c.self.view_is;
+          ∙ ap (λ (p : PlainParts). if m == c.args.to then part p.parts m
+          ++ c.args.node ∷ [] else part p.parts m) c.self.view_is;
     }
 
 pub returns-then-len-to-clause-kept : goal.returns-then-len-to-clause-kept

@@ -8,14 +8,17 @@ use Rattle.index_lists.proofs.Parts.{fewer, plain-are, unlinked-cut, unlinked-pl
 use Rattle.index_lists.proofs.plain_lists.PlainListsListStore.unlink.Goals as goal
 use Rattle.index_lists.proofs.plain_lists.PlainListsListStore.unlink.Goals.{After-deref, After-index_of-index}
 
-some : (c : After-deref) → 0 < times c.args.node (part (parts_of c.self.inside.lens.items c.self.inside.nodes.items) c.in-Some.home)
+some : (c : After-deref)
+    → 0 < times c.args.node (part (parts_of c.self.inside.lens.items c.self.inside.nodes.items) c.in-Some.home)
 some c =
-    let home = subst (λ (p : PlainParts). IsHome (lists_of_parts p) c.args.node c.in-Some.home) (sym c.self.view_is) c.in-Some.ensures.home in
+    let home = subst (λ (p : PlainParts). IsHome (lists_of_parts p) c.args.node c.in-Some.home)
+    (sym c.self.view_is) c.in-Some.ensures.home in
     let one = home.times_is c.in-Some.home ∙ cond_same c.in-Some.home c.in-Some.home 1 0 refl in
     omega (arith, one)
 
 stands : (c : After-index_of-index) → slice_get c.self.inside.nodes.items c.index_of-index.result ≡ Some c.args.node
-stands c = subst (λ xs. slice_get xs c.index_of-index.result ≡ Some c.args.node) c.deref.ensures.value c.index_of-index.ensures
+stands c =
+    subst (λ xs. slice_get xs c.index_of-index.result ≡ Some c.args.node) c.deref.ensures.value c.index_of-index.ensures
 
 pub index_of-index-requires : goal.index_of-index-requires
 index_of-index-requires c =
@@ -38,10 +41,13 @@ invariant_of-self c =
     let n = c.self.inside.node_count in
     let l = c.self.inside.list_count in
     rw c.remove.ensures.items (
-      unlinked-plain n l c.self.invariant.0 c.self.invariant.1 c.args.node c.in-Some.home c.index_of-index.result c.index_mut.result.now here at
+      unlinked-plain n l c.self.invariant.0 c.self.invariant.1 c.args.node c.in-Some.home c.index_of-index.result
+          c.index_mut.result.now here at
           c.index_mut.ensures.value,
-      unlinked-cut n l c.self.invariant.0 c.self.invariant.1 c.args.node c.in-Some.home c.index_of-index.result c.index_mut.result.now here at
-          c.index_mut.ensures.value _ _ (rw c.remove.ensures.capacity c.self.invariant.1.for_nodes) c.self.invariant.1.for_lens,
+      unlinked-cut n l c.self.invariant.0 c.self.invariant.1 c.args.node c.in-Some.home c.index_of-index.result
+          c.index_mut.result.now here at
+          c.index_mut.ensures.value _ _
+          (rw c.remove.ensures.capacity c.self.invariant.1.for_nodes) c.self.invariant.1.for_lens,
     )
 
 pub returns-clause-unlinked : goal.returns-clause-unlinked
@@ -51,7 +57,8 @@ returns-clause-unlinked c = record {
   same_list = λ m.
       let here = some (goal.at.returns-clause-unlinked c).After-deref in
       let at = stands (goal.at.returns-clause-unlinked c).After-index_of-index in
-      rw c.remove.ensures.items (unlinked-list c.self.inside.node_count c.self.inside.list_count c.self.invariant.0 c.self.invariant.1 c.args.node
+      rw c.remove.ensures.items (unlinked-list c.self.inside.node_count c.self.inside.list_count c.self.invariant.0
+      c.self.invariant.1 c.args.node
       c.in-Some.home c.index_of-index.result c.index_mut.result.now here at c.index_mut.ensures.value m)
       ∙ ap (λ (p : PlainParts). without_node c.args.node (part p.parts m)) c.self.view_is;
 }

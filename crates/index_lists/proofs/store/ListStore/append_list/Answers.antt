@@ -24,7 +24,8 @@ next-next-requires g c =
     c.loop-next.invariant.2.below c.args.of c.in-Some.node (stands-at is.count c.in-Some.node _ (sym is.next_is))
 
 more : (g : Given.Over) (c : goal.After-next-next g)
-    → IsPassed ((g.Self.ListStore.state c.args.self.now).list c.args.of) c.args.to.now.items c.push_reserved.new.self.items c.next-next.result
+    → IsPassed ((g.Self.ListStore.state c.args.self.now).list c.args.of) c.args.to.now.items
+    c.push_reserved.new.self.items c.next-next.result
 more g c =
     let is = is-some c.loop-next.invariant.0 c.in-Some.is in
     passed-more _ _ _ _ c.in-Some.node _ is c.push_reserved.ensures.items
@@ -40,7 +41,8 @@ loop-next-smaller g c =
     omega (arith, long, low, step)
 
 pub loop-next-preserved : goal.loop-next-preserved
-loop-next-preserved g c = (more g c, c.push_reserved.ensures.capacity ∙ c.loop-next.invariant.1, c.loop-next.invariant.2)
+loop-next-preserved g c =
+    (more g c, c.push_reserved.ensures.capacity ∙ c.loop-next.invariant.1, c.loop-next.invariant.2)
 
 pub returns-clause-appended : goal.returns-clause-appended
 returns-clause-appended g c = passed-all _ _ _ _ c.loop-next.invariant.0 c.in_default.is

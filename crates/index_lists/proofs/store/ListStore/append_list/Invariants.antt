@@ -9,4 +9,5 @@ invariant-loop-next g l =
     × (vec_capacity l.to ≡ vec_capacity l.initial.to) × AreLists (g.Self.ListStore.state l.self)
 
 abbrev pub decreases-loop-next : goal.decreases-loop-next
-decreases-loop-next g l = length ((g.Self.ListStore.state l.self).list l.of) + length l.initial.to.items - length l.to.items
+decreases-loop-next g l =
+    length ((g.Self.ListStore.state l.self).list l.of) + length l.initial.to.items - length l.to.items

@@ -5,16 +5,19 @@ use Rattle.index_lists.proofs.store.ListStore.move_to.Goals as goal
 use Rattle.index_lists.proofs.store.ListStore.move_to.Goals.{then-is_some, else-is_some}
 
 pub unlink-requires-clause-stands : goal.unlink-requires-clause-stands
-unlink-requires-clause-stands g c = in-at_some _ c.args.node c.home.result c.is_some.result c.home.ensures.home c.is_some.ensures
+unlink-requires-clause-stands g c =
+    in-at_some _ c.args.node c.home.result c.is_some.result c.home.ensures.home c.is_some.ensures
     c.if-is_some.true
 
 pub push_back-requires-clause-free : goal.push_back-requires-clause-free
 push_back-requires-clause-free g c =
     let state = g.Self.ListStore.state in
     elim c.if-is_some.branch [
-      | then-is_some w ↦ subst (λ s. IsFree (state s) c.args.node) (sym w.self-is) (free-after _ _ c.args.node w.unlink.ensures.unlinked)
+      | then-is_some w ↦ subst (λ s. IsFree (state s) c.args.node) (sym w.self-is)
+          (free-after _ _ c.args.node w.unlink.ensures.unlinked)
       | else-is_some w ↦ subst (λ s. IsFree (state s) c.args.node) (sym w.self-is)
-          (free-at_none _ c.args.node c.home.result c.is_some.result c.home.ensures.home c.is_some.ensures w.if-is_some.false)
+          (free-at_none _ c.args.node c.home.result c.is_some.result c.home.ensures.home c.is_some.ensures
+          w.if-is_some.false)
     ]
 
 pub returns-clause-moved : goal.returns-clause-moved
@@ -26,6 +29,7 @@ returns-clause-moved g c =
           w.unlink.ensures.unlinked
       | else-is_some w ↦ subst (λ s. AreSame (state s) (node_unlinked (state c.args.self.now) c.args.node))
           (sym w.self-is)
-          (same-without _ c.args.node (free-at_none _ c.args.node c.home.result c.is_some.result c.home.ensures.home c.is_some.ensures
+          (same-without _ c.args.node
+          (free-at_none _ c.args.node c.home.result c.is_some.result c.home.ensures.home c.is_some.ensures
           w.if-is_some.false))
     ]) c.push_back.ensures.pushed

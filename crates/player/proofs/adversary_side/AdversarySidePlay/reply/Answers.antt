@@ -10,6 +10,15 @@ pub returns-else-number-pebbles-clause-said : goal.returns-else-number-pebbles-c
 returns-else-number-pebbles-clause-said c =
     let seat = c.args.self.now in
     let of_seat = c.board.ensures ∙ ap (λ s. s.board) c.self.view_is in
-    says_line c.say_no_request.result _ _ no_request_line None (λ end said. IsResponseToMeaning (PersonAsks seat.board) (Going seat.at seat.requests) c.args.meaning said (standing_of end seat.at seat.requests)) c.say_no_request.ensures
-    (rw c.in-Number.is (no_pebble seat.board.pebbles (Replies seat.board seat.at seat.requests) seat.at seat.requests c.in-Number.number
-    (omega (arith, c.if-number-pebbles.false, c.from-pebbles.ensures, c.pebbles.ensures.value, ap (λ b. b.pebbles) of_seat))))
+    says_line c.say_no_request.result _ _ no_request_line None
+    (λ end said. IsResponseToMeaning (PersonAsks seat.board) (Going seat.at seat.requests) c.args.meaning said
+    (standing_of end seat.at seat.requests)) c.say_no_request.ensures
+    (rw c.in-Number.is (no_pebble seat.board.pebbles
+    (Replies seat.board seat.at seat.requests) seat.at seat.requests c.in-Number.number
+    (omega (
+      arith,
+      c.if-number-pebbles.false,
+      c.from-pebbles.ensures,
+      c.pebbles.ensures.value,
+      ap (λ b. b.pebbles) of_seat,
+    ))))

@@ -9,6 +9,11 @@ use Rattle.player.proofs.climbing.ClimbPlay.reply.Goals as goal
 pub returns-else-number-pebbles-clause-said : goal.returns-else-number-pebbles-clause-said
 returns-else-number-pebbles-clause-said c =
     let play = c.args.self.now in
-    says_line c.say_no_request.result _ _ no_request_line None (λ end said. IsResponseToMeaning (PersonClimbs play.nested.levels) (Going play.nested.words play.requests) c.args.meaning said (standing_of end play.nested.words play.requests)) c.say_no_request.ensures
-    (rw c.in-Number.is (no_pebble play.nested.levels (NestedReplies play.nested.levels play.nested.words play.requests) play.nested.words play.requests c.in-Number.number
+    says_line c.say_no_request.result _ _ no_request_line None
+    (λ end said. IsResponseToMeaning (PersonClimbs play.nested.levels)
+    (Going play.nested.words play.requests) c.args.meaning said
+    (standing_of end play.nested.words play.requests)) c.say_no_request.ensures
+    (rw c.in-Number.is (no_pebble play.nested.levels
+    (NestedReplies play.nested.levels play.nested.words play.requests) play.nested.words play.requests
+    c.in-Number.number
     (omega (arith, c.if-number-pebbles.false, c.from-pebbles.ensures, c.levels.ensures.levels))))

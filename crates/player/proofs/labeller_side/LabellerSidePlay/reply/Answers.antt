@@ -7,7 +7,8 @@ use Rattle.player.specs.declared.end.PlayEnd.TheVariants.{Stopped}
 use Rattle.player.proofs.AnswerLines.{no_legal_number, no_label, stop_asked, says_all}
 use Rattle.player.proofs.AppendedLines.{says_line}
 use Rattle.player.proofs.labeller_side.LabellerSidePlay.reply.Goals as goal
-use Rattle.player.proofs.labeller_side.LabellerSidePlay.reply.Goals.{else-number-labels-via-else-number-labels, else-number-labels-via-then-number-labels+else-is_legal}
+use Rattle.player.proofs.labeller_side.LabellerSidePlay.reply.Goals.{else-number-labels-via-else-number-labels}
+use Rattle.player.proofs.labeller_side.LabellerSidePlay.reply.Goals.{else-number-labels-via-then-number-labels+else-is_legal}
 
 pub is_legal-requires : goal.is_legal-requires
 is_legal-requires c =
@@ -15,28 +16,45 @@ is_legal-requires c =
     omega (arith, c.if-number-labels.true, c.from-labels.ensures, c.labels.ensures.value, ap (λ b. b.labels) of_seat)
 
 pub returns-then-is_legal-clause-said : goal.returns-then-is_legal-clause-said
-returns-then-is_legal-clause-said c = says_all c.move_to_label.result _ _ _ _ c.move_to_label.ensures.said (λ end said asks line spells. asks line (rw c.in-Number.is at spells).1)
+returns-then-is_legal-clause-said c =
+    says_all c.move_to_label.result _ _ _ _ c.move_to_label.ensures.said
+    (λ end said asks line spells. asks line (rw c.in-Number.is at spells).1)
 
 pub returns-else-number-labels-clause-said : goal.returns-else-number-labels-clause-said
 returns-else-number-labels-clause-said c =
     let seat = c.args.self.now in
     let of_seat = c.board.ensures ∙ ap (λ s. s.board) c.self.view_is in
-    says_line c.say_no_answer.result _ _ no_answer_line None (λ end said. IsResponseToMeaning (PersonAnswers seat.board) (Going seat.at seat.requests) c.args.meaning said (standing_of end seat.at seat.requests)) c.say_no_answer.ensures
-    (rw c.in-Number.is (no_legal_number seat c.in-Number.number (subst (λ b. b.labels ≤ MAX_LABELS) of_seat c.labels.ensures.is_board.labels.1)
+    says_line c.say_no_answer.result _ _ no_answer_line None
+    (λ end said. IsResponseToMeaning (PersonAnswers seat.board) (Going seat.at seat.requests) c.args.meaning said
+    (standing_of end seat.at seat.requests)) c.say_no_answer.ensures
+    (rw c.in-Number.is (no_legal_number seat c.in-Number.number
+    (subst (λ b. b.labels ≤ MAX_LABELS) of_seat c.labels.ensures.is_board.labels.1)
     (elim c.else-number-labels.branch [
-      | else-number-labels-via-else-number-labels w ↦ inr (omega (arith, w.if-number-labels.false, c.from-labels.ensures, c.labels.ensures.value, ap (λ b. b.labels) of_seat))
-      | else-number-labels-via-then-number-labels+else-is_legal w ↦ inl (λ legal. let impossible = w.if-is_legal.ensures.1 legal in cc)
+      | else-number-labels-via-else-number-labels w ↦
+          inr (omega (
+            arith,
+            w.if-number-labels.false,
+            c.from-labels.ensures,
+            c.labels.ensures.value,
+            ap (λ b. b.labels) of_seat,
+          ))
+      | else-number-labels-via-then-number-labels+else-is_legal w ↦
+          inl (λ legal. let impossible = w.if-is_legal.ensures.1 legal in cc)
     ])))
 
 pub returns-in-Quit-clause-said : goal.returns-in-Quit-clause-said
 returns-in-Quit-clause-said c =
     let seat = c.args.self.now in
-    says_line c.end_stopped.result _ _ (stopped_line c.self.inside.requests) (Some (Stopped c.self.inside.requests)) (λ end said. IsResponseToMeaning (PersonAnswers seat.board) (Going seat.at seat.requests) c.args.meaning said (standing_of end seat.at seat.requests))
+    says_line c.end_stopped.result _ _ (stopped_line c.self.inside.requests) (Some (Stopped c.self.inside.requests))
+    (λ end said. IsResponseToMeaning (PersonAnswers seat.board) (Going seat.at seat.requests) c.args.meaning said
+    (standing_of end seat.at seat.requests))
     c.end_stopped.ensures (rw (c.in-Quit.is, ap (λ s. s.requests) c.self.view_is) (stop_asked seat))
 
 pub returns-in-Other-clause-said : goal.returns-in-Other-clause-said
 returns-in-Other-clause-said c =
     let seat = c.args.self.now in
     let of_seat = c.board.ensures ∙ ap (λ s. s.board) c.self.view_is in
-    says_line c.say_no_answer-in-Other.result _ _ no_answer_line None (λ end said. IsResponseToMeaning (PersonAnswers seat.board) (Going seat.at seat.requests) c.args.meaning said (standing_of end seat.at seat.requests)) c.say_no_answer-in-Other.ensures
+    says_line c.say_no_answer-in-Other.result _ _ no_answer_line None
+    (λ end said. IsResponseToMeaning (PersonAnswers seat.board) (Going seat.at seat.requests) c.args.meaning said
+    (standing_of end seat.at seat.requests)) c.say_no_answer-in-Other.ensures
     (rw c.in-Other.is (no_label seat (subst (λ b. b.labels ≤ MAX_LABELS) of_seat c.labels.ensures.is_board.labels.1)))

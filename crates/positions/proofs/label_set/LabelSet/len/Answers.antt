@@ -14,7 +14,8 @@ overflow_add-count c =
     let l = c.loop-word in
     let is = rw (← c.self.view_is) at l.invariant in
     let small : get_or words l.word-index 0 < 2 ^ 64 = search rules in
-    let few = bits_few words (64 * (l.word-index + 1)) (l.count + ones (get_or words l.word-index 0)) (bits_more words l.word-index l.count small is) in
+    let few = bits_few words (64 * (l.word-index + 1)) (l.count + ones (get_or words l.word-index 0))
+    (bits_more words l.word-index l.count small is) in
     omega (arith, few)
 
 pub loop-word-preserved : goal.loop-word-preserved
@@ -26,4 +27,5 @@ loop-word-preserved c =
     rw (← c.self.view_is) (bits_more words l.word-index l.count small is)
 
 pub returns : goal.returns
-returns c = size_of_bits c.args.self.now (64 * c.loop-word.word-index) c.loop-word.count (omega arith) c.loop-word.invariant
+returns c =
+    size_of_bits c.args.self.now (64 * c.loop-word.word-index) c.loop-word.count (omega arith) c.loop-word.invariant

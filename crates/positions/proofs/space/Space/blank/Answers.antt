@@ -11,5 +11,15 @@ returns-then-value-self c =
 pub returns : goal.returns
 returns c =
     let are = numbers c.args.self.now c.self.inside c.self.view_is c.self.invariant in
-    let both = labels_and_places c.args.self.now in
-    (are.labels_is, omega (arith, are.base_is, c.value.ensures.value, are.labels_is, c.if-value-self.false, both.0, both.1))
+    let both = labels_and_places c.args.self.now in (
+      are.labels_is,
+      omega (
+        arith,
+        are.base_is,
+        c.value.ensures.value,
+        are.labels_is,
+        c.if-value-self.false,
+        both.0,
+        both.1,
+      ),
+    )

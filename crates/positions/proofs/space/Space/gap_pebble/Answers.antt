@@ -10,7 +10,8 @@ quotient-requires-clause-few c =
 
 pub quotient-requires-clause-not_many : goal.quotient-requires-clause-not_many
 quotient-requires-clause-not_many c =
-    subst (λ n. c.args.gap ≤ MAX_CONFIGURATIONS * n) (sym c.tuples.ensures.value) (gap_divides c.args.self.now c.args.gap c.tuples.ensures.is_board c.tuples.ensures.few c.requires).1
+    subst (λ n. c.args.gap ≤ MAX_CONFIGURATIONS * n) (sym c.tuples.ensures.value)
+    (gap_divides c.args.self.now c.args.gap c.tuples.ensures.is_board c.tuples.ensures.few c.requires).1
 
 pub overflow_cast-result : goal.overflow_cast-result
 overflow_cast-result c =

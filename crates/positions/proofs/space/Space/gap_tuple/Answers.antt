@@ -9,4 +9,5 @@ rest-requires-clause-few c =
 
 pub rest-requires-clause-not_many : goal.rest-requires-clause-not_many
 rest-requires-clause-not_many c =
-    subst (λ n. c.args.gap ≤ MAX_CONFIGURATIONS * n) (sym c.tuples.ensures.value) (gap_divides c.args.self.now c.args.gap c.tuples.ensures.is_board c.tuples.ensures.few c.requires).1
+    subst (λ n. c.args.gap ≤ MAX_CONFIGURATIONS * n) (sym c.tuples.ensures.value)
+    (gap_divides c.args.self.now c.args.gap c.tuples.ensures.is_board c.tuples.ensures.few c.requires).1

@@ -11,7 +11,8 @@ abbrev pub invariant-loop-label : goal.invariant-loop-label
 invariant-loop-label l = record {
   most : l.answers.from ≤ MAX_LABELS;
   left : AreFrom (Legal l.checker.board (configuration_at l.checker.board l.self.at) l.self.ask) l.answers;
-  before : (earlier : ℕ) → earlier < l.answers.from → MeetsAnswer l.checker.board l.checker.proof.adversary (request_row l.checker.board l.self) earlier;
+  before : (earlier : ℕ) → earlier < l.answers.from
+      → MeetsAnswer l.checker.board l.checker.proof.adversary (request_row l.checker.board l.self) earlier;
 }
 
 abbrev pub decreases-loop-label : goal.decreases-loop-label

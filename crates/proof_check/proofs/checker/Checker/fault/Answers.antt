@@ -9,22 +9,27 @@ use Rattle.proof_check.proofs.checker.Checker.fault.Goals as goal
 pub returns-in-Some-first_fault : goal.returns-in-Some-first_fault
 returns-in-Some-first_fault g c =
     let v = c.args.self.now in
-    let starts : StartServes v.board v.proof = record { labeller = c.in_default.ensures; adversary = c.in_default-bound_fault.ensures } in
+    let starts : StartServes v.board v.proof =
+    record { labeller = c.in_default.ensures; adversary = c.in_default-bound_fault.ensures } in
     let rows = ap (answer_rows v.board) c.rows.ensures ∙ c.labeller.ensures.rows in
     let wrong =
-    fault_of_seen (answer_row v.board) (MeetsRequests v.board v.proof.labeller) (IsWrongAnswer v.board v.proof.labeller) _ v.proof.labeller
+    fault_of_seen (answer_row v.board) (MeetsRequests v.board v.proof.labeller)
+    (IsWrongAnswer v.board v.proof.labeller) _ v.proof.labeller
     (Some c.in-Some-first_fault.fault) rows c.in-Some-first_fault.ensures in
     inr (inr (inr (inl (starts, wrong))))
 
 pub returns : goal.returns
 returns g c =
     let v = c.args.self.now in
-    let starts : StartServes v.board v.proof = record { labeller = c.in_default.ensures; adversary = c.in_default-bound_fault.ensures } in
+    let starts : StartServes v.board v.proof =
+    record { labeller = c.in_default.ensures; adversary = c.in_default-bound_fault.ensures } in
     let rows = ap (answer_rows v.board) c.rows.ensures ∙ c.labeller.ensures.rows in
     let obeys =
-    fault_of_seen (answer_row v.board) (MeetsRequests v.board v.proof.labeller) (IsWrongAnswer v.board v.proof.labeller) _ v.proof.labeller
+    fault_of_seen (answer_row v.board) (MeetsRequests v.board v.proof.labeller)
+    (IsWrongAnswer v.board v.proof.labeller) _ v.proof.labeller
     None rows c.in_default-first_fault.ensures in
     let requests = ap (request_rows v.board) c.rows-2.ensures ∙ c.adversary.ensures.rows in
     by_adversary v.board v.proof c.first_fault-2.result starts obeys
-    (fault_of_seen (request_row v.board) (MeetsAnswers v.board v.proof.adversary) (IsWrongRequest v.board v.proof.adversary) _ v.proof.adversary
+    (fault_of_seen (request_row v.board) (MeetsAnswers v.board v.proof.adversary)
+    (IsWrongRequest v.board v.proof.adversary) _ v.proof.adversary
     c.first_fault-2.result requests c.first_fault-2.ensures)

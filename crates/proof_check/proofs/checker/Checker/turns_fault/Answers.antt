@@ -22,7 +22,8 @@ returns c = λ configuration is number.
     let v = c.args.self.now in
     let all = c.labeller.ensures in
     let row = answer_row v.board c.in-Some.row.now in
-    let found = row_for v.board (answer_row v.board) (λ r. r.at) (λ r. r.at) (λ r. refl) c.labeller.result.now v.proof.labeller
+    let found = row_for v.board (answer_row v.board) (λ r. r.at) (λ r. r.at)
+    (λ r. refl) c.labeller.result.now v.proof.labeller
     all.rows all.ready.ranked c.args.rank configuration is number c.in-Some.row.now c.in-Some.ensures in
     let some : IsWanted c.args.wanted = search rules in
     let enough : IsTrue (not c.lt.result) ↔ IsEnough c.args.wanted row.turns = search rules in

@@ -4,4 +4,5 @@ use Rattle.proof_text.specs.Rules.{MeetsRequest}
 use Rattle.proof_check.proofs.labeller.LabellerRowCheckedRow.fault.Given as goal
 
 abbrev pub invariant-loop-pebble : goal.invariant-loop-pebble
-invariant-loop-pebble l = (earlier : ℕ) → earlier < l.pebble → MeetsRequest l.checker.board l.checker.proof.labeller (answer_row l.checker.board l.self) earlier
+invariant-loop-pebble l = (earlier : ℕ) → earlier < l.pebble
+    → MeetsRequest l.checker.board l.checker.proof.labeller (answer_row l.checker.board l.self) earlier

@@ -33,19 +33,24 @@ pub returns-then-rank-least : goal.returns-then-rank-least
 returns-then-rank-least c =
     let taken = words_of (goal.at.returns-then-rank-least c).In-Some in
     let read = ranked_request taken c.if-not-values.false c.in-Some-ask.ask c.in-Some-ask.is c.args._claim
-    c.in-Some-left.left _ c.rank-rank.result c.in-Some-left.is c.pebbles-pebbles.ensures.value c.rank-rank.ensures.rank in
-    row_order c.args.space.now (adversary_form c.args.space.now c.args._claim) c.args.least read c.rank-rank.ensures.below
+    c.in-Some-left.left _ c.rank-rank.result c.in-Some-left.is c.pebbles-pebbles.ensures.value
+    c.rank-rank.ensures.rank in
+    row_order c.args.space.now
+    (adversary_form c.args.space.now c.args._claim) c.args.least read c.rank-rank.ensures.below
     c.if-rank-least.true
 
 pub returns : goal.returns
 returns c =
     let taken = words_of (goal.at.returns c).In-Some in
     let read = ranked_request taken c.if-not-values.false c.in-Some-ask.ask c.in-Some-ask.is c.args._claim
-    c.in-Some-left.left _ c.rank-rank.result c.in-Some-left.is c.pebbles-pebbles.ensures.value c.rank-rank.ensures.rank in
+    c.in-Some-left.left _ c.rank-rank.result c.in-Some-left.is c.pebbles-pebbles.ensures.value
+    c.rank-rank.ensures.rank in
     row_next c.args.space.now (adversary_form c.args.space.now c.args._claim) c.args.least read
     c.rank-rank.ensures.below c.pebbles-pebbles.ensures.few c.if-rank-least.false
 
 pub request_words-requires-clause-places : goal.request_words-requires-clause-places
 request_words-requires-clause-places c =
-    let both = labels_and_places c.args.space.now in
-    (omega (arith, both.0, c.labels.ensures.value, c.places.ensures.value), omega (arith, both.1, c.labels.ensures.value, c.places.ensures.value))
+    let both = labels_and_places c.args.space.now in (
+      omega (arith, both.0, c.labels.ensures.value, c.places.ensures.value),
+      omega (arith, both.1, c.labels.ensures.value, c.places.ensures.value),
+    )

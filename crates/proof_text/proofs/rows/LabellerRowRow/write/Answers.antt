@@ -7,7 +7,8 @@ use Rattle.positions.specs.declared.claim.Claim.TheVariants.{Forever}
 use Rattle.proof_text.specs.ProofText.{turns_text}
 use Rattle.proof_text.proofs.RowLemmas.{line_written}
 use Rattle.proof_text.proofs.rows.LabellerRowRow.write.Goals as goal
-use Rattle.proof_text.proofs.rows.LabellerRowRow.write.Goals.{in-Count+in_ok-write_number-in-Count, in-Always+in_ok-push_str-in-Always}
+use Rattle.proof_text.proofs.rows.LabellerRowRow.write.Goals.{in-Count+in_ok-write_number-in-Count}
+use Rattle.proof_text.proofs.rows.LabellerRowRow.write.Goals.{in-Always+in_ok-push_str-in-Always}
 
 pub write_labels-requires : goal.write_labels-requires
 write_labels-requires c = c.requires Forever
@@ -26,6 +27,7 @@ returns c =
     let written : string_bytes c.write_places.new.text ≡ string_bytes c.push_str-3.new.self ++ answers =
     rw (c.labels.ensures.value, c.pebbles-pebbles.ensures.value) at c.in_ok-write_places.ensures in
     on_ok_weaker c.push_str-4.result (λ e claim. e)
-    (line_written c.push_str-4.result (codes "at") labels (codes " for") (32 ∷ turns_text row.turns) (codes " take") answers _ _ _ _ _ _ _ _
+    (line_written c.push_str-4.result (codes "at") labels (codes " for") (32 ∷ turns_text row.turns)
+    (codes " take") answers _ _ _ _ _ _ _ _
     c.in_ok-push_str.ensures.bytes c.in_ok-write_labels.ensures c.in_ok-push_str-2.ensures.bytes turns
     c.in_ok-push_str-3.ensures.bytes written c.push_str-4.ensures.bytes)

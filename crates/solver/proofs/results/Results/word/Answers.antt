@@ -16,7 +16,9 @@ returns c = λ configuration pebble.
     let words = c.self.inside.words.now in
     let low : c.args.place < places n.board = rw (← c.self.view_is) at c.requires in
     subst (λ (v : NumberedGap). IsRequestIn v configuration pebble
-    → HasValue v.game.board (moved configuration pebble c.args.place) (value_with_word (slice_index words c.member.result))) c.self.view_is (λ request.
-    let word = word-there n c.self.invariant.is_board c.self.inside.gap configuration pebble request words c.self.invariant.valued c.args.place low in
+    → HasValue v.game.board (moved configuration pebble c.args.place)
+    (value_with_word (slice_index words c.member.result))) c.self.view_is (λ request.
+    let word = word-there n c.self.invariant.is_board c.self.inside.gap configuration pebble request words
+    c.self.invariant.valued c.args.place low in
     value-with n.board (moved configuration pebble c.args.place) words c.member.result _
     (rw c.member.ensures.member word) refl)

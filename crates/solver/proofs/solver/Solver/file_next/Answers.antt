@@ -1,4 +1,5 @@
-use Rattle.std.proofs.Common.{◌≡◌, ◌≢◌, ◌-◌, ◌∙◌, ℕ, suc, length, true, false, refl, sym, ap, subst, arith, vec_capacity}
+use Rattle.std.proofs.Common.{◌≡◌, ◌≢◌, ◌-◌, ◌∙◌, ℕ, suc, length, true, false, refl, sym, ap, subst, arith}
+use Rattle.std.proofs.Common.{vec_capacity}
 use Rattle.graphs.specs.Numbered.{Numbered}
 use Rattle.solver.specs.Solving.{HasFoundNone, IsSolving, NoneHas, Solving}
 use Rattle.solver.specs.Inside.Stage.{PlainStage, at_next_value, filed_at, IsEquipped, IsState}
@@ -13,13 +14,15 @@ returns-then-self-clause-none g c = λ _.
     (none-has c.self.inside.stage _ c.self.inside.done c.self.invariant.0 c.if-self.true, refl, c.if-self.true)
 
 pub returns-then-self-clause-kept : goal.returns-then-self-clause-kept
-returns-then-self-clause-kept g c = subst IsSolving c.self.view_is (solving_of c.self.inside.stage _ c.self.inside.done c.self.invariant.0)
+returns-then-self-clause-kept g c =
+    subst IsSolving c.self.view_is (solving_of c.self.inside.stage _ c.self.inside.done c.self.invariant.0)
 
 pub file-requires-clause-striking : goal.file-requires-clause-striking
 file-requires-clause-striking g c = to-begin c.self.inside.stage _ c.self.inside.done c.self.invariant.0 c.if-self.false
 
 pub file-requires-clause-unstruck : goal.file-requires-clause-unstruck
-file-requires-clause-unstruck g c = unstruck-of c.self.inside.stage _ c.self.inside.done c.self.invariant.0 c.if-self.false
+file-requires-clause-unstruck g c =
+    unstruck-of c.self.inside.stage _ c.self.inside.done c.self.invariant.0 c.if-self.false
 
 -- the stage after a round that filed nothing, and its state at the value that it goes back to
 module _ (g : Given.Over) (c : Then-filed-eq0 g) where
@@ -27,7 +30,8 @@ module _ (g : Given.Over) (c : Then-filed-eq0 g) where
   ended = c.file.new.stage
 
   last : IsState ended (c.self.inside.stage.value - 1) true
-  last = last-state c.self.inside.stage _ c.self.inside.done c.self.invariant.0 ended c.file.ensures.struck c.file.ensures.kept
+  last = last-state c.self.inside.stage _ c.self.inside.done c.self.invariant.0 ended c.file.ensures.struck
+      c.file.ensures.kept
       (sym c.filed-filed.ensures ∙ c.if-filed-eq0.true)
 
   same : c.self.inside.stage.value - 1 ≡ ended.value - 1
@@ -38,7 +42,8 @@ module _ (g : Given.Over) (c : Then-filed-eq0 g) where
 
   equipped : IsEquipped ended.game c.self.inside.space c.self.inside.weights.items c.self.inside.sizes.items
       (vec_capacity c.self.inside.sizes)
-  equipped = subst (λ (n : Numbered). IsEquipped n c.self.inside.space c.self.inside.weights.items c.self.inside.sizes.items
+  equipped = subst
+      (λ (n : Numbered). IsEquipped n c.self.inside.space c.self.inside.weights.items c.self.inside.sizes.items
       (vec_capacity c.self.inside.sizes))
       (sym c.file.ensures.kept.game_is) c.self.invariant.1
 
@@ -49,8 +54,13 @@ pub returns-then-filed-eq0-clause-none : goal.returns-then-filed-eq0-clause-none
 returns-then-filed-eq0-clause-none g c = λ _.
     let now : PlainStage = c.file.new.stage in
     let at = (goal.at.returns-then-filed-eq0-clause-none g c).Then-filed-eq0 in
-    subst (λ (v : Solving). NoneHas v.game.board (suc v.rounds) × (now.value - 1 ≡ v.rounds) × (true ≡ true)) c.self.view_is
-    (subst (λ (t : Numbered). NoneHas t.board (suc (c.self.inside.stage.value - 1))) c.file.ensures.kept.game_is (none-has now _ true (last g at) refl), sym (same g at), refl)
+    subst (λ (v : Solving). NoneHas v.game.board (suc v.rounds) × (now.value - 1 ≡ v.rounds)
+    × (true ≡ true)) c.self.view_is (
+      subst (λ (t : Numbered). NoneHas t.board (suc (c.self.inside.stage.value - 1))) c.file.ensures.kept.game_is
+          (none-has now _ true (last g at) refl),
+      sym (same g at),
+      refl,
+    )
 
 pub returns-then-filed-eq0-clause-kept : goal.returns-then-filed-eq0-clause-kept
 returns-then-filed-eq0-clause-kept g c =
@@ -78,18 +88,21 @@ module _ (g : Given.Over) (c : Else-filed-eq0 g) where
 
   state-next : IsState (at_next_value more) ((at_next_value more).value - 1) false
   state-next = subst (λ n. IsState (at_next_value more) n false) next
-      (further-state c.self.inside.stage _ c.self.inside.done c.self.invariant.0 more c.file.ensures.struck c.file.ensures.kept c.if-self.false filed)
+      (further-state c.self.inside.stage _ c.self.inside.done c.self.invariant.0 more c.file.ensures.struck
+      c.file.ensures.kept c.if-self.false filed)
 
   equipped-next : IsEquipped more.game c.self.inside.space c.self.inside.weights.items c.self.inside.sizes.items
       (vec_capacity c.self.inside.sizes)
-  equipped-next = subst (λ (n : Numbered). IsEquipped n c.self.inside.space c.self.inside.weights.items c.self.inside.sizes.items
+  equipped-next =
+      subst (λ (n : Numbered). IsEquipped n c.self.inside.space c.self.inside.weights.items c.self.inside.sizes.items
       (vec_capacity c.self.inside.sizes))
       (sym c.file.ensures.kept.game_is) c.self.invariant.1
 
 pub begin_next_value-requires : goal.begin_next_value-requires
 begin_next_value-requires g c =
     let at = (goal.at.begin_next_value-requires g c).Else-filed-eq0 in
-    next-below c.self.inside.stage _ c.self.inside.done c.self.invariant.0 c.file.new.stage c.file.ensures.struck c.file.ensures.kept (filed g at)
+    next-below c.self.inside.stage _ c.self.inside.done c.self.invariant.0 c.file.new.stage c.file.ensures.struck
+    c.file.ensures.kept (filed g at)
 
 pub invariant_of-self-2 : goal.invariant_of-self-2
 invariant_of-self-2 g c =

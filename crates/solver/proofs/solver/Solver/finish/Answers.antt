@@ -20,7 +20,8 @@ pub with_space-requires : goal.with_space-requires
 with_space-requires g c =
     let n : Numbered = c.args.self.game in
     let found = ranks_space n.numbering n.board _ c.requires.ordered c.close-numbered.ensures.space in
-    with-ranks n c.close-numbered.result.0 c.in-Some.space c.close-numbered.ensures.values c.close-numbered.ensures.is_board
+    with-ranks n c.close-numbered.result.0 c.in-Some.space c.close-numbered.ensures.values
+    c.close-numbered.ensures.is_board
     (same_some _ _ (sym c.in-Some.is ∙ found.0)) found.1
 
 pub unreachable-requires : goal.unreachable-requires

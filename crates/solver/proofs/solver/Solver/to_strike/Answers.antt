@@ -10,4 +10,5 @@ returns-clause-ranks g c =
     (is ∙ due-is c.self.inside.stage _ c.self.inside.done c.self.invariant.0)) c.due.ensures
 
 pub returns-clause-kept : goal.returns-clause-kept
-returns-clause-kept g c = subst IsSolving c.self.view_is (solving_of c.self.inside.stage _ c.self.inside.done c.self.invariant.0)
+returns-clause-kept g c =
+    subst IsSolving c.self.view_is (solving_of c.self.inside.stage _ c.self.inside.done c.self.invariant.0)

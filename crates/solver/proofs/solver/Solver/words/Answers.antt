@@ -6,7 +6,8 @@ use Rattle.solver.proofs.States.{first-values}
 use Rattle.solver.proofs.solver.Solver.words.Goals as goal
 
 pub returns-clause-size : goal.returns-clause-size
-returns-clause-size g c = subst (λ (v : Solving). length c.words.result.now ≡ (graph_of v.game).configurations) c.self.view_is
+returns-clause-size g c =
+    subst (λ (v : Solving). length c.words.result.now ≡ (graph_of v.game).configurations) c.self.view_is
     (ap length c.words.ensures ∙ c.self.invariant.0.stage.filed_are.values_length)
 
 pub returns-clause-values : goal.returns-clause-values

@@ -16,9 +16,11 @@ append_list-requires-clause-room g c =
     omega (arith, none, c.in_ok-filed.ensures.capacity, c.len.ensures.len)
 
 -- the appended configurations are the store's list
-copied : (g : Given.Over) (c : After-deref g) → c.deref.result.now ≡ (g.S.ListStore.state c.self.inside.buckets).list (c.self.inside.value - 1)
+copied : (g : Given.Over) (c : After-deref g)
+    → c.deref.result.now ≡ (g.S.ListStore.state c.self.inside.buckets).list (c.self.inside.value - 1)
 copied g c = c.deref.ensures.value ∙ c.append_list.ensures.appended
-    ∙ ap (λ (xs : List ℕ). xs ++ (g.S.ListStore.state c.self.inside.buckets).list (c.self.inside.value - 1)) c.in_ok-filed.ensures.items
+    ∙ ap (λ (xs : List ℕ). xs ++ (g.S.ListStore.state c.self.inside.buckets).list
+    (c.self.inside.value - 1)) c.in_ok-filed.ensures.items
 
 pub answers_among-requires : goal.answers_among-requires
 answers_among-requires g c = λ rank some.
@@ -33,5 +35,6 @@ returns g c =
     let test = is_struck (graph_of c.args.self.now.game) in
     let shown = filed-shown _ _ _ _ _ _ _ c.self.view_is c.self.invariant.2.are_lists (c.self.inside.value - 1) in
     let bucket : c.deref.result.now ≡ filed_at c.args.self.now (c.args.self.now.value - 1) =
-    copied g (goal.at.returns g c).After-deref ∙ sym shown ∙ ap (λ (v : PlainStage). filed_at c.args.self.now (v.value - 1)) c.self.view_is in
+    copied g (goal.at.returns g c).After-deref ∙ sym shown
+    ∙ ap (λ (v : PlainStage). filed_at c.args.self.now (v.value - 1)) c.self.view_is in
     IfOk-weaker c.answers_among.result _ _ (λ found is. is ∙ ap (filter test) bucket) c.answers_among.ensures

@@ -25,5 +25,8 @@ loop-rank-preserved g c =
     let rank : ℕ = get_or xs i 0 in
     let next = is-next xs i c.loop-rank-test.true c.requires.once in
     let is_open_there = c.requires.open rank next.there in
-    let more = files-more c.args.self.now (take i xs) rank c.loop-rank.self c.requires.small.few c.requires.small.low is_open_there.0 is_open_there.1 next.new c.loop-rank.invariant in
-    subst (λ (l : List ℕ). FilesAll c.args.self.now l c.file.new.self) (sym next.front) (subst (FilesAll c.args.self.now (take i xs ++ rank ∷ [])) (sym c.file.ensures) more)
+    let more = files-more c.args.self.now
+    (take i xs) rank c.loop-rank.self c.requires.small.few c.requires.small.low is_open_there.0 is_open_there.1
+    next.new c.loop-rank.invariant in
+    subst (λ (l : List ℕ). FilesAll c.args.self.now l c.file.new.self) (sym next.front)
+    (subst (FilesAll c.args.self.now (take i xs ++ rank ∷ [])) (sym c.file.ensures) more)

@@ -12,4 +12,5 @@ returns-then-value-configurations g c =
 
 pub returns : goal.returns
 returns g c = c.first.ensures.first
-    ∙ ap (λ (xs : List ℕ). slice_get xs 0) (sym (filed-shown _ _ _ _ _ _ _ c.self.view_is c.self.invariant.2.are_lists c.args.value))
+    ∙ ap (λ (xs : List ℕ). slice_get xs 0)
+    (sym (filed-shown _ _ _ _ _ _ _ c.self.view_is c.self.invariant.2.are_lists c.args.value))

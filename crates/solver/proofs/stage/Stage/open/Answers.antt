@@ -10,7 +10,8 @@ list_zeros-requires g c =
       value_is = refl;
       counts_are = c.in_ok-counts.ensures;
       words_are = c.in_ok-values.ensures;
-      lists_length = length-map-range_with_len (g.S.ListStore.state c.in_ok-buckets.buckets).list 0 _ ∙ lists.empty.same_lists
+      lists_length =
+          length-map-range_with_len (g.S.ListStore.state c.in_ok-buckets.buckets).list 0 _ ∙ lists.empty.same_lists
           ∙ ap (λ n. n + 1) c.configurations-size.ensures.value;
       lists_are = λ v. list-shown _ lists.kept v ∙ lists.empty.same_list v;
     }

@@ -19,5 +19,6 @@ returns g c =
     let strikes : c.append_list.new.to.items ≡ filed_at was (s.value - 1) =
     c.append_list.ensures.appended ∙ ap (λ (xs : List ℕ). xs ++ stored.list (s.value - 1)) c.clear.ensures.items
     ∙ sym (list-shown stored c.self.invariant.2.are_lists (s.value - 1)) in
-    subst (λ (v : PlainStage). stage_of s.graph s.value s.values.items s.counts.items stored c.append_list.new.to.items ≡ strikes_copied v)
+    subst (λ (v : PlainStage). stage_of s.graph s.value s.values.items s.counts.items stored c.append_list.new.to.items
+    ≡ strikes_copied v)
     c.self.view_is (ap (stage_of s.graph s.value s.values.items s.counts.items stored) strikes)

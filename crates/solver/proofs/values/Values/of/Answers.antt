@@ -12,7 +12,8 @@ of-requires c =
     let held : take c.pebbles.result c.places_at-held.result ≡ configuration_at space c.args.rank =
     ap (λ n. take n c.places_at-held.result) c.pebbles.ensures.value ∙ c.places_at-held.ensures in
     subst (λ (l : List ℕ). IsConfiguration c.self.inside.numbered.board l) (sym held)
-    (subst (λ (b : PlainBoard). IsConfiguration b (configuration_at space c.args.rank)) (sym c.self.invariant.same_board)
+    (subst (λ (b : PlainBoard). IsConfiguration b (configuration_at space c.args.rank))
+    (sym c.self.invariant.same_board)
     (configuration_at_is space c.args.rank low))
 
 pub returns : goal.returns

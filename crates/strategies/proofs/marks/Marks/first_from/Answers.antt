@@ -12,23 +12,31 @@ returns-then-first-size-clause-first c =
     let at = (goal.at.returns-then-first-size-clause-first c).After-index in
     let s = c.self.inside in
     let fits : c.index.result.now < 2 ^ 64 = search rules in
-    let first = first_in_word s.words.items c.loop-number.number c.index.result.now (in-words at) c.index.ensures c.args.bound (omega (arith, c.if-rest-ne0.true)) fits c.loop-number.invariant.none in
-    rw (← c.self.view_is) (first_mark s.size s.words.items c.args.bound _ (omega (arith, c.loop-number.invariant.above)) c.if-first-size.true first.0 first.1)
+    let first = first_in_word s.words.items c.loop-number.number c.index.result.now
+    (in-words at) c.index.ensures c.args.bound
+    (omega (arith, c.if-rest-ne0.true)) fits c.loop-number.invariant.none in
+    rw (← c.self.view_is) (first_mark s.size s.words.items c.args.bound _
+    (omega (arith, c.loop-number.invariant.above)) c.if-first-size.true first.0 first.1)
 
 pub returns-else-first-size-clause-first : goal.returns-else-first-size-clause-first
 returns-else-first-size-clause-first c =
     let at = (goal.at.returns-else-first-size-clause-first c).After-index in
     let s = c.self.inside in
     let fits : c.index.result.now < 2 ^ 64 = search rules in
-    let first = first_in_word s.words.items c.loop-number.number c.index.result.now (in-words at) c.index.ensures c.args.bound (omega (arith, c.if-rest-ne0.true)) fits c.loop-number.invariant.none in
+    let first = first_in_word s.words.items c.loop-number.number c.index.result.now
+    (in-words at) c.index.ensures c.args.bound
+    (omega (arith, c.if-rest-ne0.true)) fits c.loop-number.invariant.none in
     rw (← c.self.view_is) (no_mark s.size s.words.items c.args.bound _ c.if-first-size.false first.1)
 
 pub loop-number-preserved : goal.loop-number-preserved
 loop-number-preserved c = record {
   above = omega (arith, c.loop-number.invariant.above);
-  none = pass_word c.self.inside.words.items c.loop-number.number c.index.result.now (in-words (goal.at.loop-number-preserved c).After-index)
+  none = pass_word c.self.inside.words.items c.loop-number.number c.index.result.now
+      (in-words (goal.at.loop-number-preserved c).After-index)
       c.index.ensures c.args.bound c.if-rest-ne0.false c.loop-number.invariant.none;
 }
 
 pub returns-clause-first : goal.returns-clause-first
-returns-clause-first c = let s = c.self.inside in rw (← c.self.view_is) (no_mark s.size s.words.items c.args.bound c.loop-number.number c.loop-number-test.false c.loop-number.invariant.none)
+returns-clause-first c = let s = c.self.inside in
+    rw (← c.self.view_is) (no_mark s.size s.words.items c.args.bound c.loop-number.number c.loop-number-test.false
+    c.loop-number.invariant.none)

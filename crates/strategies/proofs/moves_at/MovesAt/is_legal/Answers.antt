@@ -12,7 +12,8 @@ pub returns : goal.returns
 returns c =
     let label = c.args.label in
     let few : label < MAX_LABELS = omega (arith, c.requires.label, c.results.ensures.is_board.labels.1) in
-    let legal = subst (λ (b : PlainBoard). IsInSet c.answers.result label ↔ Legal b c.args.self.now.held c.args.pebble label)
+    let legal = subst (λ (b : PlainBoard). IsInSet c.answers.result label
+    ↔ Legal b c.args.self.now.held c.args.pebble label)
     c.results.ensures.board (c.answers.ensures.legal _ c.args.pebble c.results.ensures.request label) in (
       λ yes. legal.0 (few, sym c.contains.ensures ∙ yes),
       λ allowed. c.contains.ensures ∙ (legal.1 allowed).1,

@@ -25,5 +25,6 @@ returns c =
     let all : b.pebbles ≤ c.loop-pebble.pebble = omega (arith, pebbles.value, c.loop-pebble-test.false) in
     record {
       best = λ other lowers. c.loop-pebble.invariant other (omega (arith, all, lowers.is_pebble)) lowers;
-      none = no_request b c.args.self.now.held c.loop-pebble.pebble pebbles.is_configuration all c.loop-pebble.invariant;
+      none =
+          no_request b c.args.self.now.held c.loop-pebble.pebble pebbles.is_configuration all c.loop-pebble.invariant;
     }

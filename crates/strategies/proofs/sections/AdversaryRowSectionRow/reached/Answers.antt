@@ -13,9 +13,11 @@ loop-rank-init c =
     record {
       size = c.in_ok-add.ensures.size ∙ c.in_ok-reached.ensures.size
           ∙ (rw c.space-space.ensures.value at c.configurations.ensures.value);
-      expanded = rw c.in_ok-expanded.ensures (none_expanded b c.gaps.result _ (rw c.space-space.ensures.value at c.gaps.ensures.value));
+      expanded = rw c.in_ok-expanded.ensures
+          (none_expanded b c.gaps.result _ (rw c.space-space.ensures.value at c.gaps.ensures.value));
       spread = spread_begins b _ _ _ is.start _
-          (added_one _ _ _ _ (rw (c.start.ensures.rank, c.in_ok-reached.ensures.empty) at c.in_ok-add.ensures.added) (tt, refl)
+          (added_one _ _ _ _ (rw (c.start.ensures.rank, c.in_ok-reached.ensures.empty) at c.in_ok-add.ensures.added)
+          (tt, refl)
           (λ rank starts. starts.1));
     }
 
@@ -25,12 +27,14 @@ add_results-requires-clause-rank c =
 
 pub overflow_add-index : goal.overflow_add-index
 overflow_add-index c =
-    let place = slice_get_within c.loop-rank.reached.ranks c.loop-rank.index c.in-Some.rank (sym c.in-Some.ensures.rank) in
+    let place = slice_get_within c.loop-rank.reached.ranks c.loop-rank.index c.in-Some.rank
+    (sym c.in-Some.ensures.rank) in
     omega (arith, place, c.in-Some.ensures.few, c.loop-rank.invariant.size, c.start.ensures.few)
 
 pub loop-rank-smaller : goal.loop-rank-smaller
 loop-rank-smaller c =
-    let place = slice_get_within c.loop-rank.reached.ranks c.loop-rank.index c.in-Some.rank (sym c.in-Some.ensures.rank) in
+    let place = slice_get_within c.loop-rank.reached.ranks c.loop-rank.index c.in-Some.rank
+    (sym c.in-Some.ensures.rank) in
     omega (arith, place, c.in-Some.ensures.few, c.loop-rank.invariant.size)
 
 pub loop-rank-preserved : goal.loop-rank-preserved
@@ -39,7 +43,8 @@ loop-rank-preserved c =
     record {
       size = c.in_ok-add_results.ensures.size ∙ c.loop-rank.invariant.size;
       expanded = c.in_ok-add_results.ensures.expanded;
-      spread = spread_more c.args.moves.now _ _ _ is.start (request_moves c.args.moves.now) c.loop-rank.index c.in-Some.rank _ _
+      spread = spread_more c.args.moves.now _ _ _ is.start
+          (request_moves c.args.moves.now) c.loop-rank.index c.in-Some.rank _ _
           c.loop-rank.invariant.spread (sym c.in-Some.ensures.rank)
           c.in_ok-add_results.ensures.added;
     }
@@ -48,7 +53,8 @@ pub returns-clause-reached : goal.returns-clause-reached
 returns-clause-reached c = λ start.
     let is = c.start.ensures.is_board.start in
     record {
-      each = spread_ends c.args.moves.now _ _ _ is (request_moves c.args.moves.now) c.loop-rank.index _ c.loop-rank.invariant.spread
+      each = spread_ends c.args.moves.now _ _ _ is
+          (request_moves c.args.moves.now) c.loop-rank.index _ c.loop-rank.invariant.spread
           (sym c.in_default.ensures.rank);
       rows = adversarys c.args.moves.now start is;
     }

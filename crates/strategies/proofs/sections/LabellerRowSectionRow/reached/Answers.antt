@@ -27,7 +27,8 @@ loop-rank-init c =
       | else-lt w ↦ rw (w.reached-is, c.in_ok-reached.ensures.empty) (record {
         size = size;
         spread = spread_begins b _ _ _ is [] (added_known [] _ (λ rank starts. absurd
-            (worthless b _ c.value.result (start_value b c.start-start.result c.value.result is c.start-start.ensures.rank c.value.ensures)
+            (worthless b _ c.value.result
+            (start_value b c.start-start.result c.value.result is c.start-start.ensures.rank c.value.ensures)
             (search rules) starts.0)));
       })
     ]
@@ -38,18 +39,21 @@ add_answers-requires-clause-rank c =
 
 pub overflow_add-index : goal.overflow_add-index
 overflow_add-index c =
-    let place = slice_get_within c.loop-rank.reached.ranks c.loop-rank.index c.in-Some.rank (sym c.in-Some.ensures.rank) in
+    let place = slice_get_within c.loop-rank.reached.ranks c.loop-rank.index c.in-Some.rank
+    (sym c.in-Some.ensures.rank) in
     omega (arith, place, c.in-Some.ensures.few, c.loop-rank.invariant.size, c.start-start.ensures.few)
 
 pub loop-rank-smaller : goal.loop-rank-smaller
 loop-rank-smaller c =
-    let place = slice_get_within c.loop-rank.reached.ranks c.loop-rank.index c.in-Some.rank (sym c.in-Some.ensures.rank) in
+    let place = slice_get_within c.loop-rank.reached.ranks c.loop-rank.index c.in-Some.rank
+    (sym c.in-Some.ensures.rank) in
     omega (arith, place, c.in-Some.ensures.few, c.loop-rank.invariant.size)
 
 pub loop-rank-preserved : goal.loop-rank-preserved
 loop-rank-preserved c = record {
   size = c.in_ok-add_answers.ensures.size ∙ c.loop-rank.invariant.size;
-  spread = spread_more c.args.moves.now _ _ _ c.start-start.ensures.is_board.start (answer_moves c.args.moves.now) c.loop-rank.index c.in-Some.rank _ _
+  spread = spread_more c.args.moves.now _ _ _ c.start-start.ensures.is_board.start
+      (answer_moves c.args.moves.now) c.loop-rank.index c.in-Some.rank _ _
       c.loop-rank.invariant.spread (sym c.in-Some.ensures.rank)
       c.in_ok-add_answers.ensures.added;
 }
@@ -58,7 +62,8 @@ pub returns-clause-reached : goal.returns-clause-reached
 returns-clause-reached c = λ start.
     let is = c.start-start.ensures.is_board.start in
     record {
-      each = spread_ends c.args.moves.now _ _ _ is (answer_moves c.args.moves.now) c.loop-rank.index _ c.loop-rank.invariant.spread
+      each = spread_ends c.args.moves.now _ _ _ is
+          (answer_moves c.args.moves.now) c.loop-rank.index _ c.loop-rank.invariant.spread
           (sym c.in_default.ensures.rank);
       rows = labellers c.args.moves.now start is;
     }
