@@ -10,7 +10,7 @@ use crate::assertions::{assert_same, board_of};
 use board_text::Board;
 use fakes::boards::{CYCLE_WITHOUT_LABELS, THREE_CYCLE};
 use fakes::is_configuration;
-use graphs::{Graph, Numbering, has_few};
+use graphs::{Graph, MAX_PLACES, Numbering, has_few};
 use positions::Space;
 use std::alloc::Global;
 use std::process::Abort;
@@ -236,7 +236,8 @@ fn assert_members(rt: &impl Abort, graph: &Graph, worked: &Worked) {
     assert_same(rt, "gaps", graph.gaps() as usize, worked.members.len());
     for gap in 0..graph.gaps() {
         for place in 0..graph.places() {
-            let found = (graph.member(gap, place), graph.is_answer(gap, place));
+            let member = graph.member(gap, place);
+            let found = (member, graph.struck(member) == Some(gap));
             assert_same(
                 rt,
                 (gap, place),
@@ -249,8 +250,9 @@ fn assert_members(rt: &impl Abort, graph: &Graph, worked: &Worked) {
 
 /// Asserts the members of each gap as one row, and its answers as a set, among three labels.
 fn assert_rows(rt: &impl Abort, graph: &Graph, worked: &Worked) {
+    let mut members = [0; MAX_PLACES];
     for gap in 0..graph.gaps() {
-        let members = graph.members(gap);
+        graph.write_members(gap, &mut members);
         let row = &members[..graph.places() as usize];
         assert_same(
             rt,

@@ -16,7 +16,7 @@ use crate::class_numbers::ClassNumbers;
 use crate::families::struck_by;
 use crate::numbers::{MAX_PLACES, Numbers, Tables, all_struck};
 use crate::ordered_numbers::OrderedNumbers;
-use board_text::{Board, MAX_LABELS, Memory};
+use board_text::{Board, Memory};
 use classes::{MAX_CLASSES, has_few_classes};
 use positions::{LabelSet, MAX_CONFIGURATIONS, is_small};
 use std::alloc::Global;
@@ -183,17 +183,18 @@ impl Graph {
         }
     }
 
-    /// The members of `gap`, by place, which is in ascending order.
-    /// The entries after them say nothing.
-    pub fn members(&self, gap: u32) -> [u32; MAX_PLACES]
+    /// Writes the members of `gap` by place, in ascending order. The entries after them keep what
+    /// they had, so one array serves for gap after gap.
+    pub fn write_members(&self, gap: u32, members: &mut [u32; MAX_PLACES])
         requires { gap < (graph_of self.now).gaps }
-        ensures members { AreMembers (graph_of self.now) gap (graph_of self.now).places result }
+        ensures room { length members.new ≡ length members.old }
+        ensures members { AreMembers (graph_of self.now) gap (graph_of self.now).places members.new }
         ensures few { (graph_of self.now).places ≤ MAX_PLACES }
         ensures graph { IsGraph (graph_of self.now) }
     {
         match &self.finder {
-            Finder::Ranks(numbers) => numbers.members(gap),
-            Finder::Classes(numbers) => numbers.members(gap),
+            Finder::Ranks(numbers) => numbers.write_members(gap, members),
+            Finder::Classes(numbers) => numbers.write_members(gap, members),
         }
     }
 
@@ -206,17 +207,6 @@ impl Graph {
             Finder::Ranks(numbers) => numbers.answers(gap),
             Finder::Classes(numbers) => numbers.answers(gap),
         }
-    }
-
-    /// Whether the member of `gap` with `place` is an answer of the gap.
-    pub fn is_answer(&self, gap: u32, place: u32) -> bool
-        requires gap { gap < (graph_of self.now).gaps }
-        requires place { place < (graph_of self.now).places }
-        ensures { IsTrue result
-            ↔ ((graph_of self.now).struck ((graph_of self.now).member gap place) ≡ gap) }
-    {
-        let answers = self.answers(gap);
-        place < MAX_LABELS as u32 && answers.contains(place as u16)
     }
 
     /// The gap in which `configuration` is an answer, if there is one.

@@ -41,11 +41,12 @@ pub(crate) trait Numbers {
         requires place { place < (graph_of (game self.now)).places }
         ensures { result ≡ (graph_of (game self.now)).member gap place };
 
-    /// The members of `gap`, by place. The entries after them say nothing.
-    fn members(&self, gap: u32) -> [u32; MAX_PLACES]
+    /// Writes the members of `gap`, by place. The entries after them keep what they had.
+    fn write_members(&self, gap: u32, members: &mut [u32; MAX_PLACES])
         requires { gap < (graph_of (game self.now)).gaps }
-        ensures { AreMembers (graph_of (game self.now)) gap
-            (graph_of (game self.now)).places result };
+        ensures room { length members.new ≡ length members.old }
+        ensures members { AreMembers (graph_of (game self.now)) gap
+            (graph_of (game self.now)).places members.new };
 
     /// The answers of `gap`.
     fn answers(&self, gap: u32) -> LabelSet

@@ -11,7 +11,7 @@ use crate::stage::Stage;
 use crate::word::OPEN;
 use board_text::Memory;
 use classes::MAX_CLASSES;
-use graphs::Graph;
+use graphs::{Graph, MAX_PLACES};
 use index_lists::ListStore;
 use std::alloc::Global;
 
@@ -85,21 +85,22 @@ fn first_words(alloc: Global, graph: &Graph, counts: &[u32]) -> Result<Vec<u32>,
     ensures { IfOk result (λ words. AreFirstWords (graph_of graph.now) words.items) }
 {
     let mut words = vec![in alloc; OPEN; graph.configurations() as usize]?;
+    let mut members = [0; MAX_PLACES];
     for gap in 0..graph.gaps() {
         if counts[gap as usize] == 0 {
-            zero_members(&mut words, graph, gap);
+            zero_members(&mut words, graph, gap, &mut members);
         }
     }
     Ok(words)
 }
 
-/// Writes 0 as the word of each member of `gap`.
-fn zero_members(words: &mut [u32], graph: &Graph, gap: u32)
+/// Writes 0 as the word of each member of `gap`. The members are written to `members`.
+fn zero_members(words: &mut [u32], graph: &Graph, gap: u32, members: &mut [u32; MAX_PLACES])
     requires gap { gap < (graph_of graph.now).gaps }
     requires words { length words.old ≡ (graph_of graph.now).configurations }
     ensures { AreZeroed (graph_of graph.now) gap (graph_of graph.now).places words.old words.new }
 {
-    let members = graph.members(gap);
+    graph.write_members(gap, members);
     for place in 0..graph.places() {
         words[members[place as usize] as usize] = 0;
     }

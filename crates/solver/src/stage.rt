@@ -11,7 +11,7 @@ ghost use Rattle.solver.specs.Inside.Stage.{rank_filed, at_next_value, strikes_c
 ghost use Rattle.solver.specs.Inside.Stage.{IsKeptStage, Closes, IsStriking};
 
 use crate::word::OPEN;
-use graphs::Graph;
+use graphs::{Graph, MAX_PLACES};
 use index_lists::ListStore;
 use std::marker::Model;
 
@@ -77,7 +77,8 @@ impl<S: ListStore> Stage<S> {
         requires filed { IsFiled self.old }
         ensures { Closes self.old gap self.new }
     {
-        let members = self.graph.members(gap);
+        let mut members = [0; MAX_PLACES];
+        self.graph.write_members(gap, &mut members);
         for place in 0..self.graph.places() {
             let rank = members[place as usize];
             if self.values[rank as usize] == OPEN {

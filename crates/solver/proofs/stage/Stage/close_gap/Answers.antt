@@ -26,11 +26,11 @@ loop-place-preserved g c =
     let inside : c.loop-place.place < (graph_of s.game).places =
     omega (arith, c.loop-place-test.true, c.places-place-end.ensures, places_is) in
     let game_is : c.self.inside.graph ≡ s.game = ap (λ (v : PlainStage). v.game) c.self.view_is in
-    let rank : ℕ = slice_index c.members-members.result c.loop-place.place in
+    let rank : ℕ = slice_index c.write_members.new.members c.loop-place.place in
     let there : c.loop-place.place < (graph_of c.self.inside.graph).places =
     omega (arith, c.loop-place-test.true, c.places-place-end.ensures) in
     let rank_is : (graph_of s.game).member c.args.gap c.loop-place.place ≡ rank
-    = sym (c.members-members.ensures.members c.loop-place.place there
+    = sym (c.write_members.ensures.members c.loop-place.place there
     ∙ ap (λ (t : Numbered). (graph_of t).member c.args.gap c.loop-place.place) game_is) in
     let words : c.self-in-loop-place.inside.values.items ≡ now.values =
     ap (λ (v : PlainStage). v.values) c.self-in-loop-place.view_is in
