@@ -2,14 +2,14 @@
 
 ghost use Rattle.std.specs.Prelude.{◌≡◌, Some, false, codes, if◌then◌else◌};
 ghost use Rattle.std.specs.Str.{bytes_eq};
-ghost use Rattle.runs.specs.Folders.{Closed, Holds};
+ghost use Rattle.serving.specs.Folders.{Closed, Holds};
 
 use crate::outcomes::PLENTY;
 use board_text::{Failed, Source};
 use fakes::boards::{CHAIN_OF_THREE, LONE_LABEL};
 use fakes::documents::{CHAIN_LEAST_TWO, CHAIN_VALUE_TWO};
 use fakes::{Drip, Failing, Outcome, Trickle, comes_right};
-use runs::{Folder, Terminals, Trouble, Words, serve};
+use serving::{Folder, Terminals, Trouble, Words, serve};
 use std::alloc::Global;
 use std::sync::Wait;
 use std::thread::Threads;

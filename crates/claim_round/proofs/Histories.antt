@@ -112,7 +112,7 @@ module _ (k : Key) (words words' : List ℕ) (views : List View) (h : IsHistory 
   abbrev pub longer : List (Step × Seen)
   longer = h.steps ++ (step, answer) ∷ []
 
-  -- a strike or a try, whose answer is told to the seat
+  -- a strike or a claim, whose answer is told to the seat
   pub history-call : (id : ℕ) (v w : View) → get_elem? views id ≡ some v
       → Does (round_of_words k.solving k.width words (seats_of views)) step answer
       (round_of_words k.solving k.width words' (seats_of (set views id w)))

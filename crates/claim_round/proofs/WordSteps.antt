@@ -1,4 +1,4 @@
--- The steps of the machine on words in one list: the words that a strike and a try of a lawful
+-- The steps of the machine on words in one list: the words that a strike and a claim of a lawful
 -- round find, and their answers.
 use Rattle.std.proofs.Common.{◌≡◌, ◌≢◌, ◌⊎◌, ℕ, suc, ◌+◌, ◌-◌, ◌<◌, ◌==◌, Bool, true, false, cond, List, map, length}
 use Rattle.std.proofs.Common.{take, drop, set, sym, ap, ◌∙◌, inl, inr, subst, arith, Option, Some, None, get_or}
@@ -72,7 +72,7 @@ module _ (s : Solving) (w : ℕ) (words : List ℕ) (seats : List PlainSeat) (so
         };
       }
 
-  -- a try that found the word open, or the next value
+  -- a claim that found the word open, or the next value
   pub record IsWordWon (c : ℕ) (after : List PlainSeat) : Type 0 where
     pub is_open : slice_index words ((graph_of s.game).gaps + c) ≡ OPEN
     pub tries : Tries here id c true (round_of_words s w (set words ((graph_of s.game).gaps + c) (suc s.rounds)) after)

@@ -28,7 +28,7 @@ AreTold steps made = All (λ call. answer_in_history steps call.0 ≡ Some call.
 abbrev pub indexes_of : List (ℕ × Seen) → List ℕ
 indexes_of made = map (λ call. call.0) made
 
--- one for the answer of a strike or of a try, each of which is the call of a seat, and none for a
+-- one for the answer of a strike or of a claim, each of which is the call of a seat, and none for a
 -- split, a join or no step
 abbrev pub calls_of : Option Seen → ℕ
 calls_of (Some (seen.Struck config closed)) = 1
@@ -37,13 +37,13 @@ calls_of (Some (seen.Parted seat)) = 0
 calls_of (Some seen.Joined) = 0
 calls_of None = 0
 
--- the number of strikes and tries at an index
+-- the number of strikes and claims at an index
 abbrev pub calls_at : List (Step × Seen) → ℕ → ℕ
 calls_at steps index = calls_of (answer_in_history steps index)
 
 -- steps of the machine lead from an opening, whose counts are those of the solver, to these words
 -- and seats. The answers told to a seat are those at its indexes, its next one can be at the
--- end, and each strike and each try was told to one seat, once
+-- end, and each strike and each claim was told to one seat, once
 pub record IsHistory (k : Key) (words : List ℕ) (views : List View) : Type 0 where
   pub first : Round
   pub steps : List (Step × Seen)
@@ -56,7 +56,7 @@ pub record IsHistory (k : Key) (words : List ℕ) (views : List View) : Type 0 w
 
 -- steps of the machine lead from an opening, whose counts are those of the solver, to an end at
 -- which no seat has work left. The end has these counts, values and won configurations. The
--- answers told are those of all strikes and tries, each once
+-- answers told are those of all strikes and claims, each once
 pub record HasHistory (k : Key) (made : List (ℕ × Seen)) (end : Ended) : Type 0 where
   pub first : Round
   pub steps : List (Step × Seen)

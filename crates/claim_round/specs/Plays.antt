@@ -18,7 +18,7 @@ view_struck v gap n index = record {
   since = suc index;
 }
 
--- the seat after a try that found the word n, at this index of the history
+-- the seat after a claim that found the word n, at this index of the history
 abbrev pub view_tried : View → ℕ → ℕ → View
 view_tried v n index = record {
   key = v.key;
@@ -33,7 +33,7 @@ abbrev pub TableStrikes : Step Unit0 → Me Unit0 View → ℕ → Me Unit0 View
 TableStrikes s m n m' = (index : ℕ) × (m.0.since ≤ index) × (m'.0 ≡ view_struck m.0 s.word n index)
     × (m'.1 ≡ m.1) × (0 < n)
 
--- a try returns the word that it found, and stands at such an index
+-- a claim returns the word that it found, and stands at such an index
 abbrev pub TableTries : Step Unit0 → Me Unit0 View → ℕ → Me Unit0 View → Type 0
 TableTries s m n m' = (index : ℕ) × (m.0.since ≤ index) × (m'.0 ≡ view_tried m.0 n index)
     × (m'.1 ≡ m.1)

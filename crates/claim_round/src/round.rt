@@ -140,9 +140,11 @@ impl<'a, S: ListStore> SharedRound<'a, S> {
         ensures struck { HasStruck seat.old.view result.config result.closed seat.new.view }
     {
         let Some(config) = seat.todo.pop_front() else {
+            // A seat that has something to strike has a first configuration.
             unreachable!();
         };
         let Some(gap) = self.solver.graph().struck(config) else {
+            // A configuration to strike is an answer in a gap.
             unreachable!();
         };
         let found = self
@@ -171,6 +173,7 @@ impl<'a, S: ListStore> SharedRound<'a, S> {
         ensures claimed { HasClaimed seat.old.view result.config result.won seat.new.view }
     {
         let Some(config) = seat.owed.pop_front() else {
+            // A seat that owes something has a first configuration.
             unreachable!();
         };
         let word = self.solver.graph().gaps() as usize + config as usize;
@@ -266,12 +269,15 @@ impl<'a, S: ListStore> SharedRound<'a, S> {
         self.table.shared.join_seat::<Halves>(&mut into.seat, seat);
         self.table.shared.load::<Look>(&mut into.seat, 0);
         let Ok(()) = into.todo.append(&mut todo) else {
+            // Room was made for both lists to strike.
             unreachable!();
         };
         let Ok(()) = into.owed.append(&mut owed) else {
+            // Room was made for both owed lists.
             unreachable!();
         };
         let Ok(()) = into.won.append(&mut won) else {
+            // Room was made for both won lists.
             unreachable!();
         };
         into.width += width;

@@ -1,5 +1,5 @@
 -- Each list with a place for each pebble has a value, even if the board's start has no such places.
-use Rattle.std.proofs.Common.{◌≡◌, ◌↔◌, ℕ, ◌+◌, ◌<◌, ◌≤◌, ◌⊎◌, List, length, get_or, map, refl, sym, ◌∙◌, subst}
+use Rattle.std.proofs.Common.{◌≡◌, ℕ, ◌+◌, ◌<◌, ◌≤◌, ◌⊎◌, List, length, get_or, map, refl, sym, ◌∙◌, subst}
 use Rattle.std.proofs.Common.{arith, inl, inr}
 use Rattle.std.proofs.lemmas.Bool.{cases_lt}
 use Rattle.std.proofs.lemmas.List.{get_or-map, length-map}
@@ -11,7 +11,7 @@ use Rattle.positions.proofs.Cited.{some_value}
 use Rattle.domains.specs.ValueOrder.{IsWorthAtMost}
 use Rattle.domains.proofs.Choices.{one_or, of_one_or}
 use Rattle.domains.proofs.Following.{itself, led_lasts}
-use Rattle.domains.proofs.ComparedValues.{LastsAsLong, at_most_from_trees, trees_from_at_most, value_goes_over}
+use Rattle.domains.proofs.ComparedValues.{LastsAsLong, trees_from_at_most, value_goes_over}
 
 -- the place if it is a label, and else the number of labels
 capped : PlainBoard → ℕ → ℕ
@@ -89,15 +89,12 @@ module _ (board : PlainBoard) (configuration : List ℕ) (long : length configur
             from_start to_start found.0 found.1,
       )
 
--- a value is at most another exactly if each labeller's tree of the first is matched by one of the second
-pub order_of_trees : (first second : PlainBoard) (configuration other : List ℕ) → length configuration ≡ first.pebbles
-    → length other ≡ second.pebbles
-    → IsWorthAtMost first configuration second other ↔ LastsAsLong first configuration second other
-order_of_trees first second configuration other long other_long = (
-  λ most.
-      let value = each_has_value first configuration long in
-      let bound = each_has_value second other other_long in
-      trees_from_at_most first second configuration other value.0 bound.0 value.1 bound.1
-      (most value.0 bound.0 value.1 bound.1),
-  at_most_from_trees first second configuration other,
-)
+-- of two values that compare, each tree of the smaller is matched by one of the other
+pub trees_from_worth : (first second : PlainBoard) (configuration other : List ℕ) → length configuration ≡ first.pebbles
+    → length other ≡ second.pebbles → IsWorthAtMost first configuration second other
+    → LastsAsLong first configuration second other
+trees_from_worth first second configuration other long other_long most =
+    let value = each_has_value first configuration long in
+    let bound = each_has_value second other other_long in
+    trees_from_at_most first second configuration other value.0 bound.0 value.1 bound.1
+    (most value.0 bound.0 value.1 bound.1)

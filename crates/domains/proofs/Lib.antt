@@ -14,6 +14,7 @@ mod KeptProperties
 mod LastingMoves
 mod LastingProducts
 mod LastingTables
+mod LemmasOfLaws
 mod LoweredValues
 mod LowestLabels
 mod MinimaxEquation

@@ -217,11 +217,6 @@ module _ (outer inner board : PlainBoard) (one_way : IsAntisymmetric outer) (pro
       seat_apart (suc (suc k)) (suc zero) same = absurd (omega (arith, same, q_below))
       seat_apart (suc (suc k)) (suc (suc l)) same = omega (arith, same)
 
-      seat_other : (i k : ℕ) → i < outer.pebbles → i ≢ pebble → i ≢ q → i ≢ seat k
-      seat_other i zero below differs other = differs
-      seat_other i (suc zero) below differs other = other
-      seat_other i (suc (suc k)) below differs other = λ same. omega (arith, same, below)
-
       seat_represents : (k : ℕ) → seat k < outer.pebbles → seat k ≢ pebble → seat k ≡ q
       seat_represents zero below differs = absurd (differs refl)
       seat_represents (suc zero) below differs = refl

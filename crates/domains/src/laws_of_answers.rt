@@ -30,6 +30,7 @@ pub fn dominators_are_not_asked()
 
 /// A place that holds no label is a lowest label: with two pebbles or more, a configuration has the
 /// same value on a domain as on the board with one more label, which all others beat, in its stead.
+#[tactic(auto, using(crate::proofs::LemmasOfLaws::no_label_is_a_lowest_label_lemmas))]
 pub fn no_label_is_a_lowest_label()
     ensures trees { (domain : PlainBoard) → (board : PlainBoard) → (depth : ℕ)
         → (configuration : List ℕ) → HasLowest domain board → 2 ≤ domain.pebbles

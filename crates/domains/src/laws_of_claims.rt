@@ -13,6 +13,7 @@ use positions::MAX_CONFIGURATIONS;
 /// The rules of checking are sound and complete: on a board of at most `MAX_CONFIGURATIONS`
 /// configurations a claim holds of the start exactly if some document of the format breaks no rule
 /// and makes it.
+#[tactic(auto, using(crate::proofs::LemmasOfLaws::claims_hold_where_documents_show_them_lemmas))]
 pub fn claims_hold_where_documents_show_them()
     ensures { (board : PlainBoard) → (claim : ClaimData) → IsConfiguration board board.start
         → configurations board ≤ MAX_CONFIGURATIONS → IsClaim claim → Holds board claim

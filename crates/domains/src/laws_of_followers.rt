@@ -16,6 +16,7 @@ ghost use Rattle.domains.specs.Withdrawal.{IsFreed, WithdrawalTree};
 
 /// A board whose pebbles each follow a pebble of another board, on the images of its labels or on
 /// none, lasts as long as that board.
+#[tactic(auto, using(crate::proofs::LemmasOfLaws::followers_last_lemmas))]
 pub fn followers_last()
     ensures trees { (board : PlainBoard) → (leading : PlainBoard)
         → (image : ℕ → ℕ) → (leader : ℕ → ℕ) → (depth : ℕ) → (configuration : List ℕ)
@@ -30,6 +31,7 @@ pub fn followers_last()
 {}
 
 /// More labels and more pairs never lower the value of a configuration that both boards have.
+#[tactic(auto, using(crate::proofs::Embedded::wider_lasts))]
 pub fn wider_domains_last()
     ensures { (board : PlainBoard) → (wider : PlainBoard) → (configuration : List ℕ)
         → IsWithin board wider → IsOnBoth board wider configuration
@@ -45,6 +47,7 @@ pub fn renamed_labels_keep_values()
 {}
 
 /// Processes that exchange their labels, in any way, keep the value.
+#[tactic(auto, using(crate::proofs::Exchanges::permuted_worth))]
 pub fn exchanged_labels_keep_values()
     ensures { (board : PlainBoard) → (configuration : List ℕ) → (other : List ℕ)
         → length configuration ≡ board.pebbles → IsPermutation configuration other
@@ -52,6 +55,7 @@ pub fn exchanged_labels_keep_values()
 {}
 
 /// One process fewer never lowers the value.
+#[tactic(auto, using(crate::proofs::Embedded::fewer_last))]
 pub fn fewer_pebbles_last()
     ensures { (board : PlainBoard) → (fewer : PlainBoard) → (configuration : List ℕ) → (pebble : ℕ)
         → HasOnePebbleFewer board fewer → length configuration ≡ board.pebbles
@@ -60,6 +64,7 @@ pub fn fewer_pebbles_last()
 {}
 
 /// A configuration lasts as long when some of its pebbles give up their labels.
+#[tactic(auto, using(crate::proofs::LemmasOfLaws::freed_labels_last_lemmas))]
 pub fn freed_labels_last()
     ensures trees { (board : PlainBoard) → (depth : ℕ) → (held : List ℕ) → (freed : List ℕ)
         → IsFreed board held freed
@@ -71,12 +76,14 @@ pub fn freed_labels_last()
 
 /// Processes that withdraw change no value: a labeller answers as many requests when labels may be
 /// taken away before each of them.
+#[tactic(auto, using(crate::proofs::Withdrawals::withdrawals))]
 pub fn withdrawals_change_nothing()
     ensures { (board : PlainBoard) → (depth : ℕ) → (configuration : List ℕ)
         → LabellerTree board depth configuration ↔ WithdrawalTree board depth configuration }
 {}
 
 /// Of two processes on one label one counts as none: the value stays if one of them gives it up.
+#[tactic(auto, using(crate::proofs::SharedLabels::shared_labels))]
 pub fn shared_labels_count_once()
     ensures { (board : PlainBoard) → (configuration : List ℕ) → (pebble : ℕ) → (other : ℕ)
         → length configuration ≡ board.pebbles → other < board.pebbles → pebble ≢ other

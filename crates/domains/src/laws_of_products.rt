@@ -32,6 +32,7 @@ pub fn products_last()
 /// A product lasts at least as long as the factor that lasts shorter, with as many pebbles as both
 /// together, less one: from all pebbles on one label, or on none, if the outer factor lasts that
 /// long from all on its copy, and the inner one from all on its part of the copy.
+#[tactic(auto, using(crate::proofs::LemmasOfLaws::products_last_as_their_factors_lemmas))]
 pub fn products_last_as_their_factors()
     ensures trees { (outer : PlainBoard) → (inner : PlainBoard) → (board : PlainBoard)
         → (depth : ℕ) → (copy : ℕ) → (piece : ℕ) → IsProduct outer inner board
@@ -54,6 +55,7 @@ pub fn products_last_as_their_factors()
 
 /// A product of several domains lasts at least as long as the one that lasts shortest, from all
 /// pebbles on the label 0.
+#[tactic(auto, using(crate::proofs::SeveralProducts::several_last))]
 pub fn several_products_last()
     ensures trees { (factors : List PlainBoard) → (board : PlainBoard) → (depth : ℕ)
         → IsProductOf factors board
@@ -162,6 +164,7 @@ pub fn large_products()
 /// three, of which each two are dominated by one, the residues modulo nineteen four, of which each
 /// three are, and products of these two five to eight. No more processes last for ever on them.
 /// That no domain has fewer labels isn't said.
+#[tactic(auto, using(crate::proofs::LemmasOfLaws::few_labels_carry_many_lemmas))]
 pub fn few_labels_carry_many()
     ensures residues_modulo_seven { (board : PlainBoard) → IsCircle 7 (1 ∷ 2 ∷ 4 ∷ []) board
         → AreDominated board 2 }

@@ -28,6 +28,7 @@ pub fn dominated_boards_last()
 /// No order carries two processes for ever. On a board whose labels have heights, so that a label
 /// is higher than those that it beats, a value is at most the number of heights, also if no label
 /// is held; and no more requests are answered than there are heights above a label that is held.
+#[tactic(auto, using(crate::proofs::LemmasOfLaws::orders_end_lemmas))]
 pub fn orders_end()
     ensures end { (board : PlainBoard) → (height : ℕ → ℕ) → (count : ℕ) → (depth : ℕ)
         → (configuration : List ℕ) → (pebble : ℕ) → HasHeights board height count
@@ -68,6 +69,7 @@ pub fn two_pebbles_last_on_cycles()
 /// Many processes need many labels: a board on which n processes last for ever from some start has
 /// 2^n - 1 labels or more, and with fewer each start ends. For two and three processes there are
 /// boards with no more.
+#[tactic(auto, using(crate::proofs::LemmasOfLaws::processes_need_labels_lemmas))]
 pub fn processes_need_labels()
     ensures labels { (board : PlainBoard) → (configuration : List ℕ) → IsAntisymmetric board
         → length configuration ≡ board.pebbles → HasValue board configuration Forever

@@ -25,6 +25,7 @@ pub fn values_solve_one_equation()
 /// A value is at most another one exactly if a labeller who answers any number of requests from
 /// the first configuration answers as many from the second. Each list with a place for each pebble
 /// has one value, also with places that hold no label on a board whose start has none of these.
+#[tactic(auto, using(crate::proofs::LemmasOfLaws::values_compare_as_trees_lemmas))]
 pub fn values_compare_as_trees()
     ensures order { (first : PlainBoard) → (second : PlainBoard)
         → (configuration : List ℕ) → (other : List ℕ) → length configuration ≡ first.pebbles
@@ -36,6 +37,7 @@ pub fn values_compare_as_trees()
 
 /// A configuration has the value forever exactly if some closed table lists it: one strategy for
 /// any number of requests. A finite value is below the number of configurations.
+#[tactic(auto, using(crate::proofs::LemmasOfLaws::for_ever_is_a_closed_table_lemmas))]
 pub fn for_ever_is_a_closed_table()
     ensures table { (board : PlainBoard) → (configuration : List ℕ)
         → IsConfiguration board configuration → HasValue board configuration Forever

@@ -45,8 +45,7 @@ pub fn has_few(board: &Board, numbering: Numbering) -> bool
 }
 
 /// What finds the numbers of a board's configurations and of their gaps, and the members and
-/// answers
-/// of a gap.
+/// answers of a gap.
 #[derive(Drop)]
 pub(crate) enum Finder {
     Ranks(OrderedNumbers),
@@ -188,7 +187,8 @@ impl Graph {
     pub fn write_members(&self, gap: u32, members: &mut [u32; MAX_PLACES])
         requires { gap < (graph_of self.now).gaps }
         ensures room { length members.new ≡ length members.old }
-        ensures members { AreMembers (graph_of self.now) gap (graph_of self.now).places members.new }
+        ensures members { AreMembers (graph_of self.now) gap
+            (graph_of self.now).places members.new }
         ensures few { (graph_of self.now).places ≤ MAX_PLACES }
         ensures graph { IsGraph (graph_of self.now) }
     {

@@ -1,6 +1,5 @@
 //! A game as numbers of configurations and of gaps: the members of each gap, and the gap in which
-//! each
-//! configuration is an answer.
+//! each configuration is an answer.
 #![tactic(auto)]
 
 mod class_numbers;

@@ -2,8 +2,8 @@
 use Rattle.std.specs.Prelude.{◌≡◌, ℕ, false, List, Result, Ok, Err, map}
 use Rattle.std.specs.Borrow.{Bor}
 use Rattle.board_text.specs.declared.through.Through.{Through}
-use Rattle.runs.specs.declared.serving.Words.{Words}
-use Rattle.runs.specs.declared.serving.Words.TheVariants.{Given, NotText, OutOfMemory}
+use Rattle.serving.specs.declared.serving.Words.{Words}
+use Rattle.serving.specs.declared.serving.Words.TheVariants.{Given, NotText, OutOfMemory}
 
 -- a stream of std of which nothing was read, or to which nothing was written
 abbrev pub fresh : {T : Type 0} → T → Through T

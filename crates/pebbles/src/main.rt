@@ -1,6 +1,5 @@
 //! Solves boards of the pebble game, checks strategies for them, counts values, plays with a
-//! person,
-//! and writes nested boards and plays on them.
+//! person, and writes nested boards and plays on them.
 //!
 //! Without a command a board and a strategy document after it are read from standard input, and one
 //! line is written to standard output. `pebbles --help` lists the commands.
@@ -10,18 +9,18 @@
 //! 5 a failed read or write, or an input that is too long.
 #![tactic(auto)]
 
-ghost use Rattle.std.specs.Prelude.{◌≡◌, IfOk, map, string_bytes};
+ghost use Rattle.std.specs.Prelude.{◌≡◌, [], map, string_bytes};
 ghost use Rattle.std.specs.Process.{exit_status};
 ghost use Rattle.board_text.specs.declared.through.Through.{Through as Wrapped};
-ghost use Rattle.runs.specs.Folders.{Unknown};
+ghost use Rattle.serving.specs.Folders.{Unknown};
 ghost use Rattle.runs.specs.Run.{stream_of};
-ghost use Rattle.runs.specs.Serving.{Serves};
-ghost use Rattle.runs.specs.declared.serving.Words.{Words as AllWords};
-ghost use Rattle.pebbles.specs.Program.{Gives, borrowed_texts, fresh};
+ghost use Rattle.serving.specs.Serving.{Serves};
+ghost use Rattle.serving.specs.declared.serving.Words.{Words as AllWords};
+ghost use Rattle.pebbles.specs.Program.{Gives, GivesTexts, fresh};
 
 use board_text::Through;
-use runs::{System, Terminals, Words, serve};
-use std::alloc::{AllocError, Global};
+use serving::{System, Terminals, Words, serve};
+use std::alloc::Global;
 use std::fs::{File, Files};
 use std::io::{IsTerminal, Read, Write};
 use std::os::fd::{AsRawFd, IntoRawFd};
@@ -69,23 +68,11 @@ fn serve_owned<I: Read + Drop, O: Write + Drop, E: Write + Drop>(
         (exit_status result) words }
 {
     match owned {
-        Ok(owned) => match borrowed(alloc, owned.as_slice()) {
-            Ok(words) => {
-                let words = Words::Given(words.as_slice());
-                serve_over(rt, alloc, &words, terminals, input, output, errors)
-            }
-            Err(AllocError) => {
-                serve_over(
-                    rt,
-                    alloc,
-                    &Words::OutOfMemory,
-                    terminals,
-                    input,
-                    output,
-                    errors,
-                )
-            }
-        },
+        Ok(owned) => {
+            let mut texts = Vec::new(alloc);
+            let words = borrowed(owned.as_slice(), &mut texts);
+            serve_over(rt, alloc, &words, terminals, input, output, errors)
+        }
         Err(none) => serve_over(rt, alloc, none, terminals, input, output, errors),
     }
 }
@@ -163,13 +150,15 @@ fn owned_words(rt: &HostRuntime, alloc: Global) -> Result<Vec<String>, Words<'st
     }
 }
 
-/// The texts, borrowed.
-fn borrowed<'a>(alloc: Global, owned: &'a [String]) -> Result<Vec<&'a str>, AllocError>
-    ensures { IfOk result (λ words. borrowed_texts words.items ≡ map string_bytes owned.now) }
+/// The words with these texts, borrowed into `texts`, which is empty before.
+fn borrowed<'a, 'w>(owned: &'w [String], texts: &'a mut Vec<&'w str>) -> Words<'a, 'w>
+    requires { texts.old.items ≡ [] }
+    ensures { GivesTexts (map string_bytes owned.now) result }
 {
-    let mut words = Vec::new(alloc);
     for word in owned {
-        words.push(word.as_str())?;
+        if texts.push(word.as_str()).is_err() {
+            return Words::OutOfMemory;
+        }
     }
-    Ok(words)
+    Words::Given(texts.as_slice())
 }

@@ -1,4 +1,4 @@
--- Each lost try and each closed gap of a history has a step as its cause.
+-- Each lost claim and each closed gap of a history has a step as its cause.
 use Rattle.std.proofs.Common.{◌≡◌, ◌≢◌, ◌⊎◌, ℕ, zero, suc, ◌+◌, ◌-◌, ◌<◌, ◌≤◌, ◌==◌, Bool, true, false, cond, List, []}
 use Rattle.std.proofs.Common.{◌∷◌, ◌++◌, length, set, refl, sym, ap, ◌∙◌, inl, inr, subst, arith, Option, Some, None}
 use Rattle.std.proofs.Common.{slice_get, get_or, slice_index, get_or-set_other}
@@ -35,13 +35,13 @@ pub record IsWonBy (answer : Seen) (c before after : ℕ) : Type 0 where
   pub told : answer ≡ seen.Tried c true → 0 < after
   pub from : 0 < after → (0 < before) ⊎ (answer ≡ seen.Tried c true)
 
--- a step that isn't a won try leaves the won lists
+-- a step that isn't a won claim leaves the won lists
 won-none : (answer : Seen) (c before after : ℕ) → (answer ≡ seen.Tried c true → ⊥) → after ≡ before
     → IsWonBy answer c before after
 won-none answer c before after other same =
     record { keeps = omega arith; told = λ e. absurd (other e); from = λ some. inl (omega arith) }
 
--- a try puts the configuration into a won list exactly if it says that it won
+-- a claim puts the configuration into a won list exactly if it says that it won
 won-try : (config : ℕ) (won : Bool) (v : PlainSeat) (opened : Bool) (c before after : ℕ) → config ≡ first_of v.owed
     → won ≡ opened
     → after + times c v.won ≡ before + times c (seat_tried opened v).won
@@ -139,7 +139,7 @@ won-step before (steps.Join into from) (seen.Struck config closed) after does c 
 won-step before (steps.Join into from) (seen.Tried config won) after does c = absurd does
 won-step before (steps.Join into from) (seen.Parted new_seat) after does c = absurd does
 
--- a try is lost only if the configuration is in a won list
+-- a claim is lost only if the configuration is in a won list
 lost-now : (before : Round) (step : Step) (c : ℕ) (after : Round) → IsSolving before.solving → IsLawful before
     → Does before step (seen.Tried c false) after → 0 < times c (all_won before)
 lost-now before (steps.Try id) c after sol law does =
@@ -149,7 +149,7 @@ lost-now before (steps.Strike id) c after sol law does = absurd does
 lost-now before (steps.Split id) c after sol law does = absurd does
 lost-now before (steps.Join into from) c after sol law does = absurd does
 
--- a try won the configuration, at an earlier place
+-- a claim won the configuration, at an earlier place
 abbrev pub IsWonBefore : List (Step × Seen) → ℕ → ℕ → Type 0
 IsWonBefore made place c = (earlier : ℕ) × (earlier < place) × (answer_in_history made earlier ≡ Some
     (seen.Tried c true))

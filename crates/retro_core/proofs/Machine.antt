@@ -122,7 +122,7 @@ module _ (s : Solving) (w : ℕ) (counts : List ℕ) (values : List (Option ℕ)
         },
       )
 
-  -- ---- try
+  -- ---- claim
 
   pub owed-read : (v : PlainSeat) (ranks : List ℕ) → v ≡ get_or seats id v → ranks ≡ v.owed → 0 < length ranks
       → get_or ranks 0 0 < length values
@@ -284,7 +284,7 @@ values-won words rank next small =
     map-set value_of_word words rank next
     ∙ ap (set (map value_of_word words) rank) (cond_other next OPEN None (Some next) (λ e. omega arith))
 
--- the machine's try: the first owed configuration's word is read, and gets the next value if it is open
+-- the machine's claim: the first owed configuration's word is read, and gets the next value if it is open
 module _ (s : Solving) (w : ℕ) (counts words : List ℕ) (seats : List PlainSeat) (old : Round)
     (is : round_of s w counts (map value_of_word words) seats ≡ old)
     (sol : IsSolving s) (law : IsLawful (round_of s w counts (map value_of_word words) seats)) (id : ℕ)
@@ -300,14 +300,14 @@ module _ (s : Solving) (w : ℕ) (counts words : List ℕ) (seats : List PlainSe
       → value_of_word word ≡ get_or (map value_of_word words) rank (value_of_word word)
   word-read rank word word_is = ap value_of_word word_is ∙ sym (get_or-map value_of_word words rank word)
 
-  pub settling : (v : PlainSeat) (ranks : List ℕ) (word round : ℕ) (words' : List ℕ) (v' after : PlainSeat)
+  pub claiming : (v : PlainSeat) (ranks : List ℕ) (word round : ℕ) (words' : List ℕ) (v' after : PlainSeat)
       → v ≡ get_or seats id v → ranks ≡ v.owed → 0 < length ranks
       → word ≡ get_or words (get_or ranks 0 0) word → round ≡ s.rounds
       → words' ≡ cond (word == OPEN) (set words (get_or ranks 0 0) (round + 1)) words
       → v' ≡ get_or seats id v' → after ≡ seat_tried (word == OPEN) v'
       → IsTrying s w counts (map value_of_word words) seats old is sol law id has_width ranks (word == OPEN)
       (map value_of_word words') after
-  settling v ranks word round words' v' after v_is e some word_is round_is words_are v'_is after_is =
+  claiming v ranks word round words' v' after v_is e some word_is round_is words_are v'_is after_is =
       trying s w counts values seats old is sol law id has_width v ranks (value_of_word word) (word == OPEN)
       (map value_of_word words') v' after v_is e some
       (word-read rank word word_is) (open-word word)

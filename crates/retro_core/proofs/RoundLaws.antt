@@ -2,7 +2,6 @@
 use Rattle.std.proofs.Common.{◌≡◌, ℕ, zero, suc, ◌+◌, ◌<◌, ◌≤◌, List, [], ◌∷◌, length, refl, sym, ap, ◌∙◌, inl, inr}
 use Rattle.std.proofs.Common.{subst, arith, Option, Some, None, get_or, slice_get, slice_index}
 use Rattle.std.proofs.lemmas.Bool.{cases_lt}
-use Rattle.std.proofs.lemmas.Option.{get_or_from_slice_get}
 use Rattle.std.specs.List.{All, sum_by}
 use Rattle.std.proofs.lemmas.List.{get_or_default, get_or_past}
 use Rattle.index_lists.specs.Lists.{times}
@@ -29,10 +28,6 @@ pub seat-there : (seats : List PlainSeat) (id : ℕ) → 0 < (get_or seats id sp
 seat-there [] id wide = absurd (omega arith)
 seat-there (v ∷ seats) zero wide = refl
 seat-there (v ∷ seats) (suc id) wide = seat-there seats id wide
-
-seat-here : (seats : List PlainSeat) (id : ℕ) (v : PlainSeat) → slice_get seats id ≡ Some v
-    → get_or seats id spent_seat ≡ v
-seat-here seats id v e = get_or_from_slice_get seats id v spent_seat e
 
 -- the seat of a number is spent if it has no width
 seat-fits : (seats : List PlainSeat) → All Fits seats → (id : ℕ) → Fits (get_or seats id spent_seat)

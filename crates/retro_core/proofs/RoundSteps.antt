@@ -25,7 +25,7 @@ use Rattle.retro_core.specs.declared.step.Step.TheVariants as steps
 use Rattle.retro_core.specs.declared.step.Seen.{Seen}
 use Rattle.retro_core.specs.declared.step.Seen.TheVariants as seen
 use Rattle.retro_core.specs.Stepping.{Does, LeadTo}
-use Rattle.retro_core.proofs.Rules.{rules_of}
+use Rattle.retro_core.proofs.Rules.{Rules, rules_of, AreKept}
 use Rattle.solver.proofs.Cited.{above-size}
 use Rattle.retro_core.proofs.SeatSums.{total-at, times-together}
 use Rattle.retro_core.proofs.SeatSteps.{strikes, tries, first-known, splits, joins, opens, split_first, times_here}
@@ -62,33 +62,7 @@ pub record IsStruck (round : Round) (id gap : ℕ) : Type 0 where
   pub some_left : 0 < slice_index round.counts gap
   pub lawful : IsLawful (round_struck round id gap)
 
-pub strike-lawful : (round : Round) → IsSolving round.solving → IsLawful round → (id : ℕ)
-    → 0 < length (seat_at round id).todo
-    → IsStruck round id ((graph_of round.solving.game).struck (first_of (seat_at round id).todo))
-strike-lawful round sol law id some =
-    let v = seat_at round id in
-    let c : ℕ = first_of v.todo in
-    let k = rules_of round.solving round.width in
-    let due = first-due round law id some in
-    let wide = wide-with (λ v. v.todo) refl round law id some in
-    let in_gaps : k.home c < (graph_of round.solving.game).gaps = due.struck in
-    let long = law.counts_length in
-    let n : ℕ = slice_index round.counts (k.home c) in
-    let done = strikes k (slice_index round.counts) (word_at round) round.seats id v
-    (slice_index (set round.counts (k.home c) (n - 1))) (kept-of round sol law)
-    (seat-there round.seats id wide) wide some
-    (get_or-set_same round.counts (k.home c) (n - 1) 0 (omega arith))
-    (λ g j ne. get_or-set_other round.counts (k.home c) g (n - 1) 0 ne) in
-    record {
-      gap_in = in_gaps;
-      some_left = done.some_left;
-      lawful = lawful-of (round_struck round id (k.home c)) sol
-          (length-set round.counts (k.home c) (n - 1) ∙ law.counts_length) law.values_length done.kept;
-    }
-
--- ---- try
-
--- the round after a try, by whether the try found the word open
+-- the round after a claim, by whether the claim found the word open
 abbrev pub tried_as : Bool → Round → ℕ → Round
 tried_as is_open round seat = record round {
   values = cond is_open (set round.values (first_of (seat_at round seat).owed)
@@ -103,65 +77,86 @@ pub record IsTried (round : Round) (id : ℕ) : Type 0 where
   pub not_won : first_is_open round id ≡ false → 0 < times (first_of (seat_at round id).owed) (all_won round)
   pub lawful : IsLawful (round_tried round id)
 
-pub try-lawful : (round : Round) → IsSolving round.solving → IsLawful round → (id : ℕ)
-    → 0 < length (seat_at round id).owed → IsTried round id
-try-lawful round sol law id some =
-    let v = seat_at round id in
-    let c : ℕ = first_of v.owed in
-    let k = rules_of round.solving round.width in
-    let wide = wide-with (λ v. v.owed) refl round law id some in
-    let at = seat-there round.seats id wide in
-    let kept = kept-of round sol law in
-    let sound = sound-is round.solving sol round.width in
-    let known = first-known k (slice_index round.counts) (word_at round) round.seats id v sound kept at wide some in
-    let values' : List (Option ℕ) = set round.values c (Some (suc round.solving.rounds)) in
-    elim (tries k (slice_index round.counts) (word_at round) round.seats id v sound kept at wide some) [
-      | inl won ↦ (
-          let w = won (λ x. get_or values' x None) in
-          let opened : first_is_open round id ≡ true = ap is_none w.open_yet in
-          record {
-            is_rank = known.0;
-            word = inl w.open_yet;
-            not_won = λ e. absurd (different (first_is_open round id) opened e);
-            lawful = subst (λ (o : Bool). IsLawful (tried_as o round id)) (sym opened)
-                (lawful-of (tried_as true round id) sol law.counts_length
-                (length-set round.values c (Some (suc round.solving.rounds)) ∙ law.values_length)
-                (w.kept (get_or-set_same round.values c (Some (suc round.solving.rounds)) None
-                (let long = law.values_length in let low : c < (graph_of round.solving.game).configurations =
-                known.0 in omega arith))
-                (λ x j ne. get_or-set_other round.values c x (Some (suc round.solving.rounds)) None ne)));
-          })
-      | inr lost ↦ (
-          let shut : first_is_open round id ≡ false = ap is_none lost.has_next in
-          record {
-            is_rank = known.0;
-            word = inr lost.has_next;
-            not_won =
-                λ e. (let all = times-together c (λ u. u.won) round.seats in let there = lost.stands in omega arith);
-            lawful = subst (λ (o : Bool). IsLawful (tried_as o round id)) (sym shut)
-                (lawful-of (tried_as false round id) sol law.counts_length law.values_length lost.kept);
-          })
-    ]
-  where
-    different : (o : Bool) → o ≡ true → o ≡ false → ⊥
-    different o e d = cc
+-- ---- the steps of a lawful round
 
--- ---- split and join
+module _ (round : Round) (sol : IsSolving round.solving) (law : IsLawful round) where
+  abbrev k : Rules
+  k = rules_of round.solving round.width
 
-pub split-lawful : (round : Round) → IsSolving round.solving → IsLawful round → (id : ℕ) → 2 ≤ (seat_at round id).width
-    → IsLawful (round_split round id)
-split-lawful round sol law id wide = lawful-of (round_split round id) sol law.counts_length law.values_length
-    (splits (rules_of round.solving round.width) (slice_index round.counts) (word_at round) round.seats id
-    (seat_at round id) (kept-of round sol law) (seat-there round.seats id (omega arith)) wide)
+  kept : AreKept k (slice_index round.counts) (word_at round) round.seats
+  kept = kept-of round sol law
 
-pub join-lawful : (round : Round) → IsSolving round.solving → IsLawful round → (into from : ℕ) → into ≢ from
-    → 0 < (seat_at round into).width → 0 < (seat_at round from).width
-    → IsLawful (round_joined round into from)
-join-lawful round sol law into from differ wide other_wide =
-    lawful-of (round_joined round into from) sol law.counts_length law.values_length
-    (joins (rules_of round.solving round.width) (slice_index round.counts) (word_at round) round.seats into from
-    (seat_at round into) (seat_at round from) (kept-of round sol law)
-    (seat-there round.seats into wide) (seat-there round.seats from other_wide) differ wide)
+  pub strike-lawful : (id : ℕ) → 0 < length (seat_at round id).todo
+      → IsStruck round id ((graph_of round.solving.game).struck (first_of (seat_at round id).todo))
+  strike-lawful id some =
+      let c : ℕ = first_of (seat_at round id).todo in
+      let due = first-due round law id some in
+      let wide = wide-with (λ v. v.todo) refl round law id some in
+      let in_gaps : k.home c < (graph_of round.solving.game).gaps = due.struck in
+      let long = law.counts_length in
+      let n : ℕ = slice_index round.counts (k.home c) in
+      let done = strikes k (slice_index round.counts) (word_at round) round.seats kept id (seat_at round id)
+      (seat-there round.seats id wide) (slice_index (set round.counts (k.home c) (n - 1))) wide some
+      (get_or-set_same round.counts (k.home c) (n - 1) 0 (omega arith))
+      (λ g j ne. get_or-set_other round.counts (k.home c) g (n - 1) 0 ne) in
+      record {
+        gap_in = in_gaps;
+        some_left = done.some_left;
+        lawful = lawful-of (round_struck round id (k.home c)) sol
+            (length-set round.counts (k.home c) (n - 1) ∙ law.counts_length) law.values_length done.kept;
+      }
+
+  pub try-lawful : (id : ℕ) → 0 < length (seat_at round id).owed → IsTried round id
+  try-lawful id some =
+      let v = seat_at round id in
+      let c : ℕ = first_of v.owed in
+      let wide = wide-with (λ v. v.owed) refl round law id some in
+      let at = seat-there round.seats id wide in
+      let sound = sound-is round.solving sol round.width in
+      let known = first-known k (slice_index round.counts) (word_at round) round.seats kept id v at sound wide some in
+      let values' : List (Option ℕ) = set round.values c (Some (suc round.solving.rounds)) in
+      elim (tries k (slice_index round.counts) (word_at round) round.seats kept id v at sound wide some) [
+        | inl won ↦ (
+            let w = won (λ x. get_or values' x None) in
+            let opened : first_is_open round id ≡ true = ap is_none w.open_yet in
+            record {
+              is_rank = known.0;
+              word = inl w.open_yet;
+              not_won = λ e. absurd (different (first_is_open round id) opened e);
+              lawful = subst (λ (o : Bool). IsLawful (tried_as o round id)) (sym opened)
+                  (lawful-of (tried_as true round id) sol law.counts_length
+                  (length-set round.values c (Some (suc round.solving.rounds)) ∙ law.values_length)
+                  (w.kept (get_or-set_same round.values c (Some (suc round.solving.rounds)) None
+                  (let long = law.values_length in let low : c < (graph_of round.solving.game).configurations =
+                  known.0 in omega arith))
+                  (λ x j ne. get_or-set_other round.values c x (Some (suc round.solving.rounds)) None ne)));
+            })
+        | inr lost ↦ (
+            let shut : first_is_open round id ≡ false = ap is_none lost.has_next in
+            record {
+              is_rank = known.0;
+              word = inr lost.has_next;
+              not_won =
+                  λ e. (let all = times-together c (λ u. u.won) round.seats in let there = lost.stands in omega arith);
+              lawful = subst (λ (o : Bool). IsLawful (tried_as o round id)) (sym shut)
+                  (lawful-of (tried_as false round id) sol law.counts_length law.values_length lost.kept);
+            })
+      ]
+    where
+      different : (o : Bool) → o ≡ true → o ≡ false → ⊥
+      different o e d = cc
+
+  pub split-lawful : (id : ℕ) → 2 ≤ (seat_at round id).width → IsLawful (round_split round id)
+  split-lawful id wide = lawful-of (round_split round id) sol law.counts_length law.values_length
+      (splits k (slice_index round.counts) (word_at round) round.seats kept id (seat_at round id)
+      (seat-there round.seats id (omega arith)) wide)
+
+  pub join-lawful : (into from : ℕ) → into ≢ from → 0 < (seat_at round into).width → 0 < (seat_at round from).width
+      → IsLawful (round_joined round into from)
+  join-lawful into from differ wide other_wide =
+      lawful-of (round_joined round into from) sol law.counts_length law.values_length
+      (joins k (slice_index round.counts) (word_at round) round.seats kept into (seat_at round into)
+      (seat-there round.seats into wide) from (seat_at round from) (seat-there round.seats from other_wide) differ wide)
 
 -- ---- the opening
 

@@ -151,7 +151,7 @@ seat_struck s gap count seat =
       owed = cond (count == 1) (seat.owed ++ source s gap) seat.owed;
     }
 
--- the seat after it tried to win the first that it owes
+-- the seat after it claimed the first that it owes
 abbrev pub seat_tried : Bool → PlainSeat → PlainSeat
 seat_tried is_open seat =
     record seat {
@@ -200,7 +200,7 @@ abbrev pub first_is_open : Round → ℕ → Bool
 first_is_open round seat =
     is_none (slice_index_or round.values (first_of (seat_at round seat).owed) None)
 
--- the round after the seat tried to win the first that it owes
+-- the round after the seat claimed the first that it owes
 abbrev pub round_tried : Round → ℕ → Round
 round_tried round seat = record round {
   values = cond (first_is_open round seat)

@@ -48,8 +48,8 @@ pub fn worked_off_rounds_have_won_all()
         → (last.solving ≡ s) × HasWonAll last }
 {}
 
-/// Lost tries and closed gaps have a cause among the steps that lead from one round to another.
-/// From an opening on, a try is lost only after a try that won the same configuration; a
+/// Lost claims and closed gaps have a cause among the steps that lead from one round to another.
+/// From an opening on, a claim is lost only after a claim that won the same configuration; a
 /// configuration that is answered as won is in a won list at the end. A gap is answered as closed
 /// at most once, only if it had a count at first and has none at the end, and always then.
 pub fn answers_have_a_cause()

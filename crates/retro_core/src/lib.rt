@@ -2,9 +2,8 @@
 //! seats make one step after the other, in any order.
 //!
 //! No command runs the machine. The history of a round that threads share is a run of it, and the
-//! laws of its steps
-//! are those of shared rounds. The names of the solver,
-//! whose rounds these are, are passed on from the crate below.
+//! laws of its steps are those of shared rounds. The names of the solver, whose rounds these are,
+//! are passed on from the crate below.
 #![tactic(auto)]
 
 mod laws_of_rounds;

@@ -7,7 +7,7 @@ ghost use Rattle.std.specs.Prelude.{◌≡◌, ◌+◌, ◌<◌, ◌↔◌, true
 ghost use Rattle.std.specs.Prelude.{slice_index_or};
 ghost use Rattle.std.specs.Prelude.{None, Some, IfOk, IfErr};
 ghost use Rattle.solver.specs.Solving.{IsSolving};
-ghost use Rattle.retro_core.specs.Round.{round_graph, seat_at, spent_seat, IsOpening, IsLawful};
+ghost use Rattle.retro_core.specs.Round.{round_graph, seat_at, IsOpening, IsLawful};
 ghost use Rattle.retro_core.specs.Round.{round_of};
 ghost use Rattle.retro_core.specs.Stepping.{Does, IsAllowed, LacksSeat, Refuses};
 
@@ -91,7 +91,7 @@ impl<'a, S: ListStore> RoundState<'a, S> {
         }
         match step {
             Step::Strike(seat) => self.strike(seat),
-            Step::Try(seat) => self.settle(seat),
+            Step::Try(seat) => self.claim(seat),
             Step::Split(seat) => self.split(seat),
             Step::Join { into, from } => self.join(into, from),
         }
@@ -123,6 +123,7 @@ impl<'a, S: ListStore> RoundState<'a, S> {
         }
         let config = todo[0];
         let Some(gap) = self.solver.graph().struck(config) else {
+            // A configuration to strike is an answer in a gap.
             unreachable!()
         };
         let count = self.counts[gap as usize];
@@ -132,7 +133,7 @@ impl<'a, S: ListStore> RoundState<'a, S> {
         Ok(Seen::Struck { config, closed })
     }
 
-    fn settle(&mut self, seat: usize) -> Result<Seen, StepFault>
+    fn claim(&mut self, seat: usize) -> Result<Seen, StepFault>
         requires { 0 < (seat_at self.old seat).width }
         ensures done { IfOk result (λ seen. Does self.old (Step.Try seat) seen self.new) }
         ensures refused { IfErr result
@@ -145,7 +146,7 @@ impl<'a, S: ListStore> RoundState<'a, S> {
         }
         let config = owed[0];
         let won = self.words[config as usize] == OPEN;
-        self.seats[seat].settle(won)?;
+        self.seats[seat].claim(won)?;
         if won {
             self.words[config as usize] = next;
         }

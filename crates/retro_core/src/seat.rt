@@ -99,8 +99,8 @@ impl Seat {
         Ok(())
     }
 
-    /// Takes off the first owed configuration, and wins it if `is_open`.
-    pub(crate) fn settle(&mut self, is_open: bool) -> Result<(), Memory>
+    /// Claims the first owed configuration: takes it off, and wins it if `is_open`.
+    pub(crate) fn claim(&mut self, is_open: bool) -> Result<(), Memory>
         requires { 0 < length self.old.owed }
         ensures seat { self.new ≡ (if is_ok result then seat_tried is_open self.old else self.old) }
         ensures memory { is_ok result ≡ false → is_open ≡ true }

@@ -12,7 +12,8 @@ use thiserror::Error;
 pub enum Step {
     /// The seat strikes the first configuration that it has to strike.
     Strike(usize),
-    /// The seat tries to win the first configuration that it owes.
+    /// The seat claims the first configuration that it owes. A single try decides: the
+    /// configuration is won, or was won before.
     Try(usize),
     /// The seat gives half of its width, and half of the configurations
     /// that it has to strike, to a new seat.
@@ -27,7 +28,7 @@ pub enum Seen {
     /// A configuration was struck; and if that was the last live answer of a gap, the gap, whose
     /// open members are now owed.
     Struck { config: u32, closed: Option<u32> },
-    /// A configuration that was owed is won, or was won before.
+    /// A configuration that was owed was claimed: it is won now, or was won before.
     Tried { config: u32, won: bool },
     /// The new seat.
     Parted { seat: usize },

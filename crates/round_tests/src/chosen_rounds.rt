@@ -8,6 +8,7 @@ ghost use Rattle.std.specs.Prelude.{◌≡◌, ◌≤◌, IfOk};
 use crate::assertions::assert_same;
 use board_text::Board;
 use claim_round::RoundSeat;
+use classes::has_few_classes;
 use fakes::build_board;
 use index_lists::PlainLists;
 use positions::is_small;
@@ -79,6 +80,9 @@ fn counted(
     ensures { IfOk result (λ found. found.0 ≡ board.now) }
 {
     if !is_small(board) {
+        return Err(SolveFault::TooLarge);
+    }
+    if !has_few_classes(board) {
         return Err(SolveFault::TooLarge);
     }
     let passes = Passes::none();

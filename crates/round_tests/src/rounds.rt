@@ -121,7 +121,7 @@ macro_rules! struck {
     };
 }
 
-/// The answer to a try.
+/// The answer to a claim.
 macro_rules! tried {
     ($config:literal, $won:literal) => {
         Ok(Seen::Tried {
@@ -141,7 +141,7 @@ const STRIKES: [(Step, Result<Seen, StepFault>); 6] = [
     (Step::Strike(0), struck!(5 closes 4)),
 ];
 
-/// The tries after these strikes, and a join.
+/// The claims after these strikes, and a join.
 const TRIES: [(Step, Result<Seen, StepFault>); 7] = [
     (Step::Try(1), tried!(1, true)),
     (Step::Try(0), tried!(3, true)),
@@ -217,7 +217,7 @@ fn values_of_an_opened_round(rt: HostRuntime) {
     }
 }
 
-/// How often seats struck, closed a gap, tried and won.
+/// How often seats struck, closed a gap, claimed and won.
 #[derive(Clone, Copy, Debug, PartialEq)]
 pub(crate) struct Tally {
     strikes: u32,
@@ -287,7 +287,7 @@ fn repeat(round: &mut RoundState<'_, PlainLists>, step: Step, tally: &mut Tally)
 }
 
 /// Splits the first seat of a round `splits` times, lets each seat strike all its ranks and then
-/// settle all that it owes, and joins the seats again.
+/// claim all that it owes, and joins the seats again.
 fn work(round: &mut RoundState<'_, PlainLists>, splits: usize) -> Tally {
     let mut tally = Tally::none();
     for _ in 0..splits {
@@ -384,7 +384,7 @@ fn draw(state: &mut u64) -> bool {
     *state >> 63 == 1
 }
 
-/// A step of one of two seats, drawn from strikes and tries.
+/// A step of one of two seats, drawn from strikes and claims.
 fn draw_step(state: &mut u64) -> Step {
     let seat = usize::from(draw(state));
     if draw(state) {

@@ -25,7 +25,7 @@ use std::thread::Threads;
 pub const MAX_WORKERS: u32 = 16;
 
 /// The least number of classes filed last for which `solve_classes` shares a round, if they are
-/// four fifths of all too. docs/performance.md has the times on both sides of it.
+/// four fifths of all too. bench/performance.md has the times on both sides of it.
 pub const MIN_SHARED: u32 = 131_072;
 
 /// Works a round of `solver` to its end by `workers` workers,
@@ -48,6 +48,7 @@ fn work_round<S: ListStore + Sync, G: Gate, R: Threads + Wait + Sync>(
     };
     let seat = share(rt, &round, gate, 0, solver.round_number(), seat)?;
     let Ok(closed) = round.close(seat) else {
+        // The seat has the whole width again, and no work left.
         unreachable!();
     };
     Ok(closed)
@@ -76,11 +77,12 @@ pub fn solve_values<G: Gate, R: Threads + Wait + Sync>(
     let solver = Solver::<PlainLists>::open(alloc, board)?;
     match run_rounds(rt, alloc, solver, workers, gate, 0)?.finish() {
         Ok(values) => Ok(values),
+        // The solver is done after all rounds.
         Err(_) => unreachable!(),
     }
 }
 
-/// The values of `board` by the numbers of its classes, found in rounds over classes of
+/// The values of `board`, which has few classes, by their numbers, found in rounds over classes of
 /// configurations: all that exchanged pebbles give are one.
 ///
 /// The workers make the graph of the classes in parts, if it has enough of them. A round that
@@ -95,9 +97,10 @@ pub fn solve_classes<G: Gate, R: Threads + Wait + Sync>(
     workers: u32,
     gate: &G,
 ) -> Result<NumberedValues, SolveFault>
+    requires few { class_count board.now ≤ MAX_CLASSES }
     requires workers { (1 ≤ workers) × (workers ≤ MAX_WORKERS) }
     ensures values { IfOk result (λ values. values ≡ numbered board.now Classes) }
-    ensures too_large { (result ≡ Err SolveFault.TooLarge) ↔ (MAX_CLASSES < class_count board.now) }
+    ensures fault { IfErr result (λ f. f ≢ SolveFault.TooLarge) }
     ensures worker { result ≡ Err SolveFault.Worker → 1 < workers }
     ensures enough { result ≡ Err SolveFault.Worker
         → MIN_SHARED ≤ (graph_of (numbered board.now Classes)).configurations }
@@ -106,6 +109,7 @@ pub fn solve_classes<G: Gate, R: Threads + Wait + Sync>(
     let least = least_shared(workers, solver.graph().configurations());
     match run_rounds(rt, alloc, solver, workers, gate, least)?.finish_numbered() {
         Ok(values) => Ok(values),
+        // The solver is done after all rounds.
         Err(_) => unreachable!(),
     }
 }

@@ -11,12 +11,6 @@ pub mod CountSums
 pub mod AcceptedDocuments
 pub mod Solutions
 pub mod OneOutcome
-pub mod Endings
-pub mod Served
-pub mod Notices
-pub mod ErrorTexts
+pub mod ToldNotices
 pub mod PlayFaults
-pub mod KnownRuns
-pub mod KnownPlays
-pub mod BoardEnds
-pub mod OneServing
+pub mod Cited

@@ -2,7 +2,6 @@ pub mod Joined
 pub mod Output
 pub mod Texts
 pub mod Faults
-pub mod FaultLines
 pub mod Verdicts
 pub mod Run
 pub mod Meaning
@@ -14,9 +13,4 @@ pub mod Headline
 pub mod Report
 pub mod Notices
 pub mod PlayRun
-pub mod Folders
-pub mod Outcomes
-pub mod Jobs
-pub mod Serving
-pub mod Servings
 pub mod Inside

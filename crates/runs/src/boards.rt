@@ -1,9 +1,8 @@
 //! The board that a text is, within one of two limits.
 
-ghost use Rattle.std.specs.Prelude.{◌≡◌, ◌≤◌, IfOk, IfErr};
+ghost use Rattle.std.specs.Prelude.{◌≤◌, IfOk, IfErr};
 ghost use Rattle.classes.specs.Numbers.{class_count};
 ghost use Rattle.positions.specs.Ranks.{configurations};
-ghost use Rattle.runs.specs.Jobs.{limit_of};
 ghost use Rattle.runs.specs.Texts.{HasNoBoard, HasNoneWithin, IsBoardWithin, IsSmallBoard};
 
 use crate::fault::RunFault;
@@ -35,15 +34,4 @@ pub fn board_within(alloc: Global, limit: Numbering, text: &[u8]) -> Result<Boar
         return Err(RunFault::TooLarge);
     }
     Ok(board)
-}
-
-/// The limit of a board that is said to be `large`, or isn't.
-pub(crate) fn limit_of(large: bool) -> Numbering
-    ensures { result ≡ limit_of large }
-{
-    if large {
-        Numbering::Classes
-    } else {
-        Numbering::Ordered
-    }
 }

@@ -48,13 +48,14 @@ pub fn run_joined<R: Source, W: Sink>(
 /// How a check of a joined input ended, and the bytes that were read: none if they weren't read to
 /// their end.
 #[derive(Drop)]
-pub(crate) struct JoinedRun {
-    pub(crate) result: Result<Verdict, RunFault>,
-    pub(crate) text: Vec<u8>,
+pub struct JoinedRun {
+    pub result: Result<Verdict, RunFault>,
+    pub text: Vec<u8>,
 }
 
-/// Does what `run_joined` does, and keeps the bytes for the explanation of a fault.
-pub(crate) fn run_keeping_text<R: Source, W: Sink>(
+/// Does what `run_joined` does, and gives the bytes that were read too, by which a fault can be
+/// explained.
+pub fn run_keeping_text<R: Source, W: Sink>(
     rt: &(impl Threads + Sync),
     alloc: Global,
     reader: &mut R,

@@ -13,7 +13,7 @@ use proof_text::{ProofFault, ProofKind};
 use solver::SolveFault;
 use std::alloc::AllocError;
 
-/// Why a run ended without an answer. `fault_line` has the line that says it.
+/// Why a run ended without an answer.
 #[derive(Clone, Copy, Debug, PartialEq, Eq)]
 pub enum RunFault {
     /// The text of the board has a fault.

@@ -14,7 +14,7 @@ ghost use Rattle.runs.specs.PlayRun.{game_played, run_of_play};
 ghost use Rattle.runs.specs.Run.{TellsFailures, bytes_of, stream_of};
 
 use crate::fault::RunFault;
-use crate::note_lines::tell_size;
+use crate::notices::tell_size;
 use crate::reading::{MAX_BOARD_BYTES, read_board};
 use crate::solving::numbered_of;
 use board_text::{Board, Sink, Source, Through};

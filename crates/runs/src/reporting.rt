@@ -16,7 +16,7 @@ ghost use Rattle.runs.specs.Texts.{HasNoBoard, HasNoneWithin, IsBoardWithin};
 
 use crate::boards::board_within;
 use crate::fault::RunFault;
-use crate::note_lines::tell_size;
+use crate::notices::tell_size;
 use crate::reading::{MAX_BOARD_BYTES, read_text};
 use crate::solving::{numbered_by, numbered_of};
 use crate::writing::write_text;

@@ -116,6 +116,9 @@ pub fn solve_text(
     ensures ok { IfOk result (λ solved. Solution text.now solved.value (string_bytes solved.text)) }
     ensures fault { IfErr result (CannotSolve Numbering.Ordered workers text.now) }
 {
+    if workers == 1 {
+        return solve_text_alone(alloc, text);
+    }
     let board = small_board(alloc, text)?;
     let values = values_by(rt, alloc, workers, &board)?;
     let moves = BestMoves::new(&board, &values);
@@ -142,9 +145,6 @@ fn solution_in_parts(
     requires { 1 ≤ parts }
     ensures { IfOk result (λ solved. IsSolved moves.now solved.value (string_bytes solved.text)) }
 {
-    if parts == 1 {
-        return solution(alloc, moves);
-    }
     let value = start_value(moves);
     let document = moves.document_in_parts(rt, alloc, parts as u32)?;
     let text = print_in_parts(rt, alloc, moves.space(), &document, parts as u32)?;
@@ -158,7 +158,7 @@ fn start_value(moves: &BestMoves<'_>) -> Value
     moves.value(moves.start())
 }
 
-/// The values of a small board by its ranks, by this number of workers.
+/// The values of a small board by its ranks, by this number of workers, which share the work.
 fn values_by(
     rt: &(impl Threads + Wait + Sync),
     alloc: Global,
@@ -170,7 +170,7 @@ fn values_by(
     ensures values { IfOk result (λ values. values ≡ board.now) }
     ensures refused { IfErr result (IsRefused workers) }
 {
-    let values = numbered_by(rt, alloc, workers, board)?;
+    let values = solve_classes(rt, alloc, board, workers as u32, &NoGate)?;
     Ok(Values::new(values, board))
 }
 

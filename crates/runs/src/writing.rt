@@ -10,7 +10,7 @@ use board_text::{Failed, Sink, write_all};
 
 /// Writes the text. The writer must not have failed before.
 /// After a fault a prefix of the text was written.
-pub(crate) fn write_text<W: Sink>(writer: &mut W, text: &str) -> Result<(), RunFault>
+pub fn write_text<W: Sink>(writer: &mut W, text: &str) -> Result<(), RunFault>
     requires ready { W.has_failed writer.old ≡ false }
     ensures ok { OnOk result (Appends (W.contents writer.old) (W.contents writer.new) text.now) }
     ensures prefix { OnErr result (AppendsPrefix (W.contents writer.old)

@@ -1,13 +1,14 @@
 //! Solvers of boards and their values.
 
-ghost use Rattle.std.specs.Prelude.{◌≡◌, ◌≤◌, false, IfOk, IfSome, MatchOption};
+ghost use Rattle.std.specs.Prelude.{◌≡◌, ◌≤◌, IfOk, IfSome, MatchOption};
 ghost use Rattle.positions.specs.Ranks.{configurations, configuration_at};
 ghost use Rattle.positions.specs.Value.{HasValue};
 ghost use Rattle.graphs.specs.declared.graph.Numbering.TheVariants.{Ordered, Classes};
 ghost use Rattle.graphs.specs.Numbered.{numbered};
-ghost use Rattle.solver.specs.Solving.{IsSolving};
+ghost use Rattle.solver.specs.Solving.{IsFresh};
 
-use board_text::Board;
+use board_text::{Board, Memory};
+use classes::has_few_classes;
 use index_lists::{ListStore, PlainLists};
 use positions::{MAX_CONFIGURATIONS, Value, is_small};
 use solver::{NumberedValues, SolveFault, Solver, Values};
@@ -15,9 +16,7 @@ use std::alloc::Global;
 
 /// The answer of `Solver::open`, which is asked once more if it was refused memory.
 pub fn solver_of<S: ListStore + Drop>(alloc: Global, board: &Board) -> Result<Solver<S>, SolveFault>
-    ensures game { IfOk result (λ solver. solver.game ≡ numbered board.now Ordered) }
-    ensures start { IfOk result (λ solver. (solver.rounds ≡ 0) × (solver.is_done ≡ false)) }
-    ensures kept { IfOk result (λ solver. IsSolving solver) }
+    ensures { IfOk result (λ solver. IsFresh (numbered board.now Ordered) solver) }
 {
     match Solver::open(alloc, board) {
         Err(SolveFault::Memory) => Solver::open(alloc, board),
@@ -25,18 +24,17 @@ pub fn solver_of<S: ListStore + Drop>(alloc: Global, board: &Board) -> Result<So
     }
 }
 
-/// The answer of `Solver::of_classes`, which is asked once more if it was refused memory.
-pub fn class_solver_of<S: ListStore + Drop>(
-    alloc: Global,
-    board: &Board,
-) -> Result<Solver<S>, SolveFault>
-    ensures game { IfOk result (λ solver. solver.game ≡ numbered board.now Classes) }
-    ensures start { IfOk result (λ solver. (solver.rounds ≡ 0) × (solver.is_done ≡ false)) }
-    ensures kept { IfOk result (λ solver. IsSolving solver) }
+/// The solver of a board that hasn't too many classes, by these. `Solver::of_classes` is asked once
+/// more if it was refused memory.
+pub fn class_solver_of<S: ListStore + Drop>(alloc: Global, board: &Board) -> Option<Solver<S>>
+    ensures { IfSome result (λ solver. IsFresh (numbered board.now Classes) solver) }
 {
+    if !has_few_classes(board) {
+        return None;
+    }
     match Solver::of_classes(alloc, board) {
-        Err(SolveFault::Memory) => Solver::of_classes(alloc, board),
-        opened => opened,
+        Err(Memory) => Solver::of_classes(alloc, board).ok(),
+        Ok(solver) => Some(solver),
     }
 }
 
@@ -71,7 +69,7 @@ pub fn values_by_classes(alloc: Global, board: &Board) -> Option<Values>
 pub fn numbered_values_of(alloc: Global, board: &Board) -> Option<NumberedValues>
     ensures { IfSome result (λ values. values.board ≡ board.now) }
 {
-    let solver = class_solver_of::<PlainLists>(alloc, board).ok()?;
+    let solver = class_solver_of::<PlainLists>(alloc, board)?;
     Some(solver.solve_numbered())
 }
 

@@ -60,10 +60,15 @@ module _ (s : PlainStage) (gap place rank : ℕ) (now : PlainStage) (to_close : 
         closing = subst (λ n. IsClosing a gap s.value s.values (slice_set now.values rank n)) (sym value_is)
             (closing-step a gap s.value s.values now.values rank rank_in all (λ e. omega arith) still
             (member-is a gap place rank inside rank_is) so_far.closing);
-        shut = shut-more a gap place now.values (slice_set now.values rank now.value) rank now.value in_words
-            (λ e. omega arith) rank_is refl so_far.shut;
-        filed_are = filed-once now rank so_far.filed_are (rw so_far.kept.game_is few)
-            (rw (value_is, so_far.kept.game_is) low) (rw so_far.kept.game_is rank_in) still;
+        shut = shut-more a gap place now.values rank rank_is so_far.shut (slice_set now.values rank now.value) now.value
+            in_words (λ e. omega arith) refl;
+        filed_are = filed-once now rank (record {
+          filed_are = so_far.filed_are;
+          few = rw so_far.kept.game_is few;
+          low = rw (value_is, so_far.kept.game_is) low;
+          is_rank = rw so_far.kept.game_is rank_in;
+          still_open = still;
+        });
       }
 
   pub gap-skips : is_open now.values rank ≡ false → IsClosingGap s gap (place + 1) now
@@ -72,7 +77,7 @@ module _ (s : PlainStage) (gap place rank : ℕ) (now : PlainStage) (to_close : 
     strikes_is = so_far.strikes_is;
     counts_is = so_far.counts_is;
     closing = so_far.closing;
-    shut = shut-same a gap place now.values rank rank_is shut so_far.shut;
+    shut = shut-same a gap place now.values rank rank_is so_far.shut shut;
     filed_are = so_far.filed_are;
   }
 

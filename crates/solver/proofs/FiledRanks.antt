@@ -100,52 +100,63 @@ module _ (s : PlainStage) (rank : ℕ) where
         ∙ (let none = cond_other {A = ℕ} v s.value (times x (rank ∷ [])) 0 away in omega arith)
   ]
 
--- an open configuration is in no list
-pub open-free : (s : PlainStage) (rank : ℕ) → IsFiled s → (graph_of s.game).configurations ≤ MAX_CLASSES
-    → rank < (graph_of s.game).configurations → is_open s.values rank ≡ true → (v : ℕ) → times rank (filed_at s v) ≡ 0
-open-free s rank are few i still v = elim (cases_lt ((graph_of s.game).configurations) v) [
-  | inl beyond ↦ ap (times rank) (past s.buckets v (let size = are.lists_length in omega arith))
-  | inr low ↦ are.once v rank low i
-      ∙ cond_other (slice_index s.values rank) v 1 0 (let word = open_word s.values rank still in λ e. omega arith)
-]
+-- an open configuration, which the value may be filed for
+pub record IsToFile (s : PlainStage) (rank : ℕ) : Type 0 where
+  pub filed_are : IsFiled s
+  pub few : (graph_of s.game).configurations ≤ MAX_CLASSES
+  pub low : s.value ≤ (graph_of s.game).configurations
+  pub is_rank : rank < (graph_of s.game).configurations
+  pub still_open : is_open s.values rank ≡ true
 
-pub filed-once : (s : PlainStage) (rank : ℕ) → IsFiled s → (graph_of s.game).configurations ≤ MAX_CLASSES
-    → s.value ≤ (graph_of s.game).configurations → rank < (graph_of s.game).configurations
-    → is_open s.values rank ≡ true → IsFiled (rank_filed s rank)
-filed-once s rank are few low i still = record {
-  values_length = length-set s.values rank s.value ∙ are.values_length;
-  lists_length = length-set s.buckets s.value (filed_at s s.value ++ rank ∷ []) ∙ are.lists_length;
-  below = λ v x h. elim (same_or_not x rank) [
-    | inl here ↦ omega arith
-    | inr other ↦ are.below v x (let all = listed-times s rank inside v x in let none = not_here v x other in
-        omega arith)
-  ];
-  once = λ v x k l. listed-times s rank inside v x ∙ elim (same_or_not x rank) [
-    | inl here ↦
-        let word : slice_index (slice_set s.values rank s.value) x ≡ s.value =
-        ap (slice_index (slice_set s.values rank s.value)) here
-        ∙ get_or-set_same s.values rank s.value 0 (let size = are.values_length in omega arith) in
-        let free : times x (filed_at s v) ≡ 0 =
-        ap (λ y. times y (filed_at s v)) here ∙ open-free s rank are few i still v in
-        let one : times x (rank ∷ []) ≡ 1 = ap (λ y. times y (rank ∷ [])) here ∙ times_one rank in
-        elim (same_or_not v s.value) [
-          | inl same ↦ (let more = cond_same {A = ℕ} v s.value (times x (rank ∷ [])) 0 same in omega arith)
-              ∙ sym (cond_same (slice_index (slice_set s.values rank s.value) x) v 1 0 (word ∙ sym same))
-          | inr away ↦ (let more = cond_other {A = ℕ} v s.value (times x (rank ∷ [])) 0 away in omega arith)
-              ∙ sym (cond_other (slice_index (slice_set s.values rank s.value) x) v 1 0 (λ e. away (sym e ∙ word)))
-        ]
-    | inr other ↦
-        let word : slice_index (slice_set s.values rank s.value) x ≡ slice_index s.values x =
-        get_or-set_other s.values rank x s.value 0 other in
-        (let none = not_here v x other in omega arith) ∙ are.once v x k l ∙ ap (λ w. cond (w == v) 1 0) (sym word)
-  ];
-}
-  where
-    inside : s.value < length s.buckets
-    inside = let size = are.lists_length in omega arith
+module _ (s : PlainStage) (rank : ℕ) (to_file : IsToFile s rank) where
+  are : IsFiled s
+  are = to_file.filed_are
 
-    not_here : (v x : ℕ) → x ≢ rank → cond {A = ℕ} (v == s.value) (times x (rank ∷ [])) 0 ≡ 0
-    not_here v x other = elim (same_or_not v s.value) [
-      | inl here ↦ cond_same {A = ℕ} v s.value (times x (rank ∷ [])) 0 here ∙ times_none rank x other
-      | inr away ↦ cond_other {A = ℕ} v s.value (times x (rank ∷ [])) 0 away
-    ]
+  -- it is in no list
+  open-free : (v : ℕ) → times rank (filed_at s v) ≡ 0
+  open-free v = elim (cases_lt ((graph_of s.game).configurations) v) [
+    | inl beyond ↦ ap (times rank) (past s.buckets v (omega (arith, are.lists_length, beyond)))
+    | inr low ↦ are.once v rank low to_file.is_rank
+        ∙ cond_other (slice_index s.values rank) v 1 0
+        (let word = open_word s.values rank to_file.still_open in let few = to_file.few in λ e. omega arith)
+  ]
+
+  pub filed-once : IsFiled (rank_filed s rank)
+  filed-once = record {
+    values_length = length-set s.values rank s.value ∙ are.values_length;
+    lists_length = length-set s.buckets s.value (filed_at s s.value ++ rank ∷ []) ∙ are.lists_length;
+    below = λ v x h. elim (same_or_not x rank) [
+      | inl here ↦ omega (arith, here, to_file.is_rank)
+      | inr other ↦ are.below v x (let all = listed-times s rank inside v x in let none = not_here v x other in
+          omega arith)
+    ];
+    once = λ v x k l. listed-times s rank inside v x ∙ elim (same_or_not x rank) [
+      | inl here ↦
+          let word : slice_index (slice_set s.values rank s.value) x ≡ s.value =
+          ap (slice_index (slice_set s.values rank s.value)) here
+          ∙ get_or-set_same s.values rank s.value 0
+          (omega (arith, are.values_length, to_file.is_rank)) in
+          let free : times x (filed_at s v) ≡ 0 =
+          ap (λ y. times y (filed_at s v)) here ∙ open-free v in
+          let one : times x (rank ∷ []) ≡ 1 = ap (λ y. times y (rank ∷ [])) here ∙ times_one rank in
+          elim (same_or_not v s.value) [
+            | inl same ↦ (let more = cond_same {A = ℕ} v s.value (times x (rank ∷ [])) 0 same in omega arith)
+                ∙ sym (cond_same (slice_index (slice_set s.values rank s.value) x) v 1 0 (word ∙ sym same))
+            | inr away ↦ (let more = cond_other {A = ℕ} v s.value (times x (rank ∷ [])) 0 away in omega arith)
+                ∙ sym (cond_other (slice_index (slice_set s.values rank s.value) x) v 1 0 (λ e. away (sym e ∙ word)))
+          ]
+      | inr other ↦
+          let word : slice_index (slice_set s.values rank s.value) x ≡ slice_index s.values x =
+          get_or-set_other s.values rank x s.value 0 other in
+          (let none = not_here v x other in omega arith) ∙ are.once v x k l ∙ ap (λ w. cond (w == v) 1 0) (sym word)
+    ];
+  }
+    where
+      inside : s.value < length s.buckets
+      inside = omega (arith, are.lists_length, to_file.low)
+
+      not_here : (v x : ℕ) → x ≢ rank → cond {A = ℕ} (v == s.value) (times x (rank ∷ [])) 0 ≡ 0
+      not_here v x other = elim (same_or_not v s.value) [
+        | inl here ↦ cond_same {A = ℕ} v s.value (times x (rank ∷ [])) 0 here ∙ times_none rank x other
+        | inr away ↦ cond_other {A = ℕ} v s.value (times x (rank ∷ [])) 0 away
+      ]

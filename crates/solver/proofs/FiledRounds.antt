@@ -14,7 +14,7 @@ use Rattle.graphs.specs.Numbered.{Numbered, graph_of}
 use Rattle.solver.specs.Ending.{IsRoundEnd}
 use Rattle.solver.specs.Solving.{IsWorth}
 use Rattle.solver.specs.Solving.{AnswerLasts}
-use Rattle.solver.specs.Inside.Stage.{PlainStage, rank_filed, as_solving, IsKeptStage, IsStriking, IsUnstruck, FilesAll}
+use Rattle.solver.specs.Inside.Stage.{PlainStage, rank_filed, as_solving, IsStriking, IsUnstruck, FilesAll}
 use Rattle.solver.specs.Inside.Stage.{TakesCounts}
 use Rattle.solver.specs.Inside.Tables.{is_open, is_unstruck, IsCounted, AreWords}
 use Rattle.graphs.proofs.Cited.{value_of_lasts, lasts_of_value, same_test, true_or_false, same_or_not, lasts-less}
@@ -56,8 +56,13 @@ files-more s ranks rank now few low i still new so_far =
           get_or-set_other now.values rank x now.value 0
           (λ here. absurd (let one = times_one rank in let at = ap (λ y. times y (rank ∷ [])) here in omega arith))
           ∙ so_far.elsewhere x (omega arith);
-      filed_are = filed-once now rank so_far.filed_are (omega (arith, few, same)) (omega (arith, low, same, value_is))
-          (omega (arith, i, same)) open_now;
+      filed_are = filed-once now rank (record {
+        filed_are = so_far.filed_are;
+        few = omega (arith, few, same);
+        low = omega (arith, low, same, value_is);
+        is_rank = omega (arith, i, same);
+        still_open = open_now;
+      });
     }
 
 -- the number at a place of a list without repetitions: it is in the list, and not among those before it
@@ -171,21 +176,14 @@ module _ (s : PlainStage) (unstruck : IsUnstruck s) where
       stage = record {
         counts_are = subst (λ (q : Numbered). IsCounted (graph_of q) (is_unstruck (graph_of q) r []) t.counts)
             (sym files.kept.game_is)
-            (IsCounted-same a is (lasts a (suc r)) (is_unstruck a r []) t.counts
-            (λ x i. unstruck-none a r x) end-counts);
+            (IsCounted-same a is (lasts a (suc r)) (is_unstruck a r []) (λ x i. unstruck-none a r x) t.counts
+            end-counts);
         words_are = subst (λ (q : Numbered). AreWords (graph_of q) (is_unstruck (graph_of q) r []) m.values)
             (sym files.kept.game_is)
-            (AreWords-same a is (lasts a (suc r)) (is_unstruck a r []) m.values
-            (λ x i. unstruck-none a r x) end-words);
+            (AreWords-same a is (lasts a (suc r)) (is_unstruck a r []) (λ x i. unstruck-none a r x) m.values
+            end-words);
         filed_are = filed-counting m t.counts files.filed_are;
       };
       due = λ x h. absurd (omega arith);
       once = λ x. omega arith;
-    })
-
-    pub end-kept : IsKeptStage s t
-    end-kept = subst (IsKeptStage s) (sym takes.rest) (record {
-      game_is = files.kept.game_is;
-      value_is = files.kept.value_is;
-      others = files.kept.others;
     })

@@ -6,7 +6,7 @@ use Rattle.std.proofs.Math.ListN.{length-set}
 use Rattle.std.proofs.lemmas.Bool.{cases_lt}
 use Rattle.std.proofs.lemmas.List.Quantifiers.{all_pairs_push}
 use Rattle.index_lists.specs.Lists.{times}
-use Rattle.index_lists.proofs.Cited.{cond_same, cond_other, times-here, times-more, times-append}
+use Rattle.index_lists.proofs.Cited.{cond_same, cond_other, times-append}
 use Rattle.classes.specs.declared.counting.TheConstants.{MAX_CLASSES}
 use Rattle.graphs.specs.Graph.{PlainGraph, is_answered, lasts}
 use Rattle.graphs.specs.Numbered.{Numbered, graph_of}
@@ -17,6 +17,7 @@ use Rattle.solver.specs.declared.word.TheConstants.{OPEN}
 use Rattle.solver.proofs.FiledRanks.{listed-here, listed-away}
 use Rattle.graphs.proofs.Cited.{same_or_not, true_or_false}
 use Rattle.solver.proofs.ListedWords.{times_one, times_none}
+use Rattle.solver.proofs.StruckRanks.{in_list}
 
 -- the configurations below a rank that have the word 0 are listed
 pub record IsListing (s : PlainStage) (rank : ℕ) (now : PlainStage) : Type 0 where
@@ -29,14 +30,6 @@ pub record IsListing (s : PlainStage) (rank : ℕ) (now : PlainStage) : Type 0 w
   pub below : (x : ℕ) → 0 < times x (filed_at now 0) → x < rank
   pub once : (x : ℕ) → x < rank → times x (filed_at now 0) ≡ cond (slice_index s.values x == 0) 1 0
   pub ascending : AllPairs (λ first second. first < second) (filed_at now 0)
-
-none-of : (xs ys : List ℕ) (x : ℕ) → xs ≡ ys → ys ≡ [] → times x xs ≡ 0
-none-of xs ys x e none = ap (times x) (e ∙ none)
-
-pub in_list : (xs : List ℕ) (k d : ℕ) → k < length xs → 0 < times (get_or xs k d) xs
-in_list [] k d h = absurd (omega arith)
-in_list (x ∷ xs) zero d h = times-here x x xs refl
-in_list (x ∷ xs) (suc k) d h = times-more x (get_or xs k d) xs (in_list xs k d (omega arith))
 
 module _ (s : PlainStage) (rank : ℕ) (now : PlainStage) (so_far : IsListing s rank now) where
   -- the next configuration is in no list
@@ -109,28 +102,28 @@ module _ (s : PlainStage) (rank : ℕ) (now : PlainStage) (so_far : IsListing s 
 
 -- ---- all of them
 
-first-open : (a : PlainGraph) (words : List ℕ) → AreFirstWords a words → (x : ℕ) → x < a.configurations
-    → is_open words x ≡ is_answered a (lasts a 0) x
-first-open a words are x i = ap (λ w. w == OPEN) (are.each x i) ∙ by (is_answered a (lasts a 0) x)
-  where
-    by : (t : Bool) → (cond {A = ℕ} t OPEN 0 == OPEN) ≡ t
-    by true = refl
-    by false = refl
+module _ (a : PlainGraph) (words : List ℕ) (are : AreFirstWords a words) where
+  first-open : (x : ℕ) → x < a.configurations → is_open words x ≡ is_answered a (lasts a 0) x
+  first-open x i = ap (λ w. w == OPEN) (are.each x i) ∙ by (is_answered a (lasts a 0) x)
+    where
+      by : (t : Bool) → (cond {A = ℕ} t OPEN 0 == OPEN) ≡ t
+      by true = refl
+      by false = refl
 
-first-zero : (a : PlainGraph) (words : List ℕ) → AreFirstWords a words → (x : ℕ) → x < a.configurations
-    → is_open words x ≡ false → (slice_index words x ≡ 0) × (is_answered a (lasts a 0) x ≡ false)
-first-zero a words are x i shut =
-    let stuck : is_answered a (lasts a 0) x ≡ false = sym (first-open a words are x i) ∙ shut in
-    (are.each x i ∙ ap (λ t. cond {A = ℕ} t OPEN 0) stuck, stuck)
+  first-zero : (x : ℕ) → x < a.configurations → is_open words x ≡ false
+      → (slice_index words x ≡ 0) × (is_answered a (lasts a 0) x ≡ false)
+  first-zero x i shut =
+      let stuck : is_answered a (lasts a 0) x ≡ false = sym (first-open x i) ∙ shut in
+      (are.each x i ∙ ap (λ t. cond {A = ℕ} t OPEN 0) stuck, stuck)
 
--- the first words are right before the first round
-first-are-words : (a : PlainGraph) (words : List ℕ) → AreFirstWords a words → AreWords a (lasts a 0) words
-first-are-words a words are = record {
-  values_length = are.words_length;
-  opened = first-open a words are;
-  lasting = λ x i shut. rw (first-zero a words are x i shut).0 refl;
-  stopping = λ x i shut. let zero = first-zero a words are x i shut in rw zero.0 zero.1;
-}
+  -- the first words are right before the first round
+  first-are-words : AreWords a (lasts a 0) words
+  first-are-words = record {
+    values_length = are.words_length;
+    opened = first-open;
+    lasting = λ x i shut. rw (first-zero x i shut).0 refl;
+    stopping = λ x i shut. let zero = first-zero x i shut in rw zero.0 zero.1;
+  }
 
 pub all-listed : (s : PlainStage) (rank : ℕ) (now : PlainStage) → IsUnlisted s
     → (graph_of s.game).configurations ≤ MAX_CLASSES → rank ≡ (graph_of s.game).configurations → IsListing s rank now

@@ -1,5 +1,5 @@
 -- The words before the first round.
-use Rattle.std.proofs.Common.{◌≡◌, ◌≢◌, ◌⊎◌, ℕ, ◌+◌, ◌<◌, ◌==◌, ◌&&◌, inl, inr, Bool, true, false, cond, refl, arith}
+use Rattle.std.proofs.Common.{◌≡◌, ◌⊎◌, ℕ, ◌+◌, ◌<◌, inl, inr, Bool, true, cond, arith}
 use Rattle.std.proofs.Common.{sym, ap, ◌∙◌, List, length, slice_index, slice_set, get_or-set_other, get_or-set_same}
 use Rattle.std.proofs.Math.ListN.{length-set}
 use Rattle.std.proofs.lemmas.Bool.{cases_lt}
@@ -8,12 +8,9 @@ use Rattle.solver.specs.Inside.Opening.{AreZeroed}
 use Rattle.solver.specs.Inside.Tables.{IsCounted, AreFirstWords}
 use Rattle.solver.specs.declared.word.TheConstants.{OPEN}
 use Rattle.graphs.proofs.Cited.{member-is, member-at}
-use Rattle.graphs.proofs.Cited.{same_is, differ_is, true_or_false, true_not_false, same_or_not, next-closed, next-fails}
+use Rattle.graphs.proofs.Cited.{true_or_false, true_not_false, same_or_not, next-closed, next-fails}
 
 -- ---- the members of one gap
-
-pub zeroed-none : (a : PlainGraph) (gap : ℕ) (words : List ℕ) → AreZeroed a gap 0 words words
-zeroed-none a gap words = record { same_length = refl; zeroed = λ v low. absurd (omega arith); others = λ x. inl refl }
 
 pub zeroed-more : (a : PlainGraph) (gap place rank : ℕ) (old now : List ℕ) → place < a.places
     → rank ≡ a.member gap place → rank < length now
@@ -54,53 +51,6 @@ pub record AreStopped (a : PlainGraph) (counts : List ℕ) (gap : ℕ) (words : 
   pub others : (x : ℕ) → x < a.configurations
       → (slice_index words x ≡ OPEN) ⊎ ((slice_index words x ≡ 0) × IsStopped a counts gap x)
 
-stopped-later : (a : PlainGraph) (counts : List ℕ) (gap x : ℕ) → IsStopped a counts gap x
-    → IsStopped a counts (gap + 1) x
-stopped-later a counts gap x s =
-    record { at = s.at; below = (let low = s.below in omega arith); none = s.none; member = s.member }
-
-pub stopped-none : (a : PlainGraph) (counts words : List ℕ) → length words ≡ a.configurations
-    → ((x : ℕ) → x < a.configurations → slice_index words x ≡ OPEN) → AreStopped a counts 0 words
-stopped-none a counts words size all =
-    record { words_length = size; zeroed = λ g v low. absurd (omega arith); others = λ x i. inl (all x i) }
-
-pub stopped-skip : (a : PlainGraph) (counts words : List ℕ) (gap : ℕ) → slice_index counts gap ≢ 0
-    → AreStopped a counts gap words → AreStopped a counts (gap + 1) words
-stopped-skip a counts words gap some s = record {
-  words_length = s.words_length;
-  zeroed = λ g v low inside none. elim (cases_lt g gap) [
-    | inl before ↦ s.zeroed g v before inside none
-    | inr last ↦ absurd (some (ap (slice_index counts) (let same : gap ≡ g = omega arith in same) ∙ none))
-  ];
-  others = λ x i. elim (s.others x i) [
-    | inl still ↦ inl still
-    | inr zero ↦
-        inr (zero.0, stopped-later a counts gap x zero.1)
-  ];
-}
-
-pub stopped-more : (a : PlainGraph) (counts words now : List ℕ) (gap : ℕ) → slice_index counts gap ≡ 0
-    → AreZeroed a gap a.places words now → AreStopped a counts gap words → AreStopped a counts (gap + 1) now
-stopped-more a counts words now gap none z s = record {
-  words_length = z.same_length ∙ s.words_length;
-  zeroed = λ g v low inside zero. elim (cases_lt g gap) [
-    | inl before ↦ elim (z.others (a.member g v)) [
-      | inl kept ↦ kept ∙ s.zeroed g v before inside zero
-      | inr here ↦
-          here.0
-    ]
-    | inr last ↦ ap (λ h. slice_index now (a.member h v)) (let same : g ≡ gap = omega arith in same) ∙ z.zeroed v inside
-  ];
-  others = λ x i. elim (z.others x) [
-    | inr here ↦ inr (here.0, record { at = gap; below = omega arith; none = none; member = here.1 })
-    | inl kept ↦ elim (s.others x i) [
-      | inl still ↦ inl (kept ∙ still)
-      | inr zero ↦
-          inr (kept ∙ zero.0, stopped-later a counts gap x zero.1)
-    ]
-  ];
-}
-
 pub first-words : (a : PlainGraph) (counts words : List ℕ) → IsCounted a (lasts a 0) counts
     → AreStopped a counts a.gaps words → AreFirstWords a words
 first-words a counts words t s = record {
@@ -122,14 +72,3 @@ first-words a counts words t s = record {
         ∙ sym (ap (λ (c : Bool). cond c OPEN 0) stuck)
   ];
 }
-
--- ---- the answers of one gap
-
--- one place more
-pub count-yes : (a : PlainGraph) (gap place count : ℕ) → a.struck (a.member gap place) ≡ gap
-    → (a.struck (a.member gap place) == gap && true) ≡ true
-count-yes a gap place count e = rw (same_is (a.struck (a.member gap place)) gap e) refl
-
-pub count-no : (a : PlainGraph) (gap place count : ℕ) → (a.struck (a.member gap place) ≡ gap → ⊥)
-    → (a.struck (a.member gap place) == gap && true) ≡ false
-count-no a gap place count e = rw (differ_is (a.struck (a.member gap place)) gap e) refl

@@ -1,5 +1,5 @@
 -- The open members of a gap, from a place on.
-use Rattle.std.proofs.Common.{◌≡◌, ◌≢◌, ℕ, suc, ◌+◌, ◌-◌, ◌<◌, ◌≤◌, ◌∙◌, sym, ap, arith, List, [], ◌∷◌, slice_index}
+use Rattle.std.proofs.Common.{◌≡◌, ◌≢◌, ℕ, suc, ◌+◌, ◌-◌, ◌<◌, ◌∙◌, sym, ap, arith, List, ◌∷◌, slice_index}
 use Rattle.graphs.specs.Graph.{PlainGraph}
 use Rattle.graphs.proofs.Cited.{same_is}
 use Rattle.solver.specs.Inside.SourceWalk.{open_from}
@@ -29,9 +29,3 @@ module _ (a : PlainGraph) (words : List ℕ) (gap place : ℕ) where
       from-here low ∙ members-take a (is_open words) gap place (a.places - (place + 1))
       (ap (is_open words) (sym here) ∙ same_is (slice_index words member) OPEN word)
       ∙ ap (λ x. x ∷ open_from a words gap (place + 1)) (sym here)
-
-  -- after the last place there is none
-  pub walk-over : a.places ≤ place → open_from a words gap place ≡ []
-  walk-over end =
-      let none : a.places - place ≡ 0 = omega arith in
-      ap (members_from a (is_open words) gap place) none

@@ -1,7 +1,7 @@
 -- The space of a solver whose numbers are ranks, and the configurations of values by ranks.
-use Rattle.std.proofs.Common.{◌≡◌, ◌≤◌, ℕ, Option, Some, subst}
-use Rattle.board_text.specs.PlainBoard.{PlainBoard, IsBoard, IsConfiguration}
-use Rattle.positions.specs.Ranks.{configurations, configuration_at}
+use Rattle.std.proofs.Common.{◌≡◌, ◌≤◌, Option, Some, subst}
+use Rattle.board_text.specs.PlainBoard.{PlainBoard}
+use Rattle.positions.specs.Ranks.{configurations}
 use Rattle.positions.specs.declared.space.TheConstants.{MAX_CONFIGURATIONS}
 use Rattle.graphs.specs.declared.graph.Numbering.{Numbering}
 use Rattle.graphs.specs.declared.graph.Numbering.TheVariants.{Ordered, Classes}

@@ -140,8 +140,8 @@ module _ (s : PlainStage) (is : IsGraph (graph_of s.game)) (few : (graph_of s.ga
         round = r;
         value_is = value_is;
         stage = record {
-          counts_are = counted-alike a is (lasts a r) (is_unstruck a r todo) s.counts alike stage.counts_are;
-          words_are = words-alike a is (lasts a r) (is_unstruck a r todo) s.values alike stage.words_are;
+          counts_are = counted-alike a is (lasts a r) (is_unstruck a r todo) alike s.counts stage.counts_are;
+          words_are = words-alike a is (lasts a r) (is_unstruck a r todo) alike s.values stage.words_are;
           filed_are = stage.filed_are;
         };
         due = λ x h.
@@ -166,9 +166,9 @@ module _ (s : PlainStage) (is : IsGraph (graph_of s.game)) (few : (graph_of s.ga
       → is_unstruck a k.round [] x ≡ lasts a (suc k.round) x = λ x j holds. sym (unstruck-none a k.round x) in
       record {
         counts_are =
-            counted-alike a is (is_unstruck a k.round []) (lasts a (suc k.round)) s.counts alike k.stage.counts_are;
+            counted-alike a is (is_unstruck a k.round []) (lasts a (suc k.round)) alike s.counts k.stage.counts_are;
         words_are =
-            words-alike a is (is_unstruck a k.round []) (lasts a (suc k.round)) s.values alike k.stage.words_are;
+            words-alike a is (is_unstruck a k.round []) (lasts a (suc k.round)) alike s.values k.stage.words_are;
         filed_are = k.stage.filed_are;
       }
 
@@ -550,10 +550,6 @@ module _ (s : PlainStage) (round : ℕ) (is_done : Bool) (st : IsState s round i
     pub next-below : length (filed_at s' s'.value) ≢ 0 → s'.value < (graph_of s'.game).configurations
     next-below some =
         let more = further some in let one = more.0 in let all = more.1 in let at = value_is in omega arith
-
-    pub size-below : length (filed_at s' s'.value) ≢ 0 → suc round < (graph_of s.game).configurations
-    size-below some = subst (λ (p : PlainGraph). suc round < p.configurations) (ap graph_of kept.game_is)
-        (let low = next-below some in let at = value_is in omega arith)
 
     pub further-state : is_done ≡ false → length (filed_at s' s'.value) ≢ 0
         → IsState (at_next_value s') (suc round) false

@@ -5,7 +5,7 @@ use Rattle.std.proofs.lemmas.Bool.Decides.{nat_tests}
 use Rattle.graphs.specs.Graph.{PlainGraph, IsGraph, is_member, live_answers, is_answered, lasts}
 use Rattle.graphs.proofs.Cited.{without, member-is, member-at, one-place}
 use Rattle.graphs.proofs.Cited.{count_below-same, count_below-without}
-use Rattle.graphs.proofs.Cited.{both_true, and_true, and_second, same_is, same_test, true_or_false, true_not_false}
+use Rattle.graphs.proofs.Cited.{and_true, and_second, same_is, same_test, true_or_false, true_not_false}
 use Rattle.graphs.proofs.Cited.{next-gives, next-from, next-closed, next-le}
 
 -- the test without c fails at c
@@ -14,9 +14,6 @@ without-here above c x e = grind (arith, nat_tests)
 
 without-elsewhere : (above : ℕ → Bool) (c x : ℕ) → x ≢ c → without above c x ≡ above x
 without-elsewhere above c x e = grind (arith, nat_tests)
-
-without-less : (above : ℕ → Bool) (c x : ℕ) → without above c x ≡ true → above x ≡ true
-without-less above c x e = let both = both_true _ _ e in both.0
 
 test_same : (m n : ℕ) → (m == n) ≡ true → m ≡ n
 test_same m n e = grind (arith, nat_tests)
@@ -54,24 +51,26 @@ pub strike-other : (a : PlainGraph) (above : ℕ → Bool) (c g : ℕ) → g ≢
 strike-other a above c g other =
     live-elsewhere a above c g (λ v in_places legal e. other (sym legal ∙ ap a.struck e))
 
--- if no count falls to 0, the same configurations are open
-pub open-same : (a : PlainGraph) → IsGraph a → (above less : ℕ → Bool) (x : ℕ) → x < a.configurations
-    → ((g : ℕ) → g < a.gaps → 0 < live_answers a above g → 0 < live_answers a less g)
-    → ((y : ℕ) → y < a.configurations → less y ≡ true → above y ≡ true) → is_answered a less x ≡ is_answered a above x
-open-same a is above less x i kept implies = same_test _ _ (next-le a is less above x i implies) (λ e.
-    next-from a less x (λ g v j k m. kept g j (next-gives a above x g v e j k m)))
+-- the open configurations after some fail the test that passed it
+module _ (a : PlainGraph) (is : IsGraph a) (above less : ℕ → Bool) (x : ℕ) (i : x < a.configurations)
+    (implies : (y : ℕ) → y < a.configurations → less y ≡ true → above y ≡ true) where
+  -- if no count falls to 0, the same are open
+  pub open-same : ((g : ℕ) → g < a.gaps → 0 < live_answers a above g → 0 < live_answers a less g)
+      → is_answered a less x ≡ is_answered a above x
+  open-same kept = same_test _ _ (next-le a is less above x i implies) (λ e.
+      next-from a less x (λ g v j k m. kept g j (next-gives a above x g v e j k m)))
 
--- a configuration that isn't a member of the gap that closes stays open
-pub open-outside : (a : PlainGraph) → IsGraph a → (above less : ℕ → Bool) (x g : ℕ) → x < a.configurations
-    → is_member a g x ≡ false → ((h : ℕ) → h < a.gaps → h ≢ g → live_answers a less h ≡ live_answers a above h)
-    → ((y : ℕ) → y < a.configurations → less y ≡ true → above y ≡ true) → is_answered a less x ≡ is_answered a above x
-open-outside a is above less x g i outside others implies = same_test _ _ (next-le a is less above x i implies) (λ e.
-    next-from a less x (λ h v j k m.
-    let ne : h ≢ g = λ same. true_not_false (is_member a g x)
-    (ap (λ f. is_member a f x) (sym same) ∙ member-is a h v x k m) outside in
-    let some = next-gives a above x h v e j k m in
-    let same = others h j ne in
-    omega arith))
+  -- one that isn't a member of the gap that closes stays open
+  pub open-outside : (g : ℕ) → is_member a g x ≡ false
+      → ((h : ℕ) → h < a.gaps → h ≢ g → live_answers a less h ≡ live_answers a above h)
+      → is_answered a less x ≡ is_answered a above x
+  open-outside g outside others = same_test _ _ (next-le a is less above x i implies) (λ e.
+      next-from a less x (λ h v j k m.
+      let ne : h ≢ g = λ same. true_not_false (is_member a g x)
+      (ap (λ f. is_member a f x) (sym same) ∙ member-is a h v x k m) outside in
+      let some = next-gives a above x h v e j k m in
+      let same = others h j ne in
+      omega arith))
 
 -- no member of a gap whose count is 0 is open
 pub open-member : (a : PlainGraph) (less : ℕ → Bool) (x g : ℕ) → g < a.gaps → is_member a g x ≡ true

@@ -1,8 +1,8 @@
 -- Configurations that are answers; counts depend on these alone.
-use Rattle.std.proofs.Common.{◌≡◌, ℕ, ◌<◌, ◌≤◌, ◌==◌, ◌&&◌, Bool, true, false, cond, inl, inr, refl, sym, ap, ◌∙◌}
+use Rattle.std.proofs.Common.{◌≡◌, ℕ, ◌<◌, ◌==◌, ◌&&◌, Bool, true, cond, inl, inr, refl, sym, ap, ◌∙◌}
 use Rattle.std.proofs.Common.{subst, arith, List, [], ◌∷◌, ◌+◌, zero, suc, length, get_or}
 use Rattle.std.specs.List.{filter}
-use Rattle.std.proofs.lemmas.Bool.{lt-ltb, ltb-true, le-ltb}
+use Rattle.std.proofs.lemmas.Bool.{lt-ltb, ltb-true}
 use Rattle.std.proofs.lemmas.Bool.Decides.{nat_tests}
 use Rattle.index_lists.specs.Lists.{times}
 use Rattle.index_lists.proofs.Cited.{times-here, times-more, times-later}
@@ -42,48 +42,40 @@ filtered-times test x (y ∷ ys) holds = elim (true_or_false (test y)) [
       ∙ sym (times-later y x ys (λ e. true_not_false (test x) holds (ap test (sym e) ∙ dropped))))
 ]
 
--- tests that agree on the configurations that are answers give the same counts
-live-struck : (a : PlainGraph) → IsGraph a → (f h : ℕ → Bool) (g : ℕ) → g < a.gaps
-    → ((x : ℕ) → x < a.configurations → is_struck a x ≡ true → f x ≡ h x) → live_answers a f g ≡ live_answers a h g
-live-struck a is f h g i same =
-    count_below-same a.places (λ v. a.struck (a.member g v) == g && f (a.member g v))
-    (λ v. a.struck (a.member g v) == g && h (a.member g v))
-    (λ v j. elim (true_or_false (a.struck (a.member g v) == g)) [
-      | inl answer ↦ ap (λ t. a.struck (a.member g v) == g && t)
-          (same (a.member g v) (is.member_in g v i j)
-          (struck-is a (a.member g v) (let here = test_same (a.struck (a.member g v)) g answer in omega arith)))
-      | inr none ↦ rw none refl
-    ])
+-- tests that agree on the configurations that are answers
+module _ (a : PlainGraph) (is : IsGraph a) (f h : ℕ → Bool)
+    (same : (x : ℕ) → x < a.configurations → is_struck a x ≡ true → f x ≡ h x) where
+  -- they give the same counts
+  live-struck : (g : ℕ) → g < a.gaps → live_answers a f g ≡ live_answers a h g
+  live-struck g i =
+      count_below-same a.places (λ v. a.struck (a.member g v) == g && f (a.member g v))
+      (λ v. a.struck (a.member g v) == g && h (a.member g v))
+      (λ v j. elim (true_or_false (a.struck (a.member g v) == g)) [
+        | inl answer ↦ ap (λ t. a.struck (a.member g v) == g && t)
+            (same (a.member g v) (is.member_in g v i j)
+            (struck-is a (a.member g v) (let here = test_same (a.struck (a.member g v)) g answer in omega arith)))
+        | inr none ↦ rw none refl
+      ])
 
-pub next-struck : (a : PlainGraph) → IsGraph a → (f h : ℕ → Bool) (c : ℕ) → c < a.configurations
-    → ((x : ℕ) → x < a.configurations → is_struck a x ≡ true → f x ≡ h x) → is_answered a f c ≡ is_answered a h c
-next-struck a is f h c i same =
-    same_test (is_answered a f c) (is_answered a h c) (one f h (λ g j. live-struck a is f h g j same))
-    (one h f (λ g j. sym (live-struck a is f h g j same)))
-  where
-    one : (k l : ℕ → Bool) → ((g : ℕ) → g < a.gaps → live_answers a k g ≡ live_answers a l g)
-        → is_answered a k c ≡ true → is_answered a l c ≡ true
-    one k l alike e = next-from a l c (λ g v j m n. subst (λ t. 0 < t) (alike g j) (next-gives a k c g v e j m n))
+  next-struck : (c : ℕ) → c < a.configurations → is_answered a f c ≡ is_answered a h c
+  next-struck c i =
+      same_test (is_answered a f c) (is_answered a h c) (one f h (λ g j. live-struck g j))
+      (one h f (λ g j. sym (live-struck g j)))
+    where
+      one : (k l : ℕ → Bool) → ((g : ℕ) → g < a.gaps → live_answers a k g ≡ live_answers a l g)
+          → is_answered a k c ≡ true → is_answered a l c ≡ true
+      one k l alike e = next-from a l c (λ g v j m n. subst (λ t. 0 < t) (alike g j) (next-gives a k c g v e j m n))
 
-pub counted-alike : (a : PlainGraph) → IsGraph a → (f h : ℕ → Bool) (counts : List ℕ)
-    → ((x : ℕ) → x < a.configurations → is_struck a x ≡ true → f x ≡ h x) → IsCounted a f counts → IsCounted a h counts
-counted-alike a is f h counts same t = record {
-  counts_length = t.counts_length;
-  counted = λ g i. t.counted g i ∙ live-struck a is f h g i same;
-}
+  pub counted-alike : (counts : List ℕ) → IsCounted a f counts → IsCounted a h counts
+  counted-alike counts t = record {
+    counts_length = t.counts_length;
+    counted = λ g i. t.counted g i ∙ live-struck g i;
+  }
 
-pub words-alike : (a : PlainGraph) → IsGraph a → (f h : ℕ → Bool) (values : List ℕ)
-    → ((x : ℕ) → x < a.configurations → is_struck a x ≡ true → f x ≡ h x) → AreWords a f values → AreWords a h values
-words-alike a is f h values same t = record {
-  values_length = t.values_length;
-  opened = λ x i. t.opened x i ∙ next-struck a is f h x i same;
-  lasting = t.lasting;
-  stopping = t.stopping;
-}
-
--- a configuration that has a gap in which it is an answer passes the test, and one that has none fails it
-pub some-struck : (a : PlainGraph) (x gap : ℕ) → gap ≡ a.struck x → gap < a.gaps → is_struck a x ≡ true
-some-struck a x gap is low = struck-is a x (subst (λ g. g < a.gaps) is low)
-
-pub none-struck : (a : PlainGraph) (x : ℕ) → a.gaps ≤ a.struck x → is_struck a x ≡ false
-none-struck a x none = le-ltb (a.struck x) a.gaps none
+  pub words-alike : (values : List ℕ) → AreWords a f values → AreWords a h values
+  words-alike values t = record {
+    values_length = t.values_length;
+    opened = λ x i. t.opened x i ∙ next-struck x i;
+    lasting = t.lasting;
+    stopping = t.stopping;
+  }

@@ -12,21 +12,21 @@ use Rattle.graphs.proofs.Cited.{next-closed, next-le, next-same}
 use Rattle.solver.proofs.Strikes.{strike-home, strike-other, open-same, open-outside, open-member}
 
 -- the tables speak of the test only below the number of configurations
-pub IsCounted-same : (a : PlainGraph) → IsGraph a → (above above' : ℕ → Bool) (counts : List ℕ)
-    → ((x : ℕ) → x < a.configurations → above x ≡ above' x) → IsCounted a above counts → IsCounted a above' counts
-IsCounted-same a is above above' counts same t = record {
-  counts_length = t.counts_length;
-  counted = λ g i. t.counted g i ∙ live-same a is above above' g i same;
-}
+module _ (a : PlainGraph) (is : IsGraph a) (above above' : ℕ → Bool)
+    (same : (x : ℕ) → x < a.configurations → above x ≡ above' x) where
+  pub IsCounted-same : (counts : List ℕ) → IsCounted a above counts → IsCounted a above' counts
+  IsCounted-same counts t = record {
+    counts_length = t.counts_length;
+    counted = λ g i. t.counted g i ∙ live-same a is above above' g i same;
+  }
 
-pub AreWords-same : (a : PlainGraph) → IsGraph a → (above above' : ℕ → Bool) (values : List ℕ)
-    → ((x : ℕ) → x < a.configurations → above x ≡ above' x) → AreWords a above values → AreWords a above' values
-AreWords-same a is above above' values same t = record {
-  values_length = t.values_length;
-  opened = λ x i. t.opened x i ∙ next-same a is above above' x i same;
-  lasting = t.lasting;
-  stopping = t.stopping;
-}
+  pub AreWords-same : (values : List ℕ) → AreWords a above values → AreWords a above' values
+  AreWords-same values t = record {
+    values_length = t.values_length;
+    opened = λ x i. t.opened x i ∙ next-same a is above above' x i same;
+    lasting = t.lasting;
+    stopping = t.stopping;
+  }
 
 -- a word that is a value is not open
 filed-shut : (n value : ℕ) → value ≢ OPEN → n ≡ value → n == OPEN ≡ false
@@ -35,22 +35,32 @@ filed-shut n value small e = grind (arith, nat_tests)
 pub same-open : (m n : ℕ) → m ≡ n → m == OPEN ≡ n == OPEN
 same-open m n e = ap (λ k. k == OPEN) e
 
--- a strike at c, an answer of the gap g
-module _ (a : PlainGraph) (is : IsGraph a) (above : ℕ → Bool) (c g : ℕ) (i : c < a.configurations)
-    (g_is : g ≡ a.struck c) (in_gaps : g < a.gaps) where
+-- c is an answer of the gap g, and passes the test until it is struck
+pub record IsLiveAnswer (a : PlainGraph) (above : ℕ → Bool) (c g : ℕ) : Type 0 where
+  pub is_graph : IsGraph a
+  pub is_rank : c < a.configurations
+  pub gap_is : g ≡ a.struck c
+  pub in_gaps : g < a.gaps
+  pub is_above : above c ≡ true
+
+-- a strike at c
+module _ (a : PlainGraph) (above : ℕ → Bool) (c g : ℕ) (live : IsLiveAnswer a above c g) where
+  is : IsGraph a
+  is = live.is_graph
+
   without-less : (y : ℕ) → y < a.configurations → without above c y ≡ true → above y ≡ true
   without-less y j e = (both_true _ _ e).0
 
   others : (h : ℕ) → h ≢ g → live_answers a (without above c) h ≡ live_answers a above h
-  others h other = strike-other a above c h (λ e. other (e ∙ sym g_is))
+  others h other = strike-other a above c h (λ e. other (e ∙ sym live.gap_is))
 
-  module _ (n : ℕ) (counts : List ℕ) (is_above : above c ≡ true) (count_is : slice_index counts g ≡ n + 1)
+  module _ (n : ℕ) (counts : List ℕ) (count_is : slice_index counts g ≡ n + 1)
       (t : IsCounted a above counts) where
     -- the count of the gap after the strike
     pub home-now : live_answers a (without above c) g ≡ n
     home-now =
-        let home = strike-home a is above c g i g_is in_gaps is_above in
-        let before = t.counted g in_gaps in
+        let home = strike-home a is above c g live.is_rank live.gap_is live.in_gaps live.is_above in
+        let before = t.counted g live.in_gaps in
         omega arith
 
     -- the counts after the strike
@@ -59,8 +69,7 @@ module _ (a : PlainGraph) (is : IsGraph a) (above : ℕ → Bool) (c g : ℕ) (i
       counts_length = length-set counts g n ∙ t.counts_length;
       counted = λ h j. elim (same_or_not h g) [
         | inl same ↦
-            let size = t.counts_length in
-            let in_range : g < length counts = omega arith in
+            let in_range : g < length counts = omega (arith, t.counts_length, live.in_gaps) in
             ap (slice_index (slice_set counts g n)) same ∙ get_or-set_same counts g n 0 in_range ∙ sym home-now
             ∙ ap (live_answers a (without above c)) (sym same)
         | inr other ↦ get_or-set_other counts g h n 0 other ∙ t.counted h j ∙ sym (others h other)
@@ -79,7 +88,7 @@ module _ (a : PlainGraph) (is : IsGraph a) (above : ℕ → Bool) (c g : ℕ) (i
     pub words-some : (values : List ℕ) → 0 < n → AreWords a above values → AreWords a (without above c) values
     words-some values some t = record {
       values_length = t.values_length;
-      opened = λ x j. t.opened x j ∙ sym (open-same a is above (without above c) x j (some-left some) without-less);
+      opened = λ x j. t.opened x j ∙ sym (open-same a is above (without above c) x j without-less (some-left some));
       lasting = t.lasting;
       stopping = t.stopping;
     }
@@ -90,7 +99,7 @@ module _ (a : PlainGraph) (is : IsGraph a) (above : ℕ → Bool) (c g : ℕ) (i
         → is_open values' x ≡ is_answered a (without above c) x
     closed-opened value small closed x j = elim (true_or_false (is_member a g x)) [
       | inl member ↦
-          (let gone = open-member a (without above c) x g in_gaps member now in
+          (let gone = open-member a (without above c) x g live.in_gaps member now in
           elim (true_or_false (is_open values x)) [
             | inl was_open ↦ filed-shut (slice_index values' x) value small (closed.filed x j member was_open)
                 ∙ sym gone
@@ -99,7 +108,7 @@ module _ (a : PlainGraph) (is : IsGraph a) (above : ℕ → Bool) (c g : ℕ) (i
           ])
       | inr outside ↦
           same-open (slice_index values' x) (slice_index values x) (closed.outside x j outside) ∙ t.opened x j
-          ∙ sym (open-outside a is above (without above c) x g j outside (λ h k ne. others h ne) without-less)
+          ∙ sym (open-outside a is above (without above c) x j without-less g outside (λ h k ne. others h ne))
     ]
 
     module _ (r : ℕ) (between : IsBetween a r above) (stops : lasts a (suc r) c ≡ false) where
@@ -108,12 +117,12 @@ module _ (a : PlainGraph) (is : IsGraph a) (above : ℕ → Bool) (c g : ℕ) (i
           → (lasts a (suc r) x ≡ true) × (lasts a (suc (suc r)) x ≡ false)
       filed-value x j member was_open =
           let was : is_answered a above x ≡ true = sym (t.opened x j) ∙ was_open in
-          let none = live-le a is (lasts a (suc r)) (without above c) g in_gaps (λ y k e.
+          let none = live-le a is (lasts a (suc r)) (without above c) g live.in_gaps (λ y k e.
           and_true (above y) (not (y == c)) (between.lower y k e) (other_than y e)) in
           let zero_live : live_answers a (lasts a (suc r)) g ≡ 0 = omega arith in
           let w = member-at a g x member in (
             next-le a is above (lasts a r) x j between.upper was,
-            next-closed a (lasts a (suc r)) x g w.0 in_gaps w.1 w.2 zero_live,
+            next-closed a (lasts a (suc r)) x g w.0 live.in_gaps w.1 w.2 zero_live,
           )
         where
           other_than : (y : ℕ) → lasts a (suc r) y ≡ true → not (y == c) ≡ true

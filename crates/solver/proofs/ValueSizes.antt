@@ -1,14 +1,12 @@
 -- The number of configurations of each value, by the weights of the numbers whose word it is.
 use Rattle.std.proofs.Common.{◌≡◌, ℕ, ◌+◌, ◌-◌, ◌^◌, ◌<◌, ◌≤◌, ◌==◌, inl, inr, Bool, true, false, cond, zero, suc, refl}
-use Rattle.std.proofs.Common.{arith, sym, ap, ◌∙◌, subst, List, [], ◌∷◌, Contains, length, take, slice_index, slice_set}
+use Rattle.std.proofs.Common.{arith, sym, ap, ◌∙◌, subst, List, [], ◌∷◌, Contains, length, slice_index, slice_set}
 use Rattle.std.proofs.Common.{Option}
-use Rattle.std.proofs.Common.{get_or-take, length-set, get_or-set_same, get_or-set_other}
+use Rattle.std.proofs.Common.{length-set, get_or-set_same, get_or-set_other}
 use Rattle.std.proofs.lemmas.Bool.{cases_lt}
 use Rattle.std.proofs.lemmas.Bool.Decides.{nat_tests}
-use Rattle.std.proofs.lemmas.List.{length-take-le}
 use Rattle.board_text.specs.PlainBoard.{PlainBoard, IsBoard}
 use Rattle.positions.specs.Counts.{HasSize}
-use Rattle.classes.specs.declared.counting.TheConstants.{MAX_CLASSES}
 use Rattle.positions.specs.declared.value.Value.TheVariants.{Finite, Forever}
 use Rattle.positions.specs.Laws.{Occurs}
 use Rattle.positions.specs.Ranks.{configurations, rank_of, configuration_at}

@@ -12,8 +12,7 @@ use Rattle.graphs.specs.Numbered.{Numbered, graph_of, configuration_of, IsFewBy}
 
 -- a board and what its numbers stand for, the last round that filed something, whether a later one
 -- filed nothing; the configurations filed at each value, the members of each gap that are not
--- filed,
--- and the configurations that must be struck next
+-- filed, and the configurations that must be struck next
 pub record Solving : Type 0 where
   pub game : Numbered
   pub rounds : ℕ
@@ -75,6 +74,10 @@ pub record IsSolving (s : Solving) : Type 0 where
   pub forever : s.is_done ≡ true → (x : ℕ) → x < (graph_of s.game).configurations
       → LabellerTree s.game.board (suc s.rounds) (configuration_of s.game x)
       → HasValue s.game.board (configuration_of s.game x) Forever
+
+-- a solver of these numbers before its first round
+abbrev pub IsFresh : Numbered → Solving → Type 0
+IsFresh game s = (s.game ≡ game) × (s.rounds ≡ 0) × (s.is_done ≡ false) × IsSolving s
 
 -- no configuration has the value
 abbrev pub NoneHas : PlainBoard → ℕ → Type 0

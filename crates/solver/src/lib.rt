@@ -6,19 +6,16 @@
 #![tactic(auto)]
 
 mod end;
-mod ended_round;
 mod fault;
 mod laws;
 mod next_value;
 mod numbered_values;
-mod opening;
 mod progress;
 mod results;
 mod sizes;
 mod solver;
 mod source_walk;
 mod stage;
-mod stage_parts;
 mod values;
 mod word;
 

@@ -1,6 +1,6 @@
 //! The results of the answers of a gap.
 
-ghost use Rattle.std.specs.Prelude.{◌≡◌, ◌<◌, ◌↔◌, ℕ, List, IsTrue};
+ghost use Rattle.std.specs.Prelude.{◌<◌, ◌↔◌, ℕ, List, IsTrue};
 ghost use Rattle.board_text.specs.PlainBoard.{places};
 ghost use Rattle.positions.specs.declared.value.Value.TheVariants.{Forever};
 ghost use Rattle.positions.specs.Game.{Legal, moved};

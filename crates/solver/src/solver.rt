@@ -17,7 +17,7 @@ ghost use Rattle.positions.specs.Counts.{HasSize, IsSmallest};
 ghost use Rattle.solver.specs.Words.{value_of_word, AreFirstCounts, AreFirstValues};
 ghost use Rattle.solver.specs.Ending.{IsRoundEnd};
 ghost use Rattle.solver.specs.Inside.Stage.{HasSpaceBy};
-ghost use Rattle.solver.specs.Solving.{IsSolving, HasFiled, HasFoundNone, bucket, source};
+ghost use Rattle.solver.specs.Solving.{IsSolving, IsFresh, HasFiled, HasFoundNone, bucket, source};
 ghost use Rattle.solver.specs.Solving.{AnswerLasts, AnswerForever, to_strike};
 
 use crate::end::RoundEnd;
@@ -31,7 +31,7 @@ use crate::stage::Stage;
 use crate::values::Values;
 use crate::word::value_of;
 use board_text::{Board, Memory};
-use classes::{MAX_CLASSES, has_few_classes};
+use classes::MAX_CLASSES;
 use graphs::{Graph, Numbering};
 use index_lists::ListStore;
 use positions::{MAX_CONFIGURATIONS, Space, TooLarge};
@@ -73,9 +73,8 @@ impl<S: ListStore + Drop> Solver<S> {
     /// A solver of `board` whose numbers are the ranks of configurations. It has filed the
     /// configurations of value 0, in ascending rank.
     pub fn open(alloc: Global, board: &Board) -> Result<Solver<S>, SolveFault>
-        ensures game { IfOk result (λ solver. solver.game ≡ numbered board.now Numbering.Ordered) }
-        ensures start { IfOk result (λ solver. (solver.rounds ≡ 0) × (solver.is_done ≡ false)) }
-        ensures kept { IfOk result (λ solver. IsSolving solver) }
+        ensures fresh { IfOk result
+            (λ solver. IsFresh (numbered board.now Numbering.Ordered) solver) }
         ensures too_large { (result ≡ Err SolveFault.TooLarge)
             ↔ (MAX_CONFIGURATIONS < configurations board.now) }
         ensures no_worker { result ≡ Err SolveFault.Worker → ⊥ }
@@ -89,23 +88,14 @@ impl<S: ListStore + Drop> Solver<S> {
         }
     }
 
-    /// A solver of `board` whose numbers are those of classes of configurations, whichever pebble
-    /// holds which label. It has filed the classes of value 0, in ascending order.
-    pub fn of_classes(alloc: Global, board: &Board) -> Result<Solver<S>, SolveFault>
-        ensures game { IfOk result (λ solver. solver.game ≡ numbered board.now Numbering.Classes) }
-        ensures start { IfOk result (λ solver. (solver.rounds ≡ 0) × (solver.is_done ≡ false)) }
-        ensures kept { IfOk result (λ solver. IsSolving solver) }
-        ensures too_large { (result ≡ Err SolveFault.TooLarge)
-            ↔ (MAX_CLASSES < class_count board.now) }
-        ensures no_worker { result ≡ Err SolveFault.Worker → ⊥ }
+    /// A solver of `board`, which has few classes, whose numbers are those of classes of
+    /// configurations, whichever pebble holds which label. It has filed the classes of value 0, in
+    /// ascending order.
+    pub fn of_classes(alloc: Global, board: &Board) -> Result<Solver<S>, Memory>
+        requires few { class_count board.now ≤ MAX_CLASSES }
+        ensures { IfOk result (λ solver. IsFresh (numbered board.now Numbering.Classes) solver) }
     {
-        if !has_few_classes(board) {
-            return Err(SolveFault::TooLarge);
-        }
-        match Solver::start(alloc, board, Numbering::Classes, None) {
-            Ok(solver) => Ok(solver),
-            Err(Memory) => Err(SolveFault::Memory),
-        }
+        Solver::start(alloc, board, Numbering::Classes, None)
     }
 
     /// The same as `of_classes`, with the graph made by at most this number of `workers`. One is
@@ -115,22 +105,14 @@ impl<S: ListStore + Drop> Solver<S> {
         alloc: Global,
         board: &Board,
         workers: u8,
-    ) -> Result<Solver<S>, SolveFault>
+    ) -> Result<Solver<S>, Memory>
+        requires few { class_count board.now ≤ MAX_CLASSES }
         requires workers { 1 ≤ workers }
-        ensures game { IfOk result (λ solver. solver.game ≡ numbered board.now Numbering.Classes) }
-        ensures start { IfOk result (λ solver. (solver.rounds ≡ 0) × (solver.is_done ≡ false)) }
-        ensures kept { IfOk result (λ solver. IsSolving solver) }
-        ensures too_large { (result ≡ Err SolveFault.TooLarge)
-            ↔ (MAX_CLASSES < class_count board.now) }
-        ensures no_worker { result ≡ Err SolveFault.Worker → ⊥ }
+        ensures { IfOk result (λ solver. IsFresh (numbered board.now Numbering.Classes) solver) }
     {
-        if !has_few_classes(board) {
-            return Err(SolveFault::TooLarge);
-        }
-        match Solver::start_by(rt, alloc, board, workers) {
-            Ok(solver) => Ok(solver),
-            Err(Memory) => Err(SolveFault::Memory),
-        }
+        let graph = Graph::of_classes_by(rt, alloc, board, workers)?;
+        let weights = graph.weights_by(rt, alloc, workers)?;
+        Solver::of_graph(alloc, graph, weights, None)
     }
 
     /// A solver of `board` by `numbering`. The space is the board's, if numbers are ranks.
@@ -142,31 +124,11 @@ impl<S: ListStore + Drop> Solver<S> {
     ) -> Result<Solver<S>, Memory>
         requires few { IsFewBy numbering board.now }
         requires space { HasSpaceBy numbering board.now space }
-        ensures game { IfOk result (λ solver. solver.game ≡ numbered board.now numbering) }
-        ensures start { IfOk result (λ solver. (solver.rounds ≡ 0) × (solver.is_done ≡ false)) }
-        ensures kept { IfOk result (λ solver. IsSolving solver) }
+        ensures { IfOk result (λ solver. IsFresh (numbered board.now numbering) solver) }
     {
         let graph = Graph::of(alloc, board, numbering)?;
         let weights = graph.weights(alloc)?;
         Solver::of_graph(alloc, graph, weights, space)
-    }
-
-    /// A solver of `board` by its classes, with the graph made by at most this number of `workers`.
-    fn start_by(
-        rt: &(impl Threads + Sync),
-        alloc: Global,
-        board: &Board,
-        workers: u8,
-    ) -> Result<Solver<S>, Memory>
-        requires few { class_count board.now ≤ MAX_CLASSES }
-        requires workers { 1 ≤ workers }
-        ensures game { IfOk result (λ solver. solver.game ≡ numbered board.now Numbering.Classes) }
-        ensures start { IfOk result (λ solver. (solver.rounds ≡ 0) × (solver.is_done ≡ false)) }
-        ensures kept { IfOk result (λ solver. IsSolving solver) }
-    {
-        let graph = Graph::of_classes_by(rt, alloc, board, workers)?;
-        let weights = graph.weights_by(rt, alloc, workers)?;
-        Solver::of_graph(alloc, graph, weights, None)
     }
 
     /// A solver of the board of `graph`, whose numbers have these `weights`. The space is the
@@ -179,9 +141,7 @@ impl<S: ListStore + Drop> Solver<S> {
     ) -> Result<Solver<S>, Memory>
         requires weights { AreNumberWeights graph weights.items }
         requires space { HasSpaceBy graph.numbering graph.board space }
-        ensures game { IfOk result (λ solver. solver.game ≡ graph) }
-        ensures start { IfOk result (λ solver. (solver.rounds ≡ 0) × (solver.is_done ≡ false)) }
-        ensures kept { IfOk result (λ solver. IsSolving solver) }
+        ensures { IfOk result (λ solver. IsFresh graph solver) }
     {
         let sizes = Vec::with_capacity(alloc, graph.configurations() as usize)?;
         let mut stage = Stage::<S>::open(alloc, graph)?;
@@ -282,6 +242,7 @@ impl<S: ListStore> Solver<S> {
     {
         match &self.space {
             Some(space) => space,
+            // A solver whose numbers are ranks has the space of its board.
             None => unreachable!(),
         }
     }
@@ -434,14 +395,8 @@ impl<S: ListStore + Drop> Solver<S> {
         ensures unfinished { IfErr result
             (λ unfinished. (self.is_done ≡ false) × (unfinished.solver ≡ self)) }
     {
-        if !self.done {
-            return Err(Unfinished { solver: self });
-        }
-        let (numbered, space) = self.close();
-        match space {
-            Some(space) => Ok(Values::with_space(numbered, space)),
-            None => unreachable!(),
-        }
+        let (numbered, space) = self.try_close()?;
+        Ok(with_ranks(numbered, space))
     }
 
     /// The values of the board by the solver's numbers, once a round has found that no
@@ -451,11 +406,25 @@ impl<S: ListStore + Drop> Solver<S> {
         ensures unfinished { IfErr result (λ unfinished.
             (self.is_done ≡ false) × (unfinished.solver ≡ self)) }
     {
+        let (numbered, _) = self.try_close()?;
+        Ok(numbered)
+    }
+
+    /// The values of a solver that is done, and the space, if numbers are ranks; the solver as it
+    /// was, if it isn't done.
+    fn try_close(self) -> Result<(NumberedValues, Option<Space>), Unfinished<S>>
+        ensures done { IfOk result (λ _. self.is_done ≡ true) }
+        ensures is_board { IfOk result (λ _. IsBoard self.game.board) }
+        ensures values { IfOk result (λ parts. parts.0 ≡ self.game) }
+        ensures space { IfOk result
+            (λ parts. HasSpaceBy self.game.numbering self.game.board parts.1) }
+        ensures unfinished { IfErr result
+            (λ unfinished. (self.is_done ≡ false) × (unfinished.solver ≡ self)) }
+    {
         if !self.done {
             return Err(Unfinished { solver: self });
         }
-        let (numbered, _) = self.close();
-        Ok(numbered)
+        Ok(self.close())
     }
 
     /// The values of a solver that is done, and the space, if numbers are ranks.
@@ -472,15 +441,10 @@ impl<S: ListStore + Drop> Solver<S> {
             sizes,
             done: _,
         } = self;
-        let Stage {
-            graph,
-            value,
-            values,
-            ..
-        } = stage;
+        let (graph, value, words) = stage.into_parts();
         let mut sizes = zeros(sizes, value);
-        let forever = add_weights(&mut sizes, &values, &weights);
-        (NumberedValues::new(graph, values, sizes, forever), space)
+        let forever = add_weights(&mut sizes, &words, &weights);
+        (NumberedValues::new(graph, words, sizes, forever), space)
     }
 
     /// The values of the board, after all rounds that it takes.
@@ -489,10 +453,8 @@ impl<S: ListStore + Drop> Solver<S> {
         requires ordered { self.game.numbering ≡ Numbering.Ordered }
         ensures { result ≡ self.game.board }
     {
-        match self.after_all_rounds().finish() {
-            Ok(values) => values,
-            Err(_) => unreachable!(),
-        }
+        let (numbered, space) = self.after_all_rounds().close();
+        with_ranks(numbered, space)
     }
 
     /// The values of the board by the solver's numbers, after all rounds that it takes.
@@ -513,5 +475,19 @@ impl<S: ListStore + Drop> Solver<S> {
             solver.round();
         }
         solver
+    }
+}
+
+/// The values `numbered`, whose numbers are ranks, with the space of their board.
+fn with_ranks(numbered: NumberedValues, space: Option<Space>) -> Values
+    requires ordered { numbered.numbering ≡ Numbering.Ordered }
+    requires is_board { IsBoard numbered.board }
+    requires space { HasSpaceBy numbered.numbering numbered.board space }
+    ensures { result ≡ numbered.board }
+{
+    match space {
+        Some(space) => Values::with_space(numbered, space),
+        // Numbers that are ranks have the space of their board.
+        None => unreachable!(),
     }
 }

@@ -1,7 +1,6 @@
 //! A solver's words and lists, and the changes that a round makes to them.
 
 ghost use Rattle.std.specs.Prelude.{◌≡◌, ℕ, ◌+◌, ◌-◌, ◌<◌, true, List, [], ◌∷◌, length, filter};
-ghost use Rattle.std.specs.Prelude.{slice_index};
 ghost use Rattle.index_lists.specs.Lists.{times};
 ghost use Rattle.graphs.specs.Graph.{is_struck};
 ghost use Rattle.graphs.specs.Numbered.{graph_of};
@@ -10,28 +9,31 @@ ghost use Rattle.solver.specs.Inside.Stage.{PlainStage, filed_at, due_strikes, r
 ghost use Rattle.solver.specs.Inside.Stage.{rank_filed, at_next_value, strikes_copied, IsFiled};
 ghost use Rattle.solver.specs.Inside.Stage.{IsKeptStage, Closes, IsStriking};
 
+mod ended_round;
+mod opening;
+mod reading;
+
 use crate::word::OPEN;
 use graphs::{Graph, MAX_PLACES};
 use index_lists::ListStore;
 use std::marker::Model;
 
 /// A word for each configuration and each gap, and the configurations that are filed at each value,
-/// while configurations are filed at one
-/// value after the other.
+/// while configurations are filed at one value after the other.
 #[derive(Drop)]
 pub(crate) struct Stage<S: ListStore> {
-    pub(crate) graph: Graph,
+    graph: Graph,
     /// The value that configurations are filed at now.
-    pub(crate) value: u32,
+    value: u32,
     /// The value of each configuration that has one, else `OPEN`.
-    pub(crate) values: Vec<u32>,
+    values: Vec<u32>,
     /// For each gap the number of live answers: those that are not struck.
-    pub(crate) counts: Vec<u32>,
+    counts: Vec<u32>,
     /// For each value the configurations that are filed at it.
-    pub(crate) buckets: S,
+    buckets: S,
     /// Room for the configurations that a round copies from the store.
     /// Between two rounds nobody reads it.
-    pub(crate) strikes: Vec<u32>,
+    strikes: Vec<u32>,
 }
 
 impl<S: ListStore> Model for Stage<S> {
@@ -52,7 +54,7 @@ impl<S: ListStore> Model for Stage<S> {
 
 impl<S: ListStore> Stage<S> {
     /// Appends `rank`, which is in no list, to the list of the value.
-    pub(crate) fn list(&mut self, rank: u32)
+    fn list(&mut self, rank: u32)
         requires rank_in { rank < (graph_of self.old.game).configurations }
         requires free { (v : ℕ) → times rank (filed_at self.old v) ≡ 0 }
         ensures { self.new ≡ rank_listed self.old rank }
@@ -61,7 +63,7 @@ impl<S: ListStore> Stage<S> {
     }
 
     /// Files the open configuration `rank` at the value.
-    pub(crate) fn file(&mut self, rank: u32)
+    fn file(&mut self, rank: u32)
         requires rank_in { rank < (graph_of self.old.game).configurations }
         requires filed { IsFiled self.old }
         requires was_open { is_open self.old.values rank ≡ true }

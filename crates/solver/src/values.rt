@@ -1,6 +1,6 @@
 //! The values of a board within the limit of configurations, by their ranks.
 
-ghost use Rattle.std.specs.Prelude.{◌≡◌, ◌<◌, ◌≤◌, ℕ};
+ghost use Rattle.std.specs.Prelude.{◌≡◌, ◌<◌, ◌≤◌};
 ghost use Rattle.board_text.specs.PlainBoard.{IsBoard};
 ghost use Rattle.positions.specs.Counts.{IsSmallest};
 ghost use Rattle.positions.specs.Gaps.{gaps, member_of, pebble_of};

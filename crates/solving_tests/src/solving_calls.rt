@@ -8,6 +8,7 @@ ghost use Rattle.graphs.specs.declared.graph.Numbering.TheVariants.{Ordered};
 use crate::assertions::{assert_same, board_of};
 use crate::solving::{open, solve, solve_classes};
 use board_text::Board;
+use classes::has_few_classes;
 use fakes::boards::{CHAIN_OF_THREE, CYCLE_WITH_A_WAY_IN, NO_PAIRS, THREE_PEBBLES};
 use fakes::make_nested;
 use index_lists::{LinkLists, ListStore, PlainLists};
@@ -194,6 +195,9 @@ fn first_rounds_of_classes<S: ListStore + Drop>(
     alloc: Global,
     board: &Board,
 ) -> Result<[Progress; 3], SolveFault> {
+    if !has_few_classes(board) {
+        return Err(SolveFault::TooLarge);
+    }
     let mut solver: Solver<S> = Solver::of_classes(alloc, board)?;
     Ok([solver.round(), solver.round(), solver.round()])
 }

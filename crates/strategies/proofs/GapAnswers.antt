@@ -1,9 +1,8 @@
 -- The best answer of a gap is the best answer to each request in it, and the answers of an ordered gap are
 -- those of its pebble at its members.
-use Rattle.std.proofs.Common.{◌≡◌, ℕ, ◌<◌, ◌≤◌, ◌↔◌, ◌⊎◌, List, [], ◌∷◌, ◌++◌, length, Option, None, Some, true}
+use Rattle.std.proofs.Common.{◌≡◌, ℕ, ◌<◌, ◌≤◌, ◌↔◌, ◌⊎◌, List, length, Option, None, Some, true}
 use Rattle.std.proofs.Common.{slice_index_or, option_map, inl, inr, refl, sym, subst, arith}
 use Rattle.std.proofs.lemmas.Bool.{cases_lt}
-use Rattle.std.proofs.lemmas.List.{get_or_append_left, get_or_at, length-append}
 use Rattle.board_text.specs.PlainBoard.{PlainBoard, IsConfiguration, places}
 use Rattle.board_text.specs.Domination.{has_bit}
 use Rattle.board_text.specs.declared.board.TheConstants.{MAX_LABELS}
@@ -137,14 +136,3 @@ module _ (board : PlainBoard) (configuration : List ℕ) (pebble : ℕ) where
 abbrev pub AreFirstBest : Numbered → List (Option Best) → Type 0
 AreFirstBest n answers =
     (gap : ℕ) → gap < length answers → IsGapBest (numbered_gap n gap) (slice_index_or answers gap None)
-
-pub listed_more : (n : Numbered) (answers : List (Option Best)) (best : Option Best) → AreFirstBest n answers
-    → IsGapBest (numbered_gap n (length answers)) best → AreFirstBest n (answers ++ best ∷ [])
-listed_more n answers best are is gap below = elim (cases_lt gap (length answers)) [
-  | inl early ↦ subst (IsGapBest (numbered_gap n gap)) (sym (get_or_append_left answers (best ∷ []) None gap early))
-      (are gap early)
-  | inr late ↦
-      let last : length answers ≡ gap = omega (arith, late, below, length-append answers (best ∷ [])) in
-      subst (λ (o : Option Best). IsGapBest (numbered_gap n gap) o) (sym (get_or_at answers best [] None gap last))
-      (subst (λ (g : ℕ). IsGapBest (numbered_gap n g) best) last is)
-]

@@ -4,4 +4,4 @@ use Rattle.pebbles.specs.Program.{borrowed_texts}
 use Rattle.pebbles.proofs.borrowed.Given as goal
 
 abbrev pub invariant-loop-word : goal.invariant-loop-word
-invariant-loop-word l = borrowed_texts l.words.items ≡ map string_bytes (take l.word-index l.owned)
+invariant-loop-word l = borrowed_texts l.texts.items ≡ map string_bytes (take l.word-index l.owned)

@@ -11,7 +11,6 @@ use Rattle.graphs.specs.declared.graph.Numbering.{Numbering}
 use Rattle.graphs.specs.declared.graph.Numbering.TheVariants.{Ordered, Classes}
 use Rattle.graphs.specs.Numbered.{Numbered, graph_of, IsFewBy}
 use Rattle.graphs.specs.NumberedRanks.{AreNumberWeights}
-use Rattle.solver.specs.Inside.Values.{AreZeros}
 use Rattle.classes.specs.declared.counting.TheConstants.{MAX_CLASSES}
 use Rattle.graphs.specs.Graph.{PlainGraph, IsGraph, count_below, lasts, is_struck}
 use Rattle.solver.specs.Solving.{Solving}
@@ -177,8 +176,7 @@ HasSpaceBy Ordered board space = (space ≡ Some board) × (configurations board
 HasSpaceBy Classes board space = Unit {0}
 
 -- numbers that are ranks have a space, each number has its weight, and there is room for the size
--- of
--- each value
+-- of each value
 pub record IsEquipped (n : Numbered) (space : Option PlainBoard) (weights sizes : List ℕ)
     (capacity : ℕ) : Type 0 where
   pub has_space : HasSpaceBy n.numbering n.board space

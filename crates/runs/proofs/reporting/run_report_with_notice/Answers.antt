@@ -5,7 +5,7 @@ use Rattle.runs.specs.Run.{bytes_of}
 use Rattle.runs.specs.SolveRun.{CannotSolve}
 use Rattle.runs.specs.declared.reading.TheConstants.{MAX_BOARD_BYTES}
 use Rattle.player.proofs.Cited.{none_more}
-use Rattle.runs.proofs.Notices.{noticed_before, noticed_then}
+use Rattle.runs.proofs.ToldNotices.{noticed_before, noticed_then}
 use Rattle.runs.proofs.FailedRuns.{cut_short_last, nothing_to_write}
 use Rattle.runs.proofs.reporting.run_report_with_notice.Goals as goal
 

@@ -1,4 +1,4 @@
-use Rattle.std.proofs.Common.{Err, ap, arith}
+use Rattle.std.proofs.Common.{Err, ap}
 use Rattle.std.proofs.lemmas.Result.{err_from_is_err_and}
 use Rattle.runs.proofs.SolverFaults.{refused_some}
 use Rattle.runs.proofs.solving.numbered_by.Goals as goal
@@ -7,6 +7,5 @@ pub returns-in_err-solve_classes-clause-refused : goal.returns-in_err-solve_clas
 returns-in_err-solve_classes-clause-refused g c =
     let refused = err_from_is_err_and c.from_residual.result c.from_residual.ensures.1 in
     rw refused.1 (refused_some c.args.workers c.in_err-solve_classes.field-0.0 refused.0 refused.2
-    (λ large. let many = c.in_err-solve_classes.ensures.too_large.0 (ap Err large) in omega
-    (arith, many, c.requires.few))
+    (λ large. c.in_err-solve_classes.ensures.fault large)
     (λ several. c.in_err-solve_classes.ensures.worker (ap Err several)))

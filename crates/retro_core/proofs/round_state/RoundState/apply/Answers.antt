@@ -25,7 +25,7 @@ returns-in-Strike-clause-lawful g c =
 pub returns-in-Try-clause-lawful : goal.returns-in-Try-clause-lawful
 returns-in-Try-clause-lawful g c =
     applied _ _ (steps.Try c.in-Try.seat) _ c.lacks_seat.ensures.solving c.lacks_seat.ensures.lawful
-    c.settle.ensures.done c.settle.ensures.refused
+    c.claim.ensures.done c.claim.ensures.refused
 
 pub returns-in-Split-clause-lawful : goal.returns-in-Split-clause-lawful
 returns-in-Split-clause-lawful g c =

@@ -1,6 +1,6 @@
 use Rattle.std.proofs.Common.{◌≡◌, ◌<◌, ℕ, List, length, slice_index, ap, sym, subst, ◌∙◌}
 use Rattle.std.proofs.lemmas.List.{get_or_read}
-use Rattle.board_text.specs.PlainBoard.{PlainBoard, IsConfiguration}
+use Rattle.board_text.specs.PlainBoard.{IsConfiguration}
 use Rattle.positions.specs.Value.{HasValue}
 use Rattle.graphs.specs.Numbered.{Numbered}
 use Rattle.graphs.specs.NumberedRanks.{number_in}

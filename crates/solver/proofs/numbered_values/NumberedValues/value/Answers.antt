@@ -1,4 +1,4 @@
-use Rattle.std.proofs.Common.{◌≡◌, ◌∙◌, ℕ, List, length, slice_index, ap, sym, subst}
+use Rattle.std.proofs.Common.{◌≡◌, ◌∙◌, ℕ, List, ap, subst}
 use Rattle.std.proofs.lemmas.List.{get_or_read}
 use Rattle.solver.specs.Words.{value_with_word}
 use Rattle.board_text.specs.PlainBoard.{IsConfiguration}

@@ -2,7 +2,7 @@ use Rattle.std.proofs.Common.{◌≡◌, ◌-◌, ◌^◌, ◌<◌, ◌∙◌, �
 use Rattle.std.proofs.Common.{subst, arith}
 use Rattle.std.proofs.lemmas.List.{take_at}
 use Rattle.classes.specs.Sums.{sum_below}
-use Rattle.graphs.specs.Numbered.{graph_of}
+use Rattle.graphs.specs.Numbered.{Numbered, graph_of}
 use Rattle.solver.specs.Solving.{Solving}
 use Rattle.solver.specs.Inside.Stage.{PlainStage, IsState}
 use Rattle.solver.specs.Inside.Tables.{is_open}
@@ -21,7 +21,7 @@ module _ (g : Given.Over) (c : After-deref-2 g) where
       c.self.invariant.0
 
   words-are : c.deref.result.now ≡ s.values
-  words-are = c.deref.ensures.value ∙ ap (λ (v : PlainStage). v.values) c.stage.view_is
+  words-are = c.deref.ensures.value ∙ c.into_parts-graph.ensures.words
 
   long : length c.deref.result.now ≡ (graph_of s.game).configurations
   long = ap length words-are ∙ c.self.invariant.0.stage.words_are.values_length
@@ -31,7 +31,7 @@ module _ (g : Given.Over) (c : After-deref-2 g) where
 
   -- the zeros are as many as there are values
   sized : length c.zeros-sizes.result.items ≡ suc (s.value - 1)
-  sized = c.zeros-sizes.ensures.size ∙ ap (λ (v : PlainStage). v.value) c.stage.view_is ∙ value-is
+  sized = c.zeros-sizes.ensures.size ∙ c.into_parts-graph.ensures.value ∙ value-is
 
 pub add_weights-forever-requires-clause-inside : goal.add_weights-forever-requires-clause-inside
 add_weights-forever-requires-clause-inside g c =
@@ -72,7 +72,6 @@ new-requires g c =
     forever in
     let items = take_at sums (drop (length sums) c.zeros-sizes.result.items) c.zeros-sizes.result.len
     (e.size ∙ c.deref_mut.ensures.len) in
-    subst (λ (l : List ℕ). AreNumberedValues c.stage.inside.graph c.stage.inside.values.items l
-    c.add_weights-forever.result) (sym items)
-    (subst (λ (v : PlainStage). AreNumberedValues v.game v.values sums c.add_weights-forever.result)
-    (sym c.stage.view_is) all)
+    let parts = c.into_parts-graph.ensures in
+    subst (λ (p : Numbered × List ℕ × List ℕ). AreNumberedValues p.0 p.1 p.2 c.add_weights-forever.result)
+    (λ j. (sym parts.graph j, sym parts.words j, sym items j)) all

@@ -1,9 +1,8 @@
-use Rattle.std.proofs.Common.{◌≡◌, ◌-◌, ◌≤◌, ℕ, Option, List, [], false, sym, subst, arith, vec_capacity}
+use Rattle.std.proofs.Common.{◌≡◌, ◌-◌, ◌≤◌, ℕ, Option, List, [], false, refl, sym, subst, arith, vec_capacity}
 use Rattle.graphs.specs.NumberedRanks.{AreNumberWeights}
 use Rattle.board_text.specs.PlainBoard.{PlainBoard, IsBoard}
 use Rattle.classes.specs.declared.counting.TheConstants.{MAX_CLASSES}
-use Rattle.graphs.specs.declared.graph.Numbering.{Numbering}
-use Rattle.graphs.specs.Numbered.{Numbered, numbered, graph_of, IsFewBy}
+use Rattle.graphs.specs.Numbered.{Numbered, graph_of, IsFewBy}
 use Rattle.solver.specs.Inside.Stage.{PlainStage, at_next_value, HasSpaceBy, IsEquipped, IsState}
 use Rattle.solver.specs.Inside.Opening.{IsOpened}
 use Rattle.graphs.proofs.Cited.{some-configurations}
@@ -45,8 +44,14 @@ invariant_of-result g c =
           (let room = c.in_ok-sizes.ensures.capacity in let size = c.configurations.ensures.value in omega arith)),
     )
 
-pub returns-clause-kept : goal.returns-clause-kept
-returns-clause-kept g c =
+pub returns : goal.returns
+returns g c =
     let e = c.in_ok-stage.ensures in
-    rw c.begin_next_value.ensures (solving_of (at_next_value c.in_ok-stage.stage) _ false
-    (opened-state c.in_ok-stage.stage c.args.graph e.game e.board e.few e.few_by e.opened))
+    let at = e.opened.value_is in
+    rw c.begin_next_value.ensures (
+      e.game,
+      omega arith,
+      refl,
+      solving_of (at_next_value c.in_ok-stage.stage) _ false
+          (opened-state c.in_ok-stage.stage c.args.graph e.game e.board e.few e.few_by e.opened),
+    )

@@ -1,4 +1,4 @@
-use Rattle.std.proofs.Common.{ap, Some, Option}
+use Rattle.std.proofs.Common.{ap, Some}
 use Rattle.graphs.specs.Numbered.{IsFewBy}
 use Rattle.board_text.specs.PlainBoard.{PlainBoard}
 use Rattle.solver.proofs.RankSpaces.{has_ranks_space}

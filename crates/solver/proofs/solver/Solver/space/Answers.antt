@@ -1,4 +1,4 @@
-use Rattle.std.proofs.Common.{◌≡◌, ◌∙◌, sym, ap, Some, None}
+use Rattle.std.proofs.Common.{◌∙◌, sym, ap}
 use Rattle.solver.specs.Solving.{Solving}
 use Rattle.solver.proofs.RankSpaces.{ranks_space, same_some}
 use Rattle.solver.proofs.solver.Solver.space.Goals as goal

@@ -1,4 +1,4 @@
-use Rattle.std.proofs.Common.{◌≡◌, ◌<◌, ◌∙◌, arith}
+use Rattle.std.proofs.Common.{◌<◌, ◌∙◌, arith}
 use Rattle.graphs.specs.Graph.{PlainGraph}
 use Rattle.graphs.specs.Numbered.{graph_of}
 use Rattle.solver.proofs.OpenMembers.{walk-skip, walk-take}

@@ -1,4 +1,4 @@
-use Rattle.std.proofs.Common.{◌≡◌, ◌≤◌}
+use Rattle.std.proofs.Common.{◌≡◌}
 use Rattle.graphs.specs.Numbered.{graph_of}
 use Rattle.solver.specs.Inside.SourceWalk.{open_from, IsWalk}
 use Rattle.solver.proofs.source_walk.SourceWalk.take_next.Given as goal

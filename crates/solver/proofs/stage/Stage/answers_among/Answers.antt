@@ -5,7 +5,7 @@ use Rattle.std.proofs.lemmas.List.Sums.{length-filter, count_by-le-length}
 use Rattle.graphs.specs.Graph.{is_struck}
 use Rattle.graphs.specs.Numbered.{graph_of}
 use Rattle.solver.specs.Inside.Stage.{PlainStage}
-use Rattle.solver.proofs.FirstLists.{in_list}
+use Rattle.solver.proofs.StruckRanks.{in_list}
 use Rattle.solver.proofs.stage.Stage.answers_among.Goals as goal
 
 pub struck-requires : goal.struck-requires

@@ -1,5 +1,5 @@
 use Rattle.std.proofs.Common.{◌≡◌, ◌<◌, ◌∙◌, ℕ, List, take, ap, sym, subst}
-use Rattle.board_text.specs.PlainBoard.{PlainBoard, IsBoard, IsConfiguration, places}
+use Rattle.board_text.specs.PlainBoard.{PlainBoard, IsBoard, IsConfiguration}
 use Rattle.board_text.proofs.Cited.{some_places}
 use Rattle.positions.specs.Gaps.{gaps, pebble_of, member_of}
 use Rattle.positions.specs.Ranks.{configurations, configuration_at, rank_of}

@@ -1,7 +1,0 @@
-use Rattle.std.proofs.Common.{ℕ, List}
-use Rattle.player.specs.Showing.{IsMore, shown}
-use Rattle.runs.proofs.note_lines.write_parts.Given as goal
-
-abbrev pub invariant-loop-part : goal.invariant-loop-part
-invariant-loop-part g l = (text : List ℕ)
-    × IsMore g.E.Sink.contents g.E.Sink.has_failed l.fn.errors l.errors (shown text)

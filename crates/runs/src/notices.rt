@@ -1,0 +1,23 @@
+//! The notice that a large board is solved, for a person at a terminal.
+
+ghost use Rattle.player.specs.Showing.{IsMore};
+ghost use Rattle.runs.specs.Notices.{notice_for};
+
+use board_text::{Board, Sink};
+use classes::count_classes;
+use player::{write_digits, write_more, write_shown};
+use positions::is_small;
+
+/// Says that a large board is solved, with its number of classes, if `shows` says that a person is
+/// there. Of a board of at most `MAX_CONFIGURATIONS` configurations nothing is said.
+pub(crate) fn tell_size<E: Sink>(board: &Board, shows: bool, errors: &mut E)
+    ensures { IsMore E.contents E.has_failed errors.old errors.new (notice_for shows board.now) }
+{
+    if !shows || is_small(board) {
+        return;
+    }
+    write_shown(errors, "a large board: its ");
+    write_digits(errors, count_classes(board));
+    write_shown(errors, " classes are solved, which can take seconds");
+    write_more(errors, "\n");
+}

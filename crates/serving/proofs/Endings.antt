@@ -1,0 +1,120 @@
+-- The outcomes of runs, by their results.
+use Rattle.std.proofs.Common.{◌≡◌, ◌≢◌, ◌↔◌, ℕ, Bool, List, sym, ap, ◌∙◌, inl, inr}
+use Rattle.std.proofs.lemmas.Result.{MatchResult-from_both, IfErr-at_err, IfErr-weaker}
+use Rattle.std.specs.Prelude.{Result, Ok, Err, IfOk, IfErr}
+use Rattle.player.specs.declared.end.PlayEnd.{PlayEnd}
+use Rattle.positions.specs.declared.side.Side.{Side}
+use Rattle.runs.specs.CheckRun.{CheckFails, RanCheck}
+use Rattle.serving.specs.Folders.{File, OpensWith}
+use Rattle.serving.specs.Jobs.{Checks, Opening, Plays, WritesWhole, limit_of}
+use Rattle.serving.specs.Outcomes.{EndsAs, outcome_of_check, outcome_of_run}
+use Rattle.runs.specs.PlayRun.{PlayFails, RanPlay}
+use Rattle.runs.specs.Run.{Bytes, Fails, Ran, Stream}
+use Rattle.runs.specs.SolveRun.{CannotSolve}
+use Rattle.graphs.specs.declared.graph.Numbering.{Numbering}
+use Rattle.runs.specs.declared.checking.TheConstants.{MAX_PROOF_BYTES}
+use Rattle.runs.specs.declared.reading.TheConstants.{MAX_BOARD_BYTES}
+use Rattle.runs.specs.declared.fault.RunFault.{RunFault}
+use Rattle.runs.specs.declared.fault.RunFault.TheVariants.{Write}
+use Rattle.serving.specs.declared.outcome.Outcome.{Outcome}
+use Rattle.serving.specs.declared.outcome.Outcome.TheVariants.{Broken}
+use Rattle.runs.specs.declared.verdicts.Verdict.{Verdict}
+use Rattle.runs.specs.declared.verdicts.Verdict.TheVariants.{Accepted as AcceptedAs, Refused as RefusedFor}
+
+-- a check whose outcome is broken gave this fault
+pub broken_check : (r : Result Verdict RunFault) (fault : RunFault) → outcome_of_check r ≡ Broken fault → r ≡ Err fault
+broken_check (Ok (AcceptedAs shown)) fault is = cc
+broken_check (Ok (RefusedFor why)) fault is = cc
+broken_check (Err why) fault is = let same : why ≡ fault = cc in ap (λ f. Err f) same
+
+-- a run whose outcome is broken gave this fault
+pub broken_run : {A : Type 0} (r : Result A RunFault) (fault : RunFault) → outcome_of_run r ≡ Broken fault
+    → r ≡ Err fault
+broken_run (Ok answer) fault is = cc
+broken_run (Err why) fault is = let same : why ≡ fault = cc in ap (λ f. Err f) same
+
+-- the outcome of a run is one that its clauses allow
+module _ {A : Type 0} (told : Result A RunFault → Outcome) (r : Result A RunFault) (Answers : A → Type 0)
+    (Breaks : RunFault → Type 0) where
+  pub ends : (outcome : Outcome) → outcome ≡ told r → IfOk r Answers → IfErr r Breaks
+      → EndsAs told Answers Breaks outcome
+  ends outcome is ok fault = (r, MatchResult-from_both r Answers Breaks ok fault, is)
+
+-- if the outcome is a fault other than of writing, the output was kept
+module _ {A : Type 0} (told : Result A RunFault → Outcome)
+    (broken : (r : Result A RunFault) (fault : RunFault) → told r ≡ Broken fault → r ≡ Err fault)
+    (r : Result A RunFault) (outcome : Outcome) (is : outcome ≡ told r) where
+  pub whole : (Kept : Type 0) → IfErr r (λ fault. fault ≢ Write → Kept) → (fault : RunFault) → outcome ≡ Broken fault
+      → fault ≢ Write → Kept
+  whole Kept unwritten fault breaks = IfErr-at_err (λ f. f ≢ Write → Kept) (broken r fault (sym is ∙ breaks)) unwritten
+
+  pub told_as : (fault : RunFault) → told (Err fault) ≡ Broken fault → (Failed : Type 0) → (Failed ↔ (r ≡ Err fault))
+      → (Failed ↔ (outcome ≡ Broken fault))
+  told_as fault breaks Failed same =
+      ((λ failed. is ∙ ap told (same.0 failed) ∙ breaks), (λ broke. same.1 (broken r fault (sym is ∙ broke))))
+
+-- the fact that a failed check kept its output may be exchanged for one that follows
+check_untouched : (board_limit proof_limit : ℕ) (Old New : Type 0) → (Old → New) → (board proof written : Bytes)
+    (fault : RunFault) → CheckFails board_limit proof_limit Old board proof written fault
+    → CheckFails board_limit proof_limit New board proof written fault
+check_untouched board_limit proof_limit Old New to board proof written fault (inl (none, kept)) = inl (none, to kept)
+check_untouched board_limit proof_limit Old New to board proof written fault (inr rest) = inr rest
+
+-- ---- jobs over files that were opened
+
+module _ {A : Type 0} (P : List ℕ → A → List ℕ → Type 0) (limit : Numbering) (workers : ℕ)
+    (file : File) (read : Bytes) (opens : OpensWith file read.old) (output : Stream)
+    (r : Result A RunFault) (outcome : Outcome) (is : outcome ≡ outcome_of_run r) where
+  pub opened_board : IfOk r (Ran P MAX_BOARD_BYTES read output.bytes)
+      → IfErr r (Fails P (CannotSolve limit workers) MAX_BOARD_BYTES read output.bytes)
+      → IfErr r (λ fault. fault ≢ Write → output.IsKept)
+      → Opening file output.IsKept (λ bytes. EndsAs outcome_of_run (Ran P MAX_BOARD_BYTES bytes output.bytes)
+      (Fails P (CannotSolve limit workers) MAX_BOARD_BYTES bytes output.bytes)) outcome
+      × WritesWhole output outcome
+  opened_board ok fault unwritten = (
+    inr (
+      read,
+      opens,
+      ends outcome_of_run r (Ran P MAX_BOARD_BYTES read output.bytes)
+          (Fails P (CannotSolve limit workers) MAX_BOARD_BYTES read output.bytes)
+          outcome is ok fault,
+    ),
+    whole outcome_of_run broken_run r outcome is output.IsKept unwritten,
+  )
+
+module _ (board proof : File) (b p : Bytes) (opens : OpensWith board b.old) (opens_too : OpensWith proof p.old)
+    (output : Stream) (r : Result Verdict RunFault) (outcome : Outcome) (is : outcome ≡ outcome_of_check r) where
+  pub opened_both : IfOk r (RanCheck MAX_BOARD_BYTES MAX_PROOF_BYTES b p output.bytes) → (Untouched : Type 0)
+      → (Untouched → p.new ≡ p.old)
+      → IfErr r (CheckFails MAX_BOARD_BYTES MAX_PROOF_BYTES Untouched b p output.bytes)
+      → IfErr r (λ fault. fault ≢ Write → output.IsKept) → Checks board proof output outcome
+  opened_both ok Untouched to fault unwritten = (
+    inr (
+      b,
+      p,
+      opens,
+      opens_too,
+      ends outcome_of_check r (RanCheck MAX_BOARD_BYTES MAX_PROOF_BYTES b p output.bytes)
+          (CheckFails MAX_BOARD_BYTES MAX_PROOF_BYTES (p.new ≡ p.old) b p output.bytes) outcome is ok
+          (IfErr-weaker r (CheckFails MAX_BOARD_BYTES MAX_PROOF_BYTES Untouched b p output.bytes)
+          (CheckFails MAX_BOARD_BYTES MAX_PROOF_BYTES (p.new ≡ p.old) b p output.bytes)
+          (λ f h. check_untouched MAX_BOARD_BYTES MAX_PROOF_BYTES Untouched
+          (p.new ≡ p.old) to b p output.bytes f h) fault),
+    ),
+    whole outcome_of_check broken_check r outcome is output.IsKept unwritten,
+  )
+
+module _ (large : Bool) (side : Side) (file : File) (read : Bytes) (opens : OpensWith file read.old)
+    (input output : Stream)
+    (r : Result PlayEnd RunFault) (outcome : Outcome) (is : outcome ≡ outcome_of_run r) where
+  pub opened_play : IfOk r (RanPlay (limit_of large) side MAX_BOARD_BYTES read input.bytes output.bytes)
+      → IfErr r (PlayFails (limit_of large) side MAX_BOARD_BYTES
+      (input.IsKept × output.IsKept) read input.bytes output.bytes)
+      → Plays side large file input output outcome
+  opened_play ok fault = inr (
+    read,
+    opens,
+    ends outcome_of_run r (RanPlay (limit_of large) side MAX_BOARD_BYTES read input.bytes output.bytes)
+        (PlayFails (limit_of large) side MAX_BOARD_BYTES (input.IsKept × output.IsKept) read input.bytes output.bytes)
+        outcome is ok fault,
+  )

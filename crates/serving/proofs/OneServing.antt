@@ -1,0 +1,1294 @@
+-- Two servings of the same words, over known files and streams, give the same.
+use Rattle.std.proofs.Common.{◌≡◌, ◌≢◌, ◌∙◌, ◌&&◌, ℕ, ◌<◌, ◌≤◌, ◌⊎◌, inl, inr, Bool, true, false, true≢false, List, []}
+use Rattle.std.proofs.Common.{◌++◌, length, Option, Some, None}
+use Rattle.std.proofs.Common.{codes, refl, sym, ap, subst, arith, append-nil}
+use Rattle.std.specs.Prelude.{Result, Ok, Err, MatchResult, string_bytes, ◌||◌}
+use Rattle.clap.specs.Kinds.{IsAmong, Kinds}
+use Rattle.clap.specs.declared.error.kind.ErrorKind.{ErrorKind}
+use Rattle.clap.specs.declared.error.kind.ErrorKind.TheVariants as kinds
+use Rattle.std.specs.Str.{bytes_eq}
+use Rattle.std.proofs.lemmas.Slice.Eq.{bytes_eq-Decides}
+use Rattle.clap.specs.Walk.{Row, Text, one_of, texts}
+use Rattle.clap.specs.Words.{fault_of, subcommand_of}
+use Rattle.board_text.specs.PlainBoard.{PlainBoard, IsBoard}
+use Rattle.board_text.specs.LineForms.{with_line_feed}
+use Rattle.board_text.proofs.Cited.{no_fault as faultless_board, one_board, one_fault as one_board_fault}
+use Rattle.board_text.specs.BoardFaults.{HasBoardFault}
+use Rattle.board_text.specs.declared.fault.BoardFault.{BoardFault}
+use Rattle.positions.specs.Ranks.{configurations}
+use Rattle.positions.specs.declared.space.TheConstants.{MAX_CONFIGURATIONS}
+use Rattle.proof_text.specs.ProofFaults.{HasProofFault}
+use Rattle.proof_text.specs.ProofText.{proof_text}
+use Rattle.runs.proofs.Cited.{is_small, not_wrong, one_length, one_report, one_solution, one_wrong}
+use Rattle.std.proofs.Common.{take}
+use Rattle.command_line.specs.Commands.{program}
+use Rattle.command_line.specs.Reading.{AsksFor, AsksForVersion, HasFlag, HasNumber, IsReadAs, ShowsWords, side_word}
+use Rattle.command_line.specs.declared.asked.Job.{Job}
+use Rattle.command_line.specs.declared.asked.Job.TheVariants as jobs
+use Rattle.command_line.specs.declared.asked.JobFault.{JobFault}
+use Rattle.command_line.specs.declared.asked.JobFault.TheVariants.{Help, Usage, Memory as NoMemory}
+use Rattle.command_line.proofs.OneKind.{no_answer_and_misuse, no_help_and_version}
+use Rattle.nested_cycles.proofs.NestedBoards.{one_nested_board}
+use Rattle.proof_check.proofs.Cited.{only_memory}
+use Rattle.proof_check.proofs.DocumentFaults as document_faults
+use Rattle.proof_text.specs.Proof.{PlainProof}
+use Rattle.proof_text.proofs.Cited.{one_document, no_fault as faultless_document}
+use Rattle.proof_text.proofs.OneDocument.{one_fault as one_proof_fault}
+use Rattle.proof_text.specs.declared.fault.ProofFault.{ProofFault}
+use Rattle.positions.specs.declared.value.Value.{Value}
+use Rattle.positions.specs.declared.side.Side.{Side}
+use Rattle.positions.specs.declared.side.Side.TheVariants.{Labeller, Adversary}
+use Rattle.player.specs.Laws.{IsGame}
+use Rattle.player.specs.Play.{BreaksOff, Ends as PlayEndsBy, HasEnded, LinesCame}
+use Rattle.player.specs.Transcript.{Game, IsPlayed, PersonClimbs}
+use Rattle.player.specs.Words.{BeginsTooLong}
+use Rattle.player.specs.declared.end.PlayEnd.{PlayEnd}
+use Rattle.player.specs.declared.end.PlayFault.{PlayFault}
+use Rattle.player.specs.declared.end.PlayFault.TheVariants as play_faults
+use Rattle.runs.specs.Faults.{fault_of_play}
+use Rattle.runs.specs.PlayRun.{IsBrokenOff, IsOver, PlayFails, RanPlay, game_played}
+use Rattle.board_text.specs.BoardText.{board_text}
+use Rattle.runs.specs.BoardRun.{GaveBoard, GaveNoBoard}
+use Rattle.runs.specs.CheckRun.{CheckFails, RanCheck}
+use Rattle.serving.specs.Folders.{CanFail, Closed, File, Holds, Unknown}
+use Rattle.serving.specs.FaultLines.{line_of_fault}
+use Rattle.runs.specs.Headline.{Solution}
+use Rattle.serving.specs.Jobs.{Checks, ChecksJoined, Climbs, Counts, IsDone, Opening, Plays, Solves}
+use Rattle.serving.specs.Jobs.{WritesNested, WritesWhole, limit_of}
+use Rattle.runs.specs.NestedText.{IsNestedText}
+use Rattle.serving.specs.Outcomes.{EndsAs, outcome_of_check, outcome_of_run, status_of}
+use Rattle.runs.specs.Output.{line_of}
+use Rattle.runs.specs.Report.{Reports}
+use Rattle.runs.specs.Run.{Bytes, Fails, Ran, Stream}
+use Rattle.player.specs.Showing.{AreForPerson}
+use Rattle.serving.specs.Serving.{Answers, WordsAskFor, EndsWith, HasNoMemory, IsHelped, IsEnding, IsExplained}
+use Rattle.serving.specs.Serving.{IsPrompted, IsRefusedWith, IsWritten}
+use Rattle.serving.specs.Serving.{Serves, ServesWords, is_large, is_typed, lacks_input}
+use Rattle.serving.specs.Servings.{AreKnown, HaveOwnText}
+use Rattle.runs.specs.SolveRun.{CannotSolve}
+use Rattle.runs.specs.Texts.{HasNoneWithin, HasNoProof, IsBoardWithin, IsSmallBoard, IsWrongBoard, IsWrongProof}
+use Rattle.runs.specs.Texts.{IsWrongWithin}
+use Rattle.graphs.specs.declared.graph.Numbering.{Numbering}
+use Rattle.graphs.specs.declared.graph.Numbering.TheVariants.{Ordered}
+use Rattle.runs.specs.Verdicts.{BeginsWithBoard, CannotAnswer, IsAnswered, IsChecked, IsVerdict, IsWrongText}
+use Rattle.runs.specs.declared.checking.TheConstants.{MAX_JOINED_BYTES, MAX_PROOF_BYTES}
+use Rattle.runs.specs.declared.reading.TheConstants.{MAX_BOARD_BYTES}
+use Rattle.runs.specs.declared.fault.RunFault.{RunFault}
+use Rattle.runs.specs.declared.fault.RunFault.TheVariants.{Board, TooLarge, Proof, Memory, Worker, Read, Write, Limit}
+use Rattle.serving.specs.declared.outcome.Outcome.{Outcome}
+use Rattle.serving.specs.declared.outcome.Outcome.TheVariants.{Broken, Done, Refused}
+use Rattle.serving.specs.declared.serving.Terminals.{Terminals}
+use Rattle.serving.specs.declared.serving.Words.{Words}
+use Rattle.serving.specs.declared.serving.Words.TheVariants.{Given, NotText, OutOfMemory}
+use Rattle.runs.specs.declared.verdicts.Verdict.{Verdict}
+use Rattle.runs.specs.declared.verdicts.Verdict.TheVariants.{Accepted, Refused as RefusedFor}
+use Rattle.serving.proofs.KnownRuns.{Ends, Had, IsPlain, ends, gave_all, one_end, stayed, took, unread_is}
+use Rattle.serving.proofs.BoardEnds.{board_is_front, one_front}
+use Rattle.serving.proofs.KnownPlays.{Cuts, HasEndedBy, HasStoppedAt, Leaves, cuts, ended_or_stopped, too_long_is}
+use Rattle.serving.proofs.KnownPlays.{two_ended, two_stopped}
+
+run_breaks : (A : Type 0) (fault : RunFault) → outcome_of_run {Answer = A} (Err fault) ≡ Broken fault
+run_breaks A fault = refl
+
+check_breaks : (fault : RunFault) → outcome_of_check (Err fault) ≡ Broken fault
+check_breaks fault = refl
+
+-- ---- the texts of a run
+
+wrong_solving : (limit : Numbering) (workers : ℕ) (text : List ℕ) (fault : RunFault)
+    → CannotSolve limit workers text fault
+    → (fault ≡ Memory) ⊎ (fault ≡ Worker) ⊎ IsWrongWithin limit text fault
+wrong_solving limit workers text Memory h = inl refl
+wrong_solving limit workers text Worker h = inr (inl refl)
+wrong_solving limit workers text (Board fault) h = inr (inr h)
+wrong_solving limit workers text TooLarge h = inr (inr h)
+wrong_solving limit workers text (Proof fault) h = absurd h
+wrong_solving limit workers text Read h = absurd h
+wrong_solving limit workers text Write h = absurd h
+wrong_solving limit workers text Limit h = absurd h
+
+wrong_board : (limit : Numbering) (text : List ℕ) (fault : RunFault) → HasNoneWithin limit text fault
+    → (fault ≡ Memory) ⊎ IsWrongWithin limit text fault
+wrong_board limit text Memory h = inl refl
+wrong_board limit text (Board fault) h = inr h
+wrong_board limit text TooLarge h = inr h
+wrong_board limit text (Proof fault) h = absurd h
+wrong_board limit text Worker h = absurd h
+wrong_board limit text Read h = absurd h
+wrong_board limit text Write h = absurd h
+wrong_board limit text Limit h = absurd h
+
+wrong_proof : (board : PlainBoard) (text : List ℕ) (fault : RunFault) → HasNoProof board text fault
+    → (fault ≡ Memory) ⊎ (fault ≡ Worker) ⊎ IsWrongProof board text fault
+wrong_proof board text Memory h = inl refl
+wrong_proof board text (Proof fault) h = inr (inr h)
+wrong_proof board text (Board fault) h = absurd h
+wrong_proof board text TooLarge h = absurd h
+wrong_proof board text Worker h = absurd h
+wrong_proof board text Read h = absurd h
+wrong_proof board text Write h = absurd h
+wrong_proof board text Limit h = absurd h
+
+-- a fault of a document is one of the kinds of faults of documents
+proof_fault_is : (board : PlainBoard) (text : List ℕ) (fault : RunFault) → IsWrongProof board text fault
+    → (told : ProofFault) × (fault ≡ Proof told) × IsWrongProof board text (Proof told)
+proof_fault_is board text (Proof told) h = (told, refl, h)
+proof_fault_is board text (Board told) h = absurd h
+proof_fault_is board text TooLarge h = absurd h
+proof_fault_is board text Memory h = absurd h
+proof_fault_is board text Worker h = absurd h
+proof_fault_is board text Read h = absurd h
+proof_fault_is board text Write h = absurd h
+proof_fault_is board text Limit h = absurd h
+
+module _ (board : PlainBoard) (text : List ℕ) (small : (t : List ℕ) × IsSmallBoard t board) where
+  one_wrong_proof : (fault other : RunFault) → IsWrongProof board text fault → IsWrongProof board text other
+      → fault ≡ other
+  one_wrong_proof fault other wrong also =
+      let one = proof_fault_is board text fault wrong in
+      let two = proof_fault_is board text other also in
+      let same = one_proof_fault board text one.0.line two.0.line one.0.kind two.0.kind small.1.is_board one.2.1
+      two.2.1 one.2.0 two.2.0 in
+      let told : ◌≡◌ {A = ProofFault} (record { line = one.0.line; kind = one.0.kind }) two.0 =
+      rw (same.0, same.1) refl in
+      one.1 ∙ ap Proof told ∙ sym two.1
+
+  same_verdict : (proof : PlainProof) (verdict other : Verdict) → IsVerdict board proof verdict
+      → IsVerdict board proof other → verdict ≡ other
+  same_verdict proof (Accepted shown) (Accepted other) is also =
+      ap (λ c. Accepted (record { claim = c })) (is.0 ∙ sym also.0)
+  same_verdict proof (Accepted shown) (RefusedFor fault) is also =
+      absurd (also.1 (only_memory board proof fault is.1 also.0))
+  same_verdict proof (RefusedFor fault) (Accepted shown) is also =
+      absurd (is.1 (only_memory board proof fault also.1 is.0))
+  same_verdict proof (RefusedFor fault) (RefusedFor other) is also =
+      ap RefusedFor (document_faults.one_fault board proof fault other is.1 also.1 is.0 also.0)
+
+  one_check : (verdict other : Verdict) (line more : List ℕ) → IsChecked board text verdict line
+      → IsChecked board text other more
+      → (outcome_of_check (Ok verdict) ≡ outcome_of_check (Ok other)) × (line ≡ more)
+  one_check verdict other line more is also =
+      let same : is.proof ≡ also.proof =
+      one_document board is.proof also.proof small.1.is_board is.is_proof also.is_proof
+      (sym is.text_is ∙ also.text_is) in
+      let told : verdict ≡ other = same_verdict also.proof verdict other
+      (subst (λ p. IsVerdict board p verdict) same is.verdict_is) also.verdict_is in
+      (ap (λ v. outcome_of_check (Ok v)) told, is.line_is ∙ ap (line_of board) told ∙ sym also.line_is)
+
+  checked_apart : (verdict : Verdict) (line : List ℕ) (fault : RunFault) → IsChecked board text verdict line
+      → IsWrongProof board text fault → ⊥
+  checked_apart verdict line fault is wrong =
+      let one = proof_fault_is board text fault wrong in
+      one.2.1 (faultless_document board text one.0.line one.0.kind is.proof small.1.is_board is.is_proof is.text_is
+      one.2.0)
+
+-- ---- files
+
+-- an outcome that is no refusal of memory or of a worker, and no failed write
+record IsFair (outcome : Outcome) : Type 0 where
+  memory : outcome ≢ Broken Memory
+  worker : outcome ≢ Broken Worker
+  write : outcome ≢ Broken Write
+
+plain_of : (outcome : Outcome) → IsFair outcome → outcome ≢ Broken Read → IsPlain outcome
+plain_of outcome fair read = record { memory = fair.memory; worker = fair.worker; read = read; write = fair.write }
+
+-- the outcome and the text for a file that is known
+abbrev FileEnds : (List ℕ → Outcome → List ℕ → Type 0) → File → Outcome → List ℕ → Type 0
+FileEnds E Unknown outcome text = ⊥
+FileEnds E Closed outcome text = (outcome ≡ Broken Read) × (text ≡ [])
+FileEnds E (Holds bytes) outcome text = E bytes outcome text
+
+-- the same, for two files
+abbrev PairEnds : (List ℕ → List ℕ → Outcome → List ℕ → Type 0) → File → File → Outcome → List ℕ → Type 0
+PairEnds E Closed second outcome text = (outcome ≡ Broken Read) × (text ≡ [])
+PairEnds E Unknown second outcome text = ⊥
+PairEnds E (Holds bytes) second outcome text = FileEnds (E bytes) second outcome text
+
+-- ends by such a relation, with the text written
+abbrev EndsBy : Stream → List ℕ → (Outcome → List ℕ → Type 0) → Outcome → Type 0
+EndsBy output taken E outcome = (text : List ℕ) × (output.bytes.new ≡ Some (taken ++ text)) × E outcome text
+
+-- the relation gives one outcome and one text
+abbrev IsOne : (Outcome → List ℕ → Type 0) → Type 0
+IsOne E = (outcome other : Outcome) (text line : List ℕ) → E outcome text → E other line → (outcome ≡ other) ×
+    (text ≡ line)
+
+one_file : (E : List ℕ → Outcome → List ℕ → Type 0) → ((bytes : List ℕ) → IsOne (E bytes)) → (file : File) → IsOne
+    (FileEnds E file)
+one_file E one Unknown outcome other text line is also = absurd is
+one_file E one Closed outcome other text line is also = (is.0 ∙ sym also.0, is.1 ∙ sym also.1)
+one_file E one (Holds bytes) outcome other text line is also = one bytes outcome other text line is also
+
+one_pair : (E : List ℕ → List ℕ → Outcome → List ℕ → Type 0) → ((bytes more : List ℕ) → IsOne (E bytes more)) →
+    (first second : File)
+    → IsOne (PairEnds E first second)
+one_pair E one Closed second outcome other text line is also = (is.0 ∙ sym also.0, is.1 ∙ sym also.1)
+one_pair E one Unknown second outcome other text line is also = absurd is
+one_pair E one (Holds bytes) second outcome other text line is also =
+    one_file (E bytes) (one bytes) second outcome other text line is also
+
+module _ {Answer : Type 0} (Says : List ℕ → Answer → List ℕ → Type 0) (limit : Numbering) (workers : ℕ)
+    (output : Stream)
+    (taken : List ℕ)
+    (had : Had output taken)
+    (outcome : Outcome) (fair : IsFair outcome) (whole : WritesWhole output outcome) where
+  abbrev Ended : File → Type 0
+  Ended file = EndsBy output taken (FileEnds (Ends outcome_of_run Says (IsWrongWithin limit) MAX_BOARD_BYTES) file)
+      outcome
+
+  opened : (file : File) → file ≢ Unknown → (outcome ≡ Broken Read → CanFail file)
+      → Opening file output.IsKept (λ read. EndsAs outcome_of_run (Ran Says MAX_BOARD_BYTES read output.bytes)
+      (Fails Says (CannotSolve limit workers) MAX_BOARD_BYTES read output.bytes)) outcome → Ended file
+  opened Unknown known unread opens = absurd (known refl)
+  opened Closed known unread (inl (can, kept, same)) = ([], stayed output taken had kept, (same, refl))
+  opened Closed known unread (inr (read, opens, then)) = absurd opens
+  opened (Holds bytes) known unread (inl (can, kept, same)) = absurd can
+  opened (Holds bytes) known unread (inr (read, opens, then)) =
+      ends outcome_of_run (run_breaks Answer) Says (CannotSolve limit workers) (IsWrongWithin limit)
+      (wrong_solving limit workers) MAX_BOARD_BYTES read bytes opens output
+      taken had outcome (plain_of outcome fair unread) whole then
+
+-- ---- a check of two files
+
+-- the outcome and the line that the texts of a board and of a document ask for
+abbrev CheckEnds : List ℕ → List ℕ → Outcome → List ℕ → Type 0
+CheckEnds board_bytes proof_bytes outcome text =
+    ((MAX_BOARD_BYTES < length board_bytes) × (outcome ≡ Broken Limit) × (text ≡ []))
+    ⊎ ((length board_bytes ≤ MAX_BOARD_BYTES) × (fault : RunFault) × IsWrongBoard board_bytes fault ×
+    (outcome ≡ Broken fault) × (text ≡ []))
+    ⊎ ((length board_bytes ≤ MAX_BOARD_BYTES) × (board : PlainBoard) × IsSmallBoard board_bytes board
+    × Ends outcome_of_check (IsChecked board) (IsWrongProof board) MAX_PROOF_BYTES proof_bytes outcome text)
+
+one_check_end : (board_bytes proof_bytes : List ℕ) → IsOne (CheckEnds board_bytes proof_bytes)
+one_check_end b p outcome other text line (inl one) (inl two) = (one.1 ∙ sym two.1, one.2 ∙ sym two.2)
+one_check_end b p outcome other text line (inl one) (inr (inl two)) = absurd (omega (arith, one.0, two.0))
+one_check_end b p outcome other text line (inl one) (inr (inr two)) = absurd (omega (arith, one.0, two.0))
+one_check_end b p outcome other text line (inr (inl one)) (inl two) = absurd (omega (arith, one.0, two.0))
+one_check_end b p outcome other text line (inr (inl one)) (inr (inl two)) =
+    (one.3 ∙ ap Broken (one_wrong Ordered b one.1 two.1 one.2 two.2) ∙ sym two.3, one.4 ∙ sym two.4)
+one_check_end b p outcome other text line (inr (inl one)) (inr (inr two)) =
+    absurd (not_wrong Ordered b two.1 two.2 one.1 one.2)
+one_check_end b p outcome other text line (inr (inr one)) (inl two) = absurd (omega (arith, one.0, two.0))
+one_check_end b p outcome other text line (inr (inr one)) (inr (inl two)) =
+    absurd (not_wrong Ordered b one.1 one.2 two.1 two.2)
+one_check_end b p outcome other text line (inr (inr one)) (inr (inr (inside, board, small, two))) =
+    let same : one.1 ≡ board = one_board one.1 board one.2.is_board small.is_board
+    (sym one.2.spelled ∙ small.spelled) in
+    let first : Ends outcome_of_check (IsChecked board) (IsWrongProof board) MAX_PROOF_BYTES p outcome text =
+    subst (λ (d : PlainBoard). Ends outcome_of_check (IsChecked d)
+    (IsWrongProof d) MAX_PROOF_BYTES p outcome text) same one.3 in
+    one_end outcome_of_check (IsChecked board) (IsWrongProof board) MAX_PROOF_BYTES p (one_check board p (b, small))
+    (one_wrong_proof board p (b, small)) (checked_apart board p (b, small)) outcome other text line first two
+
+module _ (output : Stream) (taken : List ℕ) (had : Had output taken) (outcome : Outcome) (fair : IsFair outcome)
+    (whole : WritesWhole output outcome) where
+  kept_by : (fault : RunFault) → fault ≢ Write → outcome ≡ Broken fault → output.bytes.new ≡ Some (taken ++ [])
+  kept_by fault other same = stayed output taken had (whole fault same other)
+
+  module _ (b p : Bytes) (board_bytes proof_bytes : List ℕ) (old : b.old ≡ Some board_bytes)
+      (old_too : p.old ≡ Some proof_bytes)
+      (read : outcome ≢ Broken Read) where
+    abbrev Checked : Type 0
+    Checked = EndsBy output taken (CheckEnds board_bytes proof_bytes) outcome
+
+    with_board : (board : PlainBoard) → GaveBoard Ordered MAX_BOARD_BYTES b board
+        → EndsAs outcome_of_check (Ran (IsChecked board) MAX_PROOF_BYTES p output.bytes)
+        (Fails (IsChecked board) (HasNoProof board) MAX_PROOF_BYTES p output.bytes) outcome → Checked
+    with_board board (text, gave, small) run =
+        let all : text ≡ board_bytes = gave_all b board_bytes text old gave.0 in
+        let end = ends outcome_of_check check_breaks (IsChecked board) (HasNoProof board) (IsWrongProof board)
+        (wrong_proof board)
+        MAX_PROOF_BYTES p proof_bytes old_too output taken had outcome (plain_of outcome fair read) whole run in (
+          end.0,
+          end.1,
+          inr (inr (
+            subst (λ t. length t ≤ MAX_BOARD_BYTES) all gave.1,
+            board,
+            subst
+                (λ t. IsSmallBoard t board) all small,
+            end.2,
+          )),
+        )
+
+    without_board : (fault : RunFault) → outcome ≡ Broken fault → GaveNoBoard Ordered MAX_BOARD_BYTES b fault → Checked
+    without_board fault same (inl unread) =
+        let over = unread_is MAX_BOARD_BYTES b board_bytes fault outcome old (plain_of outcome fair read) same unread in
+        ([], kept_by Limit (λ e. cc) over.1, inl (over.0, over.1, refl))
+    without_board fault same (inr (text, gave, none)) = elim (wrong_board Ordered text fault none) [
+      | inl memory ↦ absurd (fair.memory (same ∙ ap Broken memory))
+      | inr bad ↦
+          let all : text ≡ board_bytes = gave_all b board_bytes text old gave.0 in (
+            [],
+            kept_by fault (λ e. fair.write (same ∙ ap Broken e)) same,
+            inr (inl (
+              subst (λ t. length t ≤ MAX_BOARD_BYTES) all gave.1,
+              fault,
+              subst
+                  (λ t. IsWrongBoard t fault) all bad,
+              same,
+              refl,
+            )),
+          )
+    ]
+
+    checked : (Untouched : Type 0) → EndsAs outcome_of_check (RanCheck MAX_BOARD_BYTES MAX_PROOF_BYTES b p output.bytes)
+        (CheckFails MAX_BOARD_BYTES MAX_PROOF_BYTES Untouched b p output.bytes) outcome → Checked
+    checked Untouched (result, match, same) = go result match same
+      where
+        go : (result : Result Verdict RunFault) → MatchResult result
+            (RanCheck MAX_BOARD_BYTES MAX_PROOF_BYTES b p output.bytes)
+            (CheckFails MAX_BOARD_BYTES MAX_PROOF_BYTES Untouched b p output.bytes) → outcome ≡ outcome_of_check result
+            → Checked
+        go (Ok verdict) (board, gave, ran) same = with_board board gave (Ok verdict, ran, same)
+        go (Err fault) (inl (none, untouched)) same = without_board fault same none
+        go (Err fault) (inr (board, gave, fails)) same = with_board board gave (Err fault, fails, same)
+
+  both_opened : (board proof : File) → board ≢ Unknown → proof ≢ Unknown →
+      (outcome ≡ Broken Read → CanFail board ⊎ CanFail proof)
+      → Checks board proof output outcome → EndsBy output taken (PairEnds CheckEnds board proof) outcome
+  both_opened Unknown proof known known_too unread is = absurd (known refl)
+  both_opened Closed proof known known_too unread (inl (can, same), _) = ([], kept_by Read (λ e. cc) same, (same, refl))
+  both_opened Closed proof known known_too unread (inr (b, p, opens, opens_too, end), _) = absurd opens
+  both_opened (Holds bytes) Unknown known known_too unread is = absurd (known_too refl)
+  both_opened (Holds bytes) Closed known known_too unread (inl (can, same), _) =
+      ([], kept_by Read (λ e. cc) same, (same, refl))
+  both_opened (Holds bytes) Closed known known_too unread (inr (b, p, opens, opens_too, end), _) = absurd opens_too
+  both_opened (Holds bytes) (Holds more) known known_too unread (inl (inl can, same), _) = absurd can
+  both_opened (Holds bytes) (Holds more) known known_too unread (inl (inr can, same), _) = absurd can
+  both_opened (Holds bytes) (Holds more) known known_too unread (inr (b, p, opens, opens_too, end), _) =
+      checked b p bytes more opens opens_too (λ e. elim (unread e) [ inl bad ↦ bad | inr bad ↦ bad ])
+      (p.new ≡ p.old) end
+
+-- ---- a nested board
+
+abbrev NestedEnds : ℕ → ℕ → Outcome → List ℕ → Type 0
+NestedEnds levels pebbles outcome text = (outcome ≡ Done) × IsNestedText levels pebbles text
+
+one_nested : (levels pebbles : ℕ) → IsOne (NestedEnds levels pebbles)
+one_nested levels pebbles outcome other text line (same, (board, is, spelled)) (also, (second, is_too, spelled_too)) = (
+  same ∙ sym also,
+  spelled ∙ ap board_text (one_nested_board levels pebbles board second is is_too)
+      ∙ sym spelled_too,
+)
+
+nested : (levels pebbles : ℕ) (output : Stream) (taken : List ℕ) (outcome : Outcome) → Had output taken → IsFair outcome
+    → WritesNested levels pebbles output outcome → EndsBy output taken (NestedEnds levels pebbles) outcome
+nested levels pebbles output taken outcome had fair ((Ok answer, (text, is, wrote), same), _) =
+    (text, took output taken text had wrote, (same, is))
+nested levels pebbles output taken outcome had fair ((Err fault, inl memory, same), _) =
+    absurd (fair.memory (same ∙ ap Broken memory))
+nested levels pebbles output taken outcome had fair ((Err fault, inr (write, cut), same), _) =
+    absurd (fair.write (same ∙ ap Broken write))
+
+-- ---- a check of a joined text
+
+-- a board and a document after it, as a check reads them
+module _ (text : List ℕ) where
+  as_checked : (verdict : Verdict) (line : List ℕ) (is : IsAnswered text verdict line)
+      → IsChecked is.board (proof_text is.board is.proof) verdict line
+  as_checked verdict line is =
+      record {
+        proof = is.proof;
+        is_proof = is.is_proof;
+        text_is = refl;
+        verdict_is = is.verdict_is;
+        line_is =
+            is.line_is;
+      }
+
+  small_front : (verdict : Verdict) (line : List ℕ) (is : IsAnswered text verdict line) → IsSmallBoard
+      (board_text is.board) is.board
+  small_front verdict line is = record { is_board = is.is_board; few = is_small is.board is.few; spelled = refl }
+
+  one_joined : (verdict other : Verdict) (line more : List ℕ) → IsAnswered text verdict line
+      → IsAnswered text other more
+      → (outcome_of_check (Ok verdict) ≡ outcome_of_check (Ok other)) × (line ≡ more)
+  one_joined verdict other line more is also =
+      let same = one_front is.board also.board text (proof_text is.board is.proof)
+      (proof_text also.board also.proof) is.is_board also.is_board
+      is.text_is also.text_is in
+      one_check also.board (proof_text also.board also.proof)
+      (board_text also.board, small_front other more also) verdict other line more
+      (subst (λ t. IsChecked also.board t verdict line) same.1
+      (subst (λ b. IsChecked b (proof_text is.board is.proof) verdict line) same.0 (as_checked verdict line is)))
+      (as_checked other more also)
+
+  wrong_joined : (fault : RunFault) → CannotAnswer text fault → (fault ≡ Memory) ⊎ (fault ≡ Worker)
+      ⊎ IsWrongText text fault
+  wrong_joined Memory h = inl refl
+  wrong_joined (Board fault) h = inr (inr h)
+  wrong_joined TooLarge h = inr (inr h)
+  wrong_joined (Proof fault) h = inr (inr h)
+  wrong_joined Worker h = absurd h
+  wrong_joined Read h = absurd h
+  wrong_joined Write h = absurd h
+  wrong_joined Limit h = absurd h
+
+  -- a text that begins with a board's has no fault of a board's text
+  no_board_fault : (board : PlainBoard) (rest : List ℕ) (fault : BoardFault) → IsBoard board
+      → text ≡ board_text board ++ rest
+      → IsWrongText text (Board fault) → ⊥
+  no_board_fault board rest fault is same (size, long, has, other) =
+      other (faultless_board (take size text) fault.line fault.kind board is
+      (board_is_front board text rest size is same long) has)
+
+  -- the board of a text that begins with two is one
+  one_begin : (board other : PlainBoard) (rest more : List ℕ) → BeginsWithBoard text board rest
+      → BeginsWithBoard text other more
+      → (board ≡ other) × (rest ≡ more)
+  one_begin board other rest more is also =
+      one_front board other text rest more is.is_board also.is_board is.text_is also.text_is
+
+  large_or_small : (board other : PlainBoard) (rest more : List ℕ) → BeginsWithBoard text board rest
+      → BeginsWithBoard text other more
+      → MAX_CONFIGURATIONS < configurations board → configurations other ≤ MAX_CONFIGURATIONS → ⊥
+  large_or_small board other rest more is also large small =
+      let few : configurations board ≤ MAX_CONFIGURATIONS =
+      subst (λ b. configurations b ≤ MAX_CONFIGURATIONS) (sym (one_begin board other rest more is also).0) small in
+      absurd (omega (arith, large, few))
+
+  one_joined_fault : (fault other : RunFault) → IsWrongText text fault → IsWrongText text other → fault ≡ other
+  one_joined_fault (Board fault) (Board other) (size, long, has, not) (size_too, long_too, has_too, not_too) =
+      let sizes : size ≡ size_too = one_length text size size_too long long_too in
+      let same = one_board_fault (take size_too text) fault.line other.line fault.kind other.kind not not_too
+      (subst (λ n. HasBoardFault (take n text) fault.line fault.kind) sizes has) has_too in
+      let told : ◌≡◌ {A = BoardFault} (record { line = fault.line; kind = fault.kind }) other =
+      rw (same.0, same.1) refl in
+      ap Board told
+  one_joined_fault (Board fault) TooLarge wrong (board, rest, begins, large) =
+      absurd (no_board_fault board rest fault begins.is_board begins.text_is wrong)
+  one_joined_fault (Board fault) (Proof other) wrong (board, rest, begins, few, has, not) =
+      absurd (no_board_fault board rest fault begins.is_board begins.text_is wrong)
+  one_joined_fault TooLarge (Board other) (board, rest, begins, large) also =
+      absurd (no_board_fault board rest other begins.is_board begins.text_is also)
+  one_joined_fault TooLarge TooLarge wrong also = refl
+  one_joined_fault TooLarge (Proof other) (board, rest, begins, large) (second, more, begins_too, few, has, not) =
+      absurd (large_or_small board second rest more begins begins_too large few)
+  one_joined_fault (Proof fault) (Board other) (board, rest, begins, few, has, not) also =
+      absurd (no_board_fault board rest other begins.is_board begins.text_is also)
+  one_joined_fault (Proof fault) TooLarge (board, rest, begins, few, has, not) (second, more, begins_too, large) =
+      absurd (large_or_small second board more rest begins_too begins large few)
+  one_joined_fault (Proof fault) (Proof other) (board, rest, begins, few, has, not)
+      (second, more, begins_too, few_too, has_too, not_too) =
+      let same = one_begin board second rest more begins begins_too in
+      let first : HasProofFault second more fault.line fault.kind =
+      subst (λ t. HasProofFault second t fault.line fault.kind) same.1
+      (subst (λ b. HasProofFault b rest fault.line fault.kind) same.0 has) in
+      let both = one_proof_fault second more fault.line other.line fault.kind other.kind begins_too.is_board not
+      not_too first has_too in
+      let told : ◌≡◌ {A = ProofFault} (record { line = fault.line; kind = fault.kind }) other =
+      rw (both.0, both.1) refl in
+      ap Proof told
+  one_joined_fault Memory other wrong also = absurd wrong
+  one_joined_fault Worker other wrong also = absurd wrong
+  one_joined_fault Read other wrong also = absurd wrong
+  one_joined_fault Write other wrong also = absurd wrong
+  one_joined_fault Limit other wrong also = absurd wrong
+  one_joined_fault (Board fault) Memory wrong also = absurd also
+  one_joined_fault (Board fault) Worker wrong also = absurd also
+  one_joined_fault (Board fault) Read wrong also = absurd also
+  one_joined_fault (Board fault) Write wrong also = absurd also
+  one_joined_fault (Board fault) Limit wrong also = absurd also
+  one_joined_fault TooLarge Memory wrong also = absurd also
+  one_joined_fault TooLarge Worker wrong also = absurd also
+  one_joined_fault TooLarge Read wrong also = absurd also
+  one_joined_fault TooLarge Write wrong also = absurd also
+  one_joined_fault TooLarge Limit wrong also = absurd also
+  one_joined_fault (Proof fault) Memory wrong also = absurd also
+  one_joined_fault (Proof fault) Worker wrong also = absurd also
+  one_joined_fault (Proof fault) Read wrong also = absurd also
+  one_joined_fault (Proof fault) Write wrong also = absurd also
+  one_joined_fault (Proof fault) Limit wrong also = absurd also
+
+  answered_begins : (verdict : Verdict) (line : List ℕ) (is : IsAnswered text verdict line)
+      → BeginsWithBoard text is.board (proof_text is.board is.proof)
+  answered_begins verdict line is = record { is_board = is.is_board; text_is = is.text_is }
+
+  joined_apart : (verdict : Verdict) (line : List ℕ) (fault : RunFault) → IsAnswered text verdict line
+      → IsWrongText text fault → ⊥
+  joined_apart verdict line (Board fault) is wrong =
+      no_board_fault is.board (proof_text is.board is.proof) fault is.is_board is.text_is wrong
+  joined_apart verdict line TooLarge is (board, rest, begins, large) =
+      large_or_small board is.board rest (proof_text is.board is.proof) begins
+      (answered_begins verdict line is) large is.few
+  joined_apart verdict line (Proof fault) is (board, rest, begins, few, has, not) =
+      let same = one_begin board is.board rest (proof_text is.board is.proof) begins
+      (answered_begins verdict line is) in
+      let there : HasProofFault is.board (proof_text is.board is.proof) fault.line fault.kind =
+      subst (λ t. HasProofFault is.board t fault.line fault.kind) same.1
+      (subst (λ b. HasProofFault b rest fault.line fault.kind) same.0 has) in
+      not (faultless_document is.board
+      (proof_text is.board is.proof) fault.line fault.kind is.proof is.is_board is.is_proof refl there)
+  joined_apart verdict line Memory is wrong = wrong
+  joined_apart verdict line Worker is wrong = wrong
+  joined_apart verdict line Read is wrong = wrong
+  joined_apart verdict line Write is wrong = wrong
+  joined_apart verdict line Limit is wrong = wrong
+
+-- ---- a play
+
+-- the outcome and the transcript that the bytes of a play ask for
+abbrev PlayEnds : Game → List ℕ → Outcome → List ℕ → Type 0
+PlayEnds game bytes outcome text =
+    ((lines : List (List ℕ)) × (tail : List ℕ) × (length lines ≤ 1000000) × HasEndedBy game bytes lines tail text ×
+    (outcome ≡ Done))
+    ⊎ ((lines : List (List ℕ)) × (tail : List ℕ) × (length lines ≤ 1000000) × HasStoppedAt game bytes lines tail text
+    × (outcome ≡ Broken Limit))
+
+one_play : (game : Game) (is : IsGame game) (bytes : List ℕ) → IsOne (PlayEnds game bytes)
+one_play game is bytes outcome other text line (inl (lines, tail, few, ended, same))
+    (inl (others, rest, few_too, ended_too, same_too)) =
+    (same ∙ sym same_too, two_ended game is bytes lines others tail rest text line ended ended_too)
+one_play game is bytes outcome other text line (inl (lines, tail, few, ended, same))
+    (inr (others, rest, few_too, stopped, same_too)) =
+    absurd (ended_or_stopped game is bytes lines others tail rest text line few ended stopped)
+one_play game is bytes outcome other text line (inr (lines, tail, few, stopped, same))
+    (inl (others, rest, few_too, ended, same_too)) =
+    absurd (ended_or_stopped game is bytes others lines rest tail line text few_too ended stopped)
+one_play game is bytes outcome other text line (inr (lines, tail, few, stopped, same))
+    (inr (others, rest, few_too, stopped_too, same_too)) =
+    (same ∙ sym same_too, two_stopped game is bytes lines others tail rest text line few few_too stopped stopped_too)
+
+module _ (game : Game) (input output : Stream) (bytes taken : List ℕ) (old : input.bytes.old ≡ Some bytes)
+    (had : Had output taken)
+    (outcome : Outcome) (plain : IsPlain outcome) where
+  abbrev Over_known : Type 0
+  Over_known = EndsBy output taken (PlayEnds game bytes) outcome
+
+  came_known : (lines : List (List ℕ)) (rest : List ℕ) → LinesCame input.bytes.old input.bytes.new lines rest
+      → LinesCame (Some bytes) input.bytes.new lines rest
+  came_known lines rest came = subst (λ (o : Option (List ℕ)). LinesCame o input.bytes.new lines rest) old came
+
+  play_over : (end : PlayEnd) → outcome ≡ Done → HasEnded
+      (IsPlayed game) input.bytes.old input.bytes.new output.bytes.old output.bytes.new end → Over_known
+  play_over end same (lines, rest, text, came, ends, appends) =
+      let cut = cuts bytes input.bytes.new lines rest (came_known lines rest came) in
+      (text, took output taken text had appends, inl (lines, cut.0, came.few, ended cut.0 cut.1 cut.2 ends, same))
+    where
+      ended : (tail : List ℕ) → Cuts bytes lines tail → Leaves rest input.bytes.new tail → PlayEndsBy
+          (IsPlayed game) input.bytes.new lines rest text end
+          → HasEndedBy game bytes lines tail text
+      ended tail cut leaves (inl over) = record { cut = cut; end = end; transcript = inl over; ends = inl over }
+      ended tail cut leaves (inr (stops, finished, none, less)) =
+          record { cut = cut; end = end; transcript = inr stops; ends = inr (leaves.1 finished none, less) }
+
+  play_broken : (why : PlayFault) → outcome ≡ Broken (fault_of_play why)
+      → BreaksOff (IsPlayed game) input.bytes.old input.bytes.new output.bytes.old output.bytes.new why → Over_known
+  play_broken play_faults.Read same breaks = absurd (plain.read same)
+  play_broken play_faults.Write same breaks = absurd (plain.write same)
+  play_broken play_faults.Memory same breaks = absurd (plain.memory same)
+  play_broken play_faults.Limit same (lines, rest, text, at, requests, came, waits, played, appends) =
+      let cut = cuts bytes input.bytes.new lines rest (came_known lines rest came) in
+      (text, took output taken text had appends, inr (lines, cut.0, came.few, stopped cut.0 cut.1 cut.2 waits, same))
+    where
+      stopped : (tail : List ℕ) → Cuts bytes lines tail → Leaves rest input.bytes.new tail → (length lines ≡ 1000000)
+          ⊎ BeginsTooLong rest
+          → HasStoppedAt game bytes lines tail text
+      stopped tail cut leaves (inl full) = record {
+        cut = cut;
+        at = at;
+        requests = requests;
+        goes = played;
+        limit =
+            inl full;
+      }
+      stopped tail cut leaves (inr long) = record {
+        cut = cut;
+        at = at;
+        requests = requests;
+        goes = played;
+        limit = inr (subst BeginsTooLong (sym leaves.0.1) (too_long_is rest leaves.0.0 long));
+      }
+
+  play_known : EndsAs outcome_of_run (IsOver game input.bytes output.bytes)
+      (IsBrokenOff game input.bytes output.bytes) outcome → Over_known
+  play_known (result, match, same) = go result match same
+    where
+      go : (result : Result PlayEnd RunFault) → MatchResult result (IsOver game input.bytes output.bytes)
+          (IsBrokenOff game input.bytes output.bytes)
+          → outcome ≡ outcome_of_run result → Over_known
+      go (Ok end) (ended, keeps) same = play_over end same ended
+      go (Err fault) (why, breaks, told) same = play_broken why (same ∙ ap Broken told) breaks
+
+-- the outcome and the transcript for the texts of a board and of a play
+abbrev BoardPlayEnds : Numbering → Side → List ℕ → List ℕ → Outcome → List ℕ → Type 0
+BoardPlayEnds limit side lines board_bytes outcome text =
+    ((MAX_BOARD_BYTES < length board_bytes) × (outcome ≡ Broken Limit) × (text ≡ []))
+    ⊎ ((length board_bytes ≤ MAX_BOARD_BYTES) × (fault : RunFault) × IsWrongWithin limit board_bytes fault ×
+    (outcome ≡ Broken fault) × (text ≡ []))
+    ⊎ ((length board_bytes ≤ MAX_BOARD_BYTES) × (board : PlainBoard) × IsBoardWithin limit board_bytes board
+    × PlayEnds (game_played side board) lines outcome text)
+
+is_game : (side : Side) (board : PlainBoard) → IsBoard board → IsGame (game_played side board)
+is_game Labeller board is = is
+is_game Adversary board is = is
+
+one_board_play : (limit : Numbering) (side : Side) (lines b : List ℕ) → IsOne (BoardPlayEnds limit side lines b)
+one_board_play limit side lines b outcome other text line (inl one) (inl two) = (one.1 ∙ sym two.1, one.2 ∙ sym two.2)
+one_board_play limit side lines b outcome other text line (inl one) (inr (inl two)) =
+    absurd (omega (arith, one.0, two.0))
+one_board_play limit side lines b outcome other text line (inl one) (inr (inr two)) =
+    absurd (omega (arith, one.0, two.0))
+one_board_play limit side lines b outcome other text line (inr (inl one)) (inl two) =
+    absurd (omega (arith, one.0, two.0))
+one_board_play limit side lines b outcome other text line (inr (inl one)) (inr (inl two)) =
+    (one.3 ∙ ap Broken (one_wrong limit b one.1 two.1 one.2 two.2) ∙ sym two.3, one.4 ∙ sym two.4)
+one_board_play limit side lines b outcome other text line (inr (inl one)) (inr (inr two)) =
+    absurd (not_wrong limit b two.1 two.2 one.1 one.2)
+one_board_play limit side lines b outcome other text line (inr (inr one)) (inl two) =
+    absurd (omega (arith, one.0, two.0))
+one_board_play limit side lines b outcome other text line (inr (inr one)) (inr (inl two)) =
+    absurd (not_wrong limit b one.1 one.2 two.1 two.2)
+one_board_play limit side lines b outcome other text line (inr (inr (inside, board, small, one)))
+    (inr (inr (inside_too, second, small_too, two))) =
+    let same : board ≡ second = one_board board second small.is_board small_too.is_board
+    (sym small.spelled ∙ small_too.spelled) in
+    one_play (game_played side second) (is_game side second small_too.is_board) lines outcome other text line
+    (subst (λ (d : PlainBoard). PlayEnds (game_played side d) lines outcome text) same one) two
+
+module _ (large : Bool) (side : Side) (input output : Stream) (lines taken : List ℕ)
+    (old : input.bytes.old ≡ Some lines)
+    (kept : input.IsKept → input.bytes.new ≡ input.bytes.old)
+    (had : Had output taken) (outcome : Outcome) (fair : IsFair outcome) where
+  abbrev BoardPlayed : File → Type 0
+  BoardPlayed file = EndsBy output taken (FileEnds (BoardPlayEnds (limit_of large) side lines) file) outcome
+
+  module _ (read : Bytes) (bytes : List ℕ) (board_old : read.old ≡ Some bytes) (plain : IsPlain outcome) where
+    abbrev OnBoard : Type 0
+    OnBoard = EndsBy output taken (BoardPlayEnds (limit_of large) side lines bytes) outcome
+
+    play_on : (board : PlainBoard) → GaveBoard (limit_of large) MAX_BOARD_BYTES read board
+        → EndsAs outcome_of_run (IsOver (game_played side board) input.bytes output.bytes)
+        (IsBrokenOff (game_played side board) input.bytes output.bytes) outcome
+        → OnBoard
+    play_on board (text, gave, small) run =
+        let all : text ≡ bytes = gave_all read bytes text board_old gave.0 in
+        let end = play_known (game_played side board) input output lines taken old had outcome plain run in (
+          end.0,
+          end.1,
+          inr (inr (
+            subst (λ t. length t ≤ MAX_BOARD_BYTES) all gave.1,
+            board,
+            subst
+                (λ t. IsBoardWithin (limit_of large) t board) all small,
+            end.2,
+          )),
+        )
+
+    no_play : (fault : RunFault) → outcome ≡ Broken fault → GaveNoBoard (limit_of large) MAX_BOARD_BYTES read fault
+        → output.IsKept
+        → OnBoard
+    no_play fault same (inl unread) stays =
+        let over = unread_is MAX_BOARD_BYTES read bytes fault outcome board_old plain same unread in
+        ([], stayed output taken had stays, inl (over.0, over.1, refl))
+    no_play fault same (inr (text, gave, none)) stays = elim (wrong_board (limit_of large) text fault none) [
+      | inl memory ↦ absurd (fair.memory (same ∙ ap Broken memory))
+      | inr bad ↦
+          let all : text ≡ bytes = gave_all read bytes text board_old gave.0 in (
+            [],
+            stayed output taken had stays,
+            inr (inl (
+              subst (λ t. length t ≤ MAX_BOARD_BYTES) all gave.1,
+              fault,
+              subst
+                  (λ t. IsWrongWithin (limit_of large) t fault) all bad,
+              same,
+              refl,
+            )),
+          )
+    ]
+
+    played : EndsAs outcome_of_run (RanPlay (limit_of large) side MAX_BOARD_BYTES read input.bytes output.bytes)
+        (PlayFails (limit_of large) side MAX_BOARD_BYTES (input.IsKept × output.IsKept) read input.bytes output.bytes)
+        outcome → OnBoard
+    played (result, match, same) = go result match same
+      where
+        go : (result : Result PlayEnd RunFault) → MatchResult result
+            (RanPlay (limit_of large) side MAX_BOARD_BYTES read input.bytes output.bytes)
+            (PlayFails (limit_of large) side MAX_BOARD_BYTES
+            (input.IsKept × output.IsKept) read input.bytes output.bytes)
+            → outcome ≡ outcome_of_run result → OnBoard
+        go (Ok end) (board, gave, over) same = play_on board gave (Ok end, over, same)
+        go (Err fault) (inl (none, stays)) same = no_play fault same none stays.1
+        go (Err fault) (inr (board, gave, breaks)) same = play_on board gave (Err fault, breaks, same)
+
+  opened_play : (file : File) → file ≢ Unknown → (outcome ≡ Broken Read → CanFail file ⊎ input.HasFailed) →
+      (input.HasFailed → ⊥)
+      → Plays side large file input output outcome → BoardPlayed file
+  opened_play Unknown known unread sound opens = absurd (known refl)
+  opened_play Closed known unread sound (inl (can, stays, same)) = ([], stayed output taken had stays.1, (same, refl))
+  opened_play Closed known unread sound (inr (read, opens, then)) = absurd opens
+  opened_play (Holds bytes) known unread sound (inl (can, stays, same)) = absurd can
+  opened_play (Holds bytes) known unread sound (inr (read, opens, then)) =
+      played read bytes opens (plain_of outcome fair (λ e. elim
+      (unread e) [ inl bad ↦ bad | inr failed ↦ sound failed ])) then
+
+names_differ : (name other : Text) → bytes_eq name other ≡ false → name ≡ other → ⊥
+names_differ name other differ same = true≢false (sym ((bytes_eq-Decides name other).1 same) ∙ differ)
+
+-- ---- two runs of one job
+
+-- two runs end with one outcome, and the same bytes
+abbrev AreAlike : Outcome → Outcome → Stream → Stream → Type 0
+AreAlike outcome other output more = (outcome ≡ other) × (output.bytes.new ≡ more.bytes.new)
+
+alike : (E : Outcome → List ℕ → Type 0) → IsOne E → (outcome other : Outcome) (output more : Stream) (taken : List ℕ)
+    → EndsBy output taken E outcome → EndsBy more taken E other → AreAlike outcome other output more
+alike E one outcome other output more taken is also =
+    let same = one outcome other is.0 also.0 is.2 also.2 in
+    (same.0, is.1 ∙ ap (λ t. Some (taken ++ t)) same.1 ∙ sym also.1)
+
+solving_one : (text : List ℕ) → (answer other : Value) (line more : List ℕ) → Solution text answer line
+    → Solution text other more
+    → (outcome_of_run (Ok answer) ≡ outcome_of_run (Ok other)) × (line ≡ more)
+solving_one text answer other line more is also = (
+  refl,
+  (one_solution text answer other line more is.solution also.solution).1,
+)
+
+reporting_one : (limit : Numbering) (text : List ℕ) → (answer other : Unit {0}) (line more : List ℕ)
+    → Reports limit text answer line → Reports limit text other more
+    → (outcome_of_run (Ok answer) ≡ outcome_of_run (Ok other)) × (line ≡ more)
+reporting_one limit text answer other line more is also = (refl, one_report text limit limit line more is also)
+
+module _ (at : List ℕ → File) (known : AreKnown at) (input output other_input other_output : Stream) (taken : List ℕ)
+    (lines : List ℕ) (had : Had output taken) (had_too : Had other_output taken) (had_lines : Had input lines)
+    (had_lines_too : Had other_input lines)
+    (outcome other : Outcome) (fair : IsFair outcome) (fair_too : IsFair other) where
+  two_solved : (workers more : ℕ) (path second : List ℕ) → path ≡ second → (outcome ≡ Broken Read → CanFail (at path)) →
+      (other ≡ Broken Read → CanFail (at second))
+      → Solves workers (at path) output outcome → Solves more (at second) other_output other
+      → AreAlike outcome other output other_output
+  two_solved workers more path second same unread unread_too is also =
+      alike (FileEnds (Ends outcome_of_run Solution IsWrongBoard MAX_BOARD_BYTES) (at second))
+      (one_file (Ends outcome_of_run Solution IsWrongBoard MAX_BOARD_BYTES)
+      (λ bytes. one_end outcome_of_run Solution IsWrongBoard MAX_BOARD_BYTES bytes (solving_one bytes)
+      (one_wrong Ordered bytes)
+      (λ answer line fault says wrong. not_wrong Ordered bytes says.solution.0 says.solution.1 fault wrong))
+      (at second))
+      outcome other output other_output taken
+      (opened Solution Ordered workers output taken had outcome fair is.1 (at second) (known second)
+      (λ e. subst (λ p. CanFail (at p)) same (unread e))
+      (subst (λ p. Opening (at p) output.IsKept (λ read. EndsAs outcome_of_run
+      (Ran Solution MAX_BOARD_BYTES read output.bytes)
+      (Fails Solution (CannotSolve Ordered workers) MAX_BOARD_BYTES read output.bytes)) outcome) same is.0))
+      (opened Solution Ordered more other_output taken had_too other fair_too also.1 (at second)
+      (known second) unread_too also.0)
+
+  two_counted : (workers more : ℕ) (large : Bool) (path second : List ℕ) → path ≡ second
+      → (outcome ≡ Broken Read → CanFail (at path)) → (other ≡ Broken Read → CanFail (at second))
+      → Counts workers large (at path) output outcome → Counts more large (at second) other_output other
+      → AreAlike outcome other output other_output
+  two_counted workers more large path second same unread unread_too is also =
+      let limit = limit_of large in
+      alike (FileEnds (Ends outcome_of_run (Reports limit) (IsWrongWithin limit) MAX_BOARD_BYTES) (at second))
+      (one_file (Ends outcome_of_run (Reports limit) (IsWrongWithin limit) MAX_BOARD_BYTES)
+      (λ bytes. one_end outcome_of_run (Reports limit) (IsWrongWithin limit) MAX_BOARD_BYTES bytes
+      (reporting_one limit bytes)
+      (one_wrong limit bytes)
+      (λ answer line fault says wrong. not_wrong limit bytes says.0 says.1 fault wrong)) (at second))
+      outcome other output other_output taken
+      (opened (Reports limit) limit workers output taken had outcome fair is.1 (at second) (known second)
+      (λ e. subst (λ p. CanFail (at p)) same (unread e))
+      (subst (λ p. Opening (at p) output.IsKept (λ read. EndsAs outcome_of_run
+      (Ran (Reports limit) MAX_BOARD_BYTES read output.bytes)
+      (Fails (Reports limit) (CannotSolve limit workers) MAX_BOARD_BYTES read output.bytes)) outcome) same is.0))
+      (opened (Reports limit) limit more other_output taken had_too other fair_too also.1 (at second)
+      (known second) unread_too also.0)
+
+  two_checked : (path second document paper : List ℕ) → path ≡ second → document ≡ paper
+      → (outcome ≡ Broken Read → CanFail (at path) ⊎ CanFail (at document)) →
+      (other ≡ Broken Read → CanFail (at second) ⊎ CanFail (at paper))
+      → Checks (at path) (at document) output outcome → Checks (at second) (at paper) other_output other
+      → AreAlike outcome other output other_output
+  two_checked path second document paper same same_too unread unread_too is also =
+      alike (PairEnds CheckEnds (at second) (at paper))
+      (one_pair CheckEnds one_check_end (at second) (at paper)) outcome other output other_output taken
+      (subst (λ p. EndsBy output taken (PairEnds CheckEnds (at p) (at paper)) outcome) same
+      (subst (λ p. EndsBy output taken (PairEnds CheckEnds (at path) (at p)) outcome) same_too
+      (both_opened output taken had outcome fair is.1 (at path) (at document) (known path) (known document) unread is)))
+      (both_opened other_output taken had_too other fair_too also.1 (at second) (at paper) (known second)
+      (known paper) unread_too also)
+
+  two_nested : (levels pebbles more others : ℕ) → levels ≡ more → pebbles ≡ others
+      → WritesNested levels pebbles output outcome → WritesNested more others other_output other
+      → AreAlike outcome other output other_output
+  two_nested levels pebbles more others same same_too is also =
+      alike (NestedEnds more others) (one_nested more others) outcome other output other_output taken
+      (subst (λ l. EndsBy output taken (NestedEnds l others) outcome) same
+      (subst (λ p. EndsBy output taken (NestedEnds levels p) outcome) same_too
+      (nested levels pebbles output taken outcome had fair is)))
+      (nested more others other_output taken other had_too fair_too also)
+
+  two_played : (large : Bool) (side next : Side) (path second : List ℕ) → side ≡ next → path ≡ second
+      → (outcome ≡ Broken Read → CanFail (at path) ⊎ input.HasFailed) →
+      (other ≡ Broken Read → CanFail (at second) ⊎ other_input.HasFailed)
+      → Plays side large (at path) input output outcome → Plays next large (at second) other_input other_output other
+      → AreAlike outcome other output other_output
+  two_played large side next path second same same_too unread unread_too is also =
+      alike (FileEnds (BoardPlayEnds (limit_of large) next lines) (at second))
+      (one_file (BoardPlayEnds (limit_of large) next lines) (one_board_play (limit_of large) next lines) (at second))
+      outcome other output other_output taken
+      (subst (λ s. EndsBy output taken (FileEnds (BoardPlayEnds (limit_of large) s lines) (at second)) outcome) same
+      (subst (λ p. EndsBy output taken (FileEnds (BoardPlayEnds (limit_of large) side lines) (at p)) outcome) same_too
+      (opened_play large side input output lines taken had_lines.old had_lines.kept had outcome fair (at path)
+      (known path) unread had_lines.sound is)))
+      (opened_play large next other_input other_output lines taken had_lines_too.old had_lines_too.kept had_too other
+      fair_too
+      (at second) (known second)
+      unread_too had_lines_too.sound also)
+
+  two_joined : (outcome ≡ Broken Read → input.HasFailed) → (other ≡ Broken Read → other_input.HasFailed)
+      → ChecksJoined input output outcome → ChecksJoined other_input other_output other
+      → AreAlike outcome other output other_output
+  two_joined unread unread_too is also =
+      alike (Ends outcome_of_check IsAnswered IsWrongText MAX_JOINED_BYTES lines)
+      (one_end outcome_of_check IsAnswered IsWrongText MAX_JOINED_BYTES lines (one_joined lines)
+      (one_joined_fault lines) (joined_apart lines))
+      outcome other output other_output taken
+      (ends outcome_of_check check_breaks IsAnswered CannotAnswer IsWrongText wrong_joined MAX_JOINED_BYTES input.bytes
+      lines had_lines.old output taken
+      had outcome (plain_of outcome fair (λ e. had_lines.sound (unread e))) is.1 is.0)
+      (ends outcome_of_check check_breaks IsAnswered CannotAnswer IsWrongText wrong_joined MAX_JOINED_BYTES
+      other_input.bytes lines had_lines_too.old
+      other_output taken had_too other (plain_of other fair_too
+      (λ e. had_lines_too.sound (unread_too e))) also.1 also.0)
+
+  two_climbed : (levels more : ℕ) → levels ≡ more → IsGame (PersonClimbs more)
+      → (outcome ≡ Broken Read → input.HasFailed) → (other ≡ Broken Read → other_input.HasFailed)
+      → Climbs levels input output outcome → Climbs more other_input other_output other
+      → AreAlike outcome other output other_output
+  two_climbed levels more same game unread unread_too is also =
+      alike (PlayEnds (PersonClimbs more) lines) (one_play
+      (PersonClimbs more) game lines) outcome other output other_output taken
+      (subst (λ l. EndsBy output taken (PlayEnds (PersonClimbs l) lines) outcome) same
+      (play_known (PersonClimbs levels) input output lines taken had_lines.old had outcome
+      (plain_of outcome fair (λ e. had_lines.sound (unread e))) is))
+      (play_known (PersonClimbs more) other_input other_output lines taken had_lines_too.old had_too other
+      (plain_of other fair_too (λ e. had_lines_too.sound (unread_too e))) also)
+
+  same_side : (side next : Side) → side_word side ≡ side_word next → side ≡ next
+  same_side Labeller Labeller same = refl
+  same_side Adversary Adversary same = refl
+  same_side Labeller Adversary same = absurd (names_differ (codes "labeller") (codes "adversary") refl same)
+  same_side Adversary Labeller same = absurd (names_differ (codes "adversary") (codes "labeller") refl same)
+
+  same_number : (rows : List Row) (id : Text) (most n m : ℕ) → HasNumber rows id most n → HasNumber rows id most m
+      → n ≡ m
+  same_number rows id most n m is also = let same = sym is.0 ∙ also.0 in cc
+
+  same_path : (o : Option Text) (path second : Text) → o ≡ Some path → o ≡ Some second → path ≡ second
+  same_path o path second is also = let same = sym is ∙ also in cc
+
+  same_flag : (rows : List Row) (id : Text) (is_given given : Bool) → HasFlag rows id is_given → HasFlag rows id given
+      → is_given ≡ given
+  same_flag rows id true true is also = refl
+  same_flag rows id false false is also = refl
+  same_flag rows id true false is also =
+      absurd (names_differ (codes "true") (codes "false") refl
+      (same_path (one_of id rows) (codes "true") (codes "false") is also))
+  same_flag rows id false true is also =
+      absurd (names_differ (codes "false") (codes "true") refl
+      (same_path (one_of id rows) (codes "false") (codes "true") is also))
+
+  two_done : (name : Text) (rows : List Row) (job more : Job) → AsksFor name rows job → AsksFor name rows more
+      → IsDone at input output job outcome → IsDone at other_input other_output more other
+      → AreAlike outcome other output other_output
+  two_done name rows jobs.Joined more asks asks_too is also = absurd asks
+  two_done name rows (jobs.Check b p) jobs.Joined asks asks_too is also = absurd asks_too
+  two_done name rows (jobs.Check b p) (jobs.Check ob op) asks asks_too is also =
+      two_checked b.now ob.now p.now op.now (same_path _ b.now ob.now asks.1 asks_too.1)
+      (same_path _ p.now op.now asks.2 asks_too.2)
+      is.unread also.unread is.does.0 also.does.0
+  two_done name rows (jobs.Check b p) (jobs.Nested ol oq) asks asks_too is also =
+      absurd (names_differ (codes "check") (codes "nested") refl (sym asks.0 ∙ asks_too.0))
+  two_done name rows (jobs.Check b p) (jobs.Solve ow ob) asks asks_too is also =
+      absurd (names_differ (codes "check") (codes "solve") refl (sym asks.0 ∙ asks_too.0))
+  two_done name rows (jobs.Check b p) (jobs.Report ow og ob) asks asks_too is also =
+      absurd (names_differ (codes "check") (codes "report") refl (sym asks.0 ∙ asks_too.0))
+  two_done name rows (jobs.Check b p) (jobs.Play os og ob) asks asks_too is also =
+      absurd (names_differ (codes "check") (codes "play") refl (sym asks.0 ∙ asks_too.0))
+  two_done name rows (jobs.Check b p) (jobs.Climb ol) asks asks_too is also =
+      absurd (names_differ (codes "check") (codes "climb") refl (sym asks.0 ∙ asks_too.0))
+  two_done name rows (jobs.Nested l q) jobs.Joined asks asks_too is also = absurd asks_too
+  two_done name rows (jobs.Nested l q) (jobs.Check ob op) asks asks_too is also =
+      absurd (names_differ (codes "nested") (codes "check") refl (sym asks.0 ∙ asks_too.0))
+  two_done name rows (jobs.Nested l q) (jobs.Nested ol oq) asks asks_too is also =
+      two_nested l q ol oq (same_number rows (codes "levels") _ l ol asks.1 asks_too.1)
+      (same_number rows (codes "pebbles") _ q oq asks.2 asks_too.2)
+      is.does.0 also.does.0
+  two_done name rows (jobs.Nested l q) (jobs.Solve ow ob) asks asks_too is also =
+      absurd (names_differ (codes "nested") (codes "solve") refl (sym asks.0 ∙ asks_too.0))
+  two_done name rows (jobs.Nested l q) (jobs.Report ow og ob) asks asks_too is also =
+      absurd (names_differ (codes "nested") (codes "report") refl (sym asks.0 ∙ asks_too.0))
+  two_done name rows (jobs.Nested l q) (jobs.Play os og ob) asks asks_too is also =
+      absurd (names_differ (codes "nested") (codes "play") refl (sym asks.0 ∙ asks_too.0))
+  two_done name rows (jobs.Nested l q) (jobs.Climb ol) asks asks_too is also =
+      absurd (names_differ (codes "nested") (codes "climb") refl (sym asks.0 ∙ asks_too.0))
+  two_done name rows (jobs.Solve w b) jobs.Joined asks asks_too is also = absurd asks_too
+  two_done name rows (jobs.Solve w b) (jobs.Check ob op) asks asks_too is also =
+      absurd (names_differ (codes "solve") (codes "check") refl (sym asks.0 ∙ asks_too.0))
+  two_done name rows (jobs.Solve w b) (jobs.Nested ol oq) asks asks_too is also =
+      absurd (names_differ (codes "solve") (codes "nested") refl (sym asks.0 ∙ asks_too.0))
+  two_done name rows (jobs.Solve w b) (jobs.Solve ow ob) asks asks_too is also =
+      two_solved w ow b.now ob.now
+      (same_path _ b.now ob.now asks.2 asks_too.2) is.unread also.unread is.does.0 also.does.0
+  two_done name rows (jobs.Solve w b) (jobs.Report ow og ob) asks asks_too is also =
+      absurd (names_differ (codes "solve") (codes "report") refl (sym asks.0 ∙ asks_too.0))
+  two_done name rows (jobs.Solve w b) (jobs.Play os og ob) asks asks_too is also =
+      absurd (names_differ (codes "solve") (codes "play") refl (sym asks.0 ∙ asks_too.0))
+  two_done name rows (jobs.Solve w b) (jobs.Climb ol) asks asks_too is also =
+      absurd (names_differ (codes "solve") (codes "climb") refl (sym asks.0 ∙ asks_too.0))
+  two_done name rows (jobs.Report w g b) jobs.Joined asks asks_too is also = absurd asks_too
+  two_done name rows (jobs.Report w g b) (jobs.Check ob op) asks asks_too is also =
+      absurd (names_differ (codes "report") (codes "check") refl (sym asks.0 ∙ asks_too.0))
+  two_done name rows (jobs.Report w g b) (jobs.Nested ol oq) asks asks_too is also =
+      absurd (names_differ (codes "report") (codes "nested") refl (sym asks.0 ∙ asks_too.0))
+  two_done name rows (jobs.Report w g b) (jobs.Solve ow ob) asks asks_too is also =
+      absurd (names_differ (codes "report") (codes "solve") refl (sym asks.0 ∙ asks_too.0))
+  two_done name rows (jobs.Report w g b) (jobs.Report ow og ob) asks asks_too is also =
+      two_counted w ow og b.now ob.now (same_path _ b.now ob.now asks.3 asks_too.3) is.unread also.unread
+      (subst (λ l. Counts w l (at b.now) output outcome)
+      (same_flag rows (codes "large") g og asks.2 asks_too.2) is.does.0)
+      also.does.0
+  two_done name rows (jobs.Report w g b) (jobs.Play os og ob) asks asks_too is also =
+      absurd (names_differ (codes "report") (codes "play") refl (sym asks.0 ∙ asks_too.0))
+  two_done name rows (jobs.Report w g b) (jobs.Climb ol) asks asks_too is also =
+      absurd (names_differ (codes "report") (codes "climb") refl (sym asks.0 ∙ asks_too.0))
+  two_done name rows (jobs.Play s g b) jobs.Joined asks asks_too is also = absurd asks_too
+  two_done name rows (jobs.Play s g b) (jobs.Check ob op) asks asks_too is also =
+      absurd (names_differ (codes "play") (codes "check") refl (sym asks.0 ∙ asks_too.0))
+  two_done name rows (jobs.Play s g b) (jobs.Nested ol oq) asks asks_too is also =
+      absurd (names_differ (codes "play") (codes "nested") refl (sym asks.0 ∙ asks_too.0))
+  two_done name rows (jobs.Play s g b) (jobs.Solve ow ob) asks asks_too is also =
+      absurd (names_differ (codes "play") (codes "solve") refl (sym asks.0 ∙ asks_too.0))
+  two_done name rows (jobs.Play s g b) (jobs.Report ow og ob) asks asks_too is also =
+      absurd (names_differ (codes "play") (codes "report") refl (sym asks.0 ∙ asks_too.0))
+  two_done name rows (jobs.Play s g b) (jobs.Play os og ob) asks asks_too is also =
+      two_played og s os b.now ob.now (same_side s os (same_path _ (side_word s) (side_word os) asks.1 asks_too.1))
+      (same_path _ b.now ob.now asks.3 asks_too.3) is.unread also.unread
+      (subst (λ l. Plays s l (at b.now) input output outcome)
+      (same_flag rows (codes "large") g og asks.2 asks_too.2) is.does)
+      also.does
+  two_done name rows (jobs.Play s g b) (jobs.Climb ol) asks asks_too is also =
+      absurd (names_differ (codes "play") (codes "climb") refl (sym asks.0 ∙ asks_too.0))
+  two_done name rows (jobs.Climb l) jobs.Joined asks asks_too is also = absurd asks_too
+  two_done name rows (jobs.Climb l) (jobs.Check ob op) asks asks_too is also =
+      absurd (names_differ (codes "climb") (codes "check") refl (sym asks.0 ∙ asks_too.0))
+  two_done name rows (jobs.Climb l) (jobs.Nested ol oq) asks asks_too is also =
+      absurd (names_differ (codes "climb") (codes "nested") refl (sym asks.0 ∙ asks_too.0))
+  two_done name rows (jobs.Climb l) (jobs.Solve ow ob) asks asks_too is also =
+      absurd (names_differ (codes "climb") (codes "solve") refl (sym asks.0 ∙ asks_too.0))
+  two_done name rows (jobs.Climb l) (jobs.Report ow og ob) asks asks_too is also =
+      absurd (names_differ (codes "climb") (codes "report") refl (sym asks.0 ∙ asks_too.0))
+  two_done name rows (jobs.Climb l) (jobs.Play os og ob) asks asks_too is also =
+      absurd (names_differ (codes "climb") (codes "play") refl (sym asks.0 ∙ asks_too.0))
+  two_done name rows (jobs.Climb l) (jobs.Climb ol) asks asks_too is also =
+      two_climbed l ol (same_number rows (codes "levels") _ l ol asks.1 asks_too.1)
+      (asks_too.1.1, asks_too.1.2) is.unread also.unread is.does also.does
+
+-- ---- standard error and the status
+
+-- the text that is written of an outcome, off a terminal
+abbrev ending : Outcome → List ℕ
+ending Done = []
+ending Refused = []
+ending (Broken fault) = line_of_fault fault
+
+explained_is : (terminal : Bool) (text said : List ℕ) → terminal ≡ false → IsExplained terminal text said → said ≡ text
+explained_is true text said off is = absurd (true≢false off)
+explained_is false text said off (note, none, is) = is ∙ ap (λ n. text ++ n) none ∙ append-nil text
+
+ending_is : (terminal : Bool) (outcome : Outcome) (said : List ℕ) → terminal ≡ false → IsEnding terminal outcome said
+    → said ≡ ending outcome
+ending_is terminal Done said off is = is
+ending_is terminal Refused said off is = explained_is terminal [] said off is
+ending_is terminal (Broken fault) said off is = explained_is terminal (line_of_fault fault) said off is
+
+wrote : (stream : Stream) (bytes text : List ℕ) → Had stream bytes → IsWritten stream text → stream.bytes.new ≡ Some
+    (bytes ++ text)
+wrote stream bytes text had (inl (sound, appends)) = took stream bytes text had appends
+wrote stream bytes text had (inr (failed, cut)) = absurd (had.sound failed)
+
+prompts_are : (terminals : Terminals) (job : Job) (text : List ℕ) → terminals.errors ≡ false
+    → IsPrompted terminals job text → text ≡ []
+prompts_are terminals job text off is =
+    go (is_typed job) terminals.input (is_large job) terminals.errors off is
+  where
+    go : (typed input large errors : Bool) → errors ≡ false
+        → AreForPerson ((typed && (input && errors)) || (large && errors)) text → text ≡ []
+    go typed input large true e is = absurd (true≢false e)
+    go true true true false e is = is
+    go true true false false e is = is
+    go true false true false e is = is
+    go true false false false e is = is
+    go false input true false e is = is
+    go false input false false e is = is
+
+module _ (at : List ℕ → File) (terminals : Terminals) (off : terminals.errors ≡ false) (lines taken told : List ℕ) where
+  -- what a serving gave: its status, and the bytes that it left
+  pub record Gives (input output errors : Stream) (status : ℕ) : Type 0 where
+    pub had_input : Had input lines
+    pub had : Had output taken
+    pub had_errors : Had errors told
+    pub given : status ≢ 4
+
+  module _ (input output errors : Stream) (status : ℕ) (gives : Gives input output errors status) where
+    said_is : (outcome : Outcome) → EndsWith at terminals input output errors status [] outcome
+        → errors.bytes.new ≡ Some (told ++ ending outcome)
+    said_is outcome ((said, is, (written, quiet)), same) =
+        wrote errors told said gives.had_errors written ∙ ap (λ t. Some (told ++ t))
+        (ending_is terminals.errors outcome said off is)
+
+    fair_by : (outcome : Outcome) → (outcome ≡ Broken Write → output.HasFailed) → status ≡ status_of outcome
+        → IsFair outcome
+    fair_by outcome write same = record {
+      memory = λ e. gives.given (same ∙ ap status_of e);
+      worker = λ e. gives.given (same ∙ ap status_of e);
+      write = λ e. gives.had.sound (write e);
+    }
+
+    -- the words ask for a job, which gave this outcome
+    record IsJobDone (words : List Text) (job : Job) (outcome : Outcome) : Type 0 where
+      asks : WordsAskFor words job
+      done : IsDone at input output job outcome
+      fair : IsFair outcome
+      status_is : status ≡ status_of outcome
+      errors_are : errors.bytes.new ≡ Some (told ++ ending outcome)
+
+    job_done : (words : List Text) (job : Job) (told_lines : List ℕ) (outcome : Outcome) → WordsAskFor words job
+        → IsPrompted terminals job told_lines
+        → IsDone at input output job outcome → EndsWith at terminals input output errors status told_lines outcome
+        → IsJobDone words job outcome
+    job_done words job told_lines outcome asks prompts done ends = record {
+      asks = asks;
+      done = done;
+      fair = fair_by outcome (λ e. done.writes.1 e) ends.1;
+      status_is = ends.1;
+      errors_are = said_is outcome (subst (λ g. EndsWith at terminals input output errors status g outcome)
+          (prompts_are terminals job told_lines off prompts) ends);
+    }
+
+    -- help or the version was written
+    helped_is : (text : List ℕ) → IsHelped at terminals input output errors status text
+        → (status ≡ 0) × (output.bytes.new ≡ Some (taken ++ text)) × (errors.bytes.new ≡ Some (told ++ []))
+    helped_is text (written, kept, inl (sound, ends)) =
+        (ends.1, wrote output taken text gives.had written, said_is Done ends)
+    helped_is text (written, kept, inr (failed, ends)) = absurd (gives.had.sound failed)
+
+    refused_is : (text : List ℕ) → IsRefusedWith at terminals input output errors status text
+        → (status ≡ 2) × (output.bytes.new ≡ Some (taken ++ [])) × (errors.bytes.new ≡ Some (told ++ text))
+    refused_is text ((said, is, written), kept, kept_too, same) = (
+      same,
+      stayed output taken gives.had kept_too,
+      wrote errors told said gives.had_errors written ∙ ap (λ t. Some (told ++ t))
+          (explained_is terminals.errors text said off is),
+    )
+
+    -- the job lacked its input
+    lacked_is : input.IsKept × output.IsKept × EndsWith at terminals input output errors status [] (Broken Read)
+        → (status ≡ status_of (Broken Read)) × (output.bytes.new ≡ Some (taken ++ []))
+        × (errors.bytes.new ≡ Some (told ++ ending (Broken Read)))
+    lacked_is (kept, kept_too, ends) =
+        (ends.1, stayed output taken gives.had kept_too, said_is (Broken Read) ends)
+
+    no_memory : HasNoMemory at terminals input output errors status → ⊥
+    no_memory (kept, kept_too, ends) = gives.given ends.1
+
+-- ---- the input that a job lacks
+
+-- the command of this name reads standard input
+abbrev reads_input : Text → Bool
+reads_input name = bytes_eq name (codes "play") || bytes_eq name (codes "climb")
+
+typed_by_name : (name : Text) (rows : List Row) (job : Job) → AsksFor name rows job
+    → is_typed job ≡ reads_input name
+typed_by_name name rows jobs.Joined asks = absurd asks
+typed_by_name name rows (jobs.Check b p) asks = rw asks.0 refl
+typed_by_name name rows (jobs.Nested l p) asks = rw asks.0 refl
+typed_by_name name rows (jobs.Solve w b) asks = rw asks.0 refl
+typed_by_name name rows (jobs.Report w g b) asks = rw asks.0 refl
+typed_by_name name rows (jobs.Play s g b) asks = rw asks.0 refl
+typed_by_name name rows (jobs.Climb l) asks = rw asks.0 refl
+
+typed_as_read : (found : Option (Text × List Row)) (job more : Job) → IsReadAs found job → IsReadAs found more
+    → is_typed job ≡ is_typed more
+typed_as_read None job more read read_too = absurd read
+typed_as_read (Some found) job more read read_too =
+    typed_by_name found.0 found.1 job read ∙ sym (typed_by_name found.0 found.1 more read_too)
+
+-- the same words ask for jobs of which both read standard input, or none
+typed_alike : (words : List Text) (job more : Job) → WordsAskFor words job → WordsAskFor words more
+    → is_typed job ≡ is_typed more
+typed_alike words job more (inl joined) (inl joined_too) = ap is_typed (joined.1 ∙ sym joined_too.1)
+typed_alike words job more (inl joined) (inr read) = absurd (omega (arith, joined.0, read.0))
+typed_alike words job more (inr read) (inl joined) = absurd (omega (arith, joined.0, read.0))
+typed_alike words job more (inr read) (inr read_too) =
+    typed_as_read (subcommand_of program words) job more read.2 read_too.2
+
+lack_alike : (terminals : Terminals) (words : List Text) (job more : Job) → WordsAskFor words job
+    → WordsAskFor words more
+    → lacks_input terminals job ≡ false → lacks_input terminals more ≡ true → ⊥
+lack_alike terminals words job more asks asks_too has lacks =
+    let alike = ap (λ t. terminals.input_closed && t) (typed_alike words job more asks asks_too) in
+    true≢false (sym lacks ∙ sym alike ∙ has)
+
+none_among : (kind : ErrorKind) (found : Kinds) → found ≡ [] → IsAmong kind found → ⊥
+none_among kind found none has = subst (λ (k : Kinds). IsAmong kind k) none has
+
+not_faultless : (words : List Text) (fault : JobFault) → fault ≢ NoMemory → fault_of program words ≡ []
+    → ShowsWords words fault → ⊥
+not_faultless words (Help text) not none (inl version) =
+    none_among kinds.DisplayVersion (fault_of program words) none version.0
+not_faultless words (Help text) not none (inr help) = none_among kinds.DisplayHelp
+    (fault_of program words) none help.0.0
+not_faultless words (Usage text) not none wrong = none_among wrong.0.0 (fault_of program words) none wrong.0.1
+not_faultless words NoMemory not none shows = not refl
+
+module _ (at : List ℕ → File) (known : AreKnown at) (terminals : Terminals) (off : terminals.errors ≡ false)
+    (lines taken told : List ℕ)
+    (input output errors other_input other_output other_errors : Stream) (status other : ℕ)
+    (gives : Gives at terminals off lines taken told input output errors status)
+    (gives_too : Gives at terminals off lines taken told other_input other_output other_errors other) where
+  abbrev AreSame : Type 0
+  AreSame = (output.bytes.new ≡ other_output.bytes.new) × (errors.bytes.new ≡ other_errors.bytes.new)
+
+  abbrev First : List Text → Job → Outcome → Type 0
+  First words job outcome =
+      IsJobDone at terminals off lines taken told input output errors status gives words job outcome
+
+  abbrev Second : List Text → Job → Outcome → Type 0
+  Second words job outcome =
+      IsJobDone at terminals off lines taken told other_input other_output other_errors other gives_too words job
+      outcome
+
+  both_read : (found : Option (Text × List Row)) (job more : Job) (outcome next : Outcome) → IsReadAs found job
+      → IsReadAs found more → IsDone at input output job outcome → IsDone at other_input other_output more next
+      → IsFair outcome → IsFair next → AreAlike outcome next output other_output
+  both_read None job more outcome next read read_too is also fair fair_too = absurd read
+  both_read (Some found) job more outcome next read read_too is also fair fair_too =
+      two_done at known input output other_input other_output taken lines gives.had gives_too.had gives.had_input
+      gives_too.had_input
+      outcome next fair fair_too found.0 found.1 job more read read_too is also
+
+  both_jobs : (words : List Text) (job more : Job) (outcome next : Outcome) → First words job outcome
+      → Second words more next
+      → (status ≡ other) × AreSame
+  both_jobs words job more outcome next is also = go is.asks also.asks
+    where
+      alike_so : AreAlike outcome next output other_output → (status ≡ other) × AreSame
+      alike_so same = (
+        is.status_is ∙ ap status_of same.0 ∙ sym also.status_is,
+        (same.1, is.errors_are ∙ ap (λ o. Some (told ++ ending o)) same.0 ∙ sym also.errors_are),
+      )
+
+      go : WordsAskFor words job → WordsAskFor words more → (status ≡ other) × AreSame
+      go (inl joined) (inl joined_too) =
+          let first : IsDone at input output jobs.Joined outcome =
+          subst (λ j. IsDone at input output j outcome) joined.1 is.done in
+          let second : IsDone at other_input other_output jobs.Joined next =
+          subst (λ j. IsDone at other_input other_output j next) joined_too.1 also.done in
+          alike_so (two_joined at known input output other_input other_output taken lines gives.had gives_too.had
+          gives.had_input gives_too.had_input
+          outcome next is.fair also.fair first.unread second.unread first.does second.does)
+      go (inl joined) (inr read) = absurd (omega (arith, joined.0, read.0))
+      go (inr read) (inl joined) = absurd (omega (arith, joined.0, read.0))
+      go (inr read) (inr read_too) =
+          alike_so (both_read (subcommand_of program words) job more outcome next
+          read.2 read_too.2 is.done also.done is.fair also.fair)
+
+  both_faults : (words : List Text) (fault next : JobFault) → ShowsWords words fault → ShowsWords words next
+      → Answers at terminals input output errors status fault
+      → Answers at terminals other_input other_output other_errors other next
+      → (status ≡ other) × (AsksForVersion words → AreSame)
+  both_faults words NoMemory next shows shows_too is also =
+      absurd (no_memory at terminals off lines taken told input output errors status gives is)
+  both_faults words (Help text) NoMemory shows shows_too is also =
+      absurd (no_memory at terminals off lines taken told other_input other_output other_errors other gives_too also)
+  both_faults words (Usage text) NoMemory shows shows_too is also =
+      absurd (no_memory at terminals off lines taken told other_input other_output other_errors other gives_too also)
+  both_faults words (Usage text) (Usage line) shows shows_too is also =
+      let one = refused_is at terminals off lines taken told input output errors status gives (string_bytes text) is in
+      let two = refused_is at terminals off lines taken told other_input other_output other_errors other gives_too
+      (string_bytes line) also in
+      (one.0 ∙ sym two.0, λ version. absurd (no_answer_and_misuse words (inr version) shows))
+  both_faults words (Usage text) (Help line) shows shows_too is also =
+      absurd (no_answer_and_misuse words (elim shows_too [ inl version ↦ inr version.0 | inr help ↦ inl help.0 ]) shows)
+  both_faults words (Help text) (Usage line) shows shows_too is also =
+      absurd (no_answer_and_misuse words (elim shows [ inl version ↦ inr version.0 | inr help ↦ inl help.0 ]) shows_too)
+  both_faults words (Help text) (Help line) shows shows_too is also =
+      let one = helped_is at terminals off lines taken told input output errors status gives (string_bytes text) is in
+      let two = helped_is at terminals off lines taken told other_input other_output other_errors other gives_too
+      (string_bytes line) also in (
+        one.0 ∙ sym two.0,
+        λ version.
+            let same : string_bytes text ≡ string_bytes line =
+            elim shows [ inl of_version ↦ of_version.1 | inr help ↦ absurd (no_help_and_version words help.0 version) ]
+            ∙ sym (elim shows_too [
+              | inl of_version ↦ of_version.1
+              | inr help ↦
+                  absurd (no_help_and_version words help.0 version)
+            ]) in
+            (one.1 ∙ ap (λ t. Some (taken ++ t)) same ∙ sym two.1, one.2 ∙ sym two.2),
+      )
+
+  job_or_fault : (words : List Text) (job : Job) (fault : JobFault) → WordsAskFor words job → 1 < length words
+      → ShowsWords words fault → fault ≢ NoMemory → ⊥
+  job_or_fault words job fault (inl joined) more shows not = absurd (omega (arith, joined.0, more))
+  job_or_fault words job fault (inr read) more shows not = not_faultless words fault not read.1 shows
+
+  pub both_served : (words : List Text) → ServesWords at terminals input output errors status words
+      → ServesWords at terminals other_input other_output other_errors other words
+      → (status ≡ other) × ((length words ≤ 1) ⊎ (fault_of program words ≡ []) ⊎ AsksForVersion words → AreSame)
+  both_served words (inl (job, asks, inl (has, told_lines, prompts, outcome, done, ends)))
+      (inl (more, asks_too, inl (has_too, told_lines_too, prompts_too, next, done_too, ends_too))) =
+      let both = both_jobs words job more outcome next
+      (job_done at terminals off lines taken told input output errors status gives words job told_lines outcome asks
+      prompts done ends)
+      (job_done at terminals off lines taken told other_input other_output other_errors other gives_too words more
+      told_lines_too next asks_too prompts_too done_too ends_too) in
+      (both.0, λ own. both.1)
+  both_served words (inl (job, asks, inr (lacks, kept, kept_too, ends)))
+      (inl (more, asks_too, inr (lacks_too, held, held_too, ends_too))) =
+      let one = lacked_is at terminals off lines taken told input output errors status gives (kept, kept_too, ends) in
+      let two = lacked_is at terminals off lines taken told other_input other_output other_errors other gives_too
+      (held, held_too, ends_too) in
+      (one.0 ∙ sym two.0, λ own. (one.1 ∙ sym two.1, one.2 ∙ sym two.2))
+  both_served words (inl (job, asks, inl is)) (inl (more, asks_too, inr also)) =
+      absurd (lack_alike terminals words job more asks asks_too is.0 also.0)
+  both_served words (inl (job, asks, inr is)) (inl (more, asks_too, inl also)) =
+      absurd (lack_alike terminals words more job asks_too asks also.0 is.0)
+  both_served words (inl (job, asks, is)) (inr (fault, more, shows, takes, answers)) =
+      absurd (job_or_fault words job fault asks more shows
+      (λ e. no_memory at terminals off lines taken told other_input other_output other_errors other gives_too
+      (subst (λ f. Answers at terminals other_input other_output other_errors other f) e answers)))
+  both_served words (inr (fault, more, shows, takes, answers)) (inl (job, asks, is)) =
+      absurd (job_or_fault words job fault asks more shows
+      (λ e. no_memory at terminals off lines taken told input output errors status gives
+      (subst (λ f. Answers at terminals input output errors status f) e answers)))
+  both_served words (inr (fault, more, shows, takes, answers))
+      (inr (next, more_too, shows_too, takes_too, answers_too)) =
+      let both = both_faults words fault next shows shows_too answers answers_too in (
+        both.0,
+        λ own. elim own [
+          | inl few ↦ absurd (omega (arith, few, more))
+          | inr (inl none) ↦ absurd (not_faultless words fault
+              (λ e. no_memory at terminals off lines taken told input output errors status gives
+              (subst (λ f. Answers at terminals input output errors status f) e answers)) none shows)
+          | inr (inr version) ↦ both.1 version
+        ],
+      )
+
+  pub both_given : (words : Words) → Serves at terminals input output errors status words
+      → Serves at terminals other_input other_output other_errors other words
+      → (status ≡ other) × (HaveOwnText words → AreSame)
+  both_given (Given words) is also = both_served (texts words.now) is also
+  both_given OutOfMemory is also =
+      absurd (no_memory at terminals off lines taken told input output errors status gives is)
+  both_given NotText is also =
+      let text = with_line_feed (codes "error: a word on the command line is not text") in
+      let one = refused_is at terminals off lines taken told input output errors status gives text is in
+      let two = refused_is at terminals off lines taken told other_input other_output other_errors other gives_too text
+      also in
+      (one.0 ∙ sym two.0, λ own. (one.1 ∙ sym two.1, one.2 ∙ sym two.2))

@@ -1,0 +1,8 @@
+use Rattle.std.specs.Fmt.{decimal}
+use Rattle.serving.proofs.note_lines.write_part.Goals as goal
+
+pub returns-in-Words : goal.returns-in-Words
+returns-in-Words g c = (c.in-Words.words.now, c.write_shown.ensures)
+
+pub returns-in-Number : goal.returns-in-Number
+returns-in-Number g c = (decimal c.in-Number.number, c.write_digits.ensures)

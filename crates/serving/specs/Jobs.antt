@@ -1,0 +1,136 @@
+-- Jobs: from the files and standard input to standard output.
+use Rattle.std.specs.Prelude.{◌≡◌, ◌≢◌, ℕ, ◌⊎◌, ◌↔◌, Bool, true, false, List}
+use Rattle.command_line.specs.declared.asked.Job.{Job}
+use Rattle.command_line.specs.declared.asked.Job.TheVariants.{Joined, Check, Nested, Solve, Report}
+use Rattle.command_line.specs.declared.asked.Job.TheVariants.{Play, Climb}
+use Rattle.graphs.specs.declared.graph.Numbering.{Numbering}
+use Rattle.graphs.specs.declared.graph.Numbering.TheVariants.{Ordered, Classes}
+use Rattle.player.specs.Transcript.{PersonClimbs}
+use Rattle.positions.specs.declared.side.Side.{Side}
+use Rattle.runs.specs.CheckRun.{RanCheck, CheckFails}
+use Rattle.serving.specs.Folders.{File, OpensWith, CanFail}
+use Rattle.runs.specs.Headline.{Solution}
+use Rattle.runs.specs.NestedText.{IsNestedText}
+use Rattle.serving.specs.Outcomes.{EndsAs, outcome_of_check, outcome_of_run}
+use Rattle.runs.specs.PlayRun.{IsBrokenOff, IsOver, PlayFails, RanPlay}
+use Rattle.runs.specs.Report.{Reports}
+use Rattle.runs.specs.Run.{Bytes, Fails, Ran, Stream, Wrote, WrotePrefix}
+use Rattle.runs.specs.SolveRun.{CannotSolve}
+use Rattle.runs.specs.Verdicts.{CannotAnswer, IsAnswered}
+use Rattle.runs.specs.declared.checking.TheConstants.{MAX_JOINED_BYTES, MAX_PROOF_BYTES}
+use Rattle.runs.specs.declared.reading.TheConstants.{MAX_BOARD_BYTES}
+use Rattle.runs.specs.declared.fault.RunFault.{RunFault}
+use Rattle.runs.specs.declared.fault.RunFault.TheVariants.{Memory, Read, Write}
+use Rattle.serving.specs.declared.outcome.Outcome.{Outcome}
+use Rattle.serving.specs.declared.outcome.Outcome.TheVariants.{Broken}
+
+-- the file was opened and this was done with it; or it can't be opened, and the rest is untouched
+abbrev pub Opening : File → Type 0 → (Bytes → Outcome → Type 0) → Outcome → Type 0
+Opening file IsUntouched Then outcome =
+    (CanFail file × IsUntouched × (outcome ≡ Broken Read))
+    ⊎ ((read : Bytes) × OpensWith file read.old × Then read outcome)
+
+-- nothing was written before a fault, but for one of writing
+abbrev pub WritesWhole : Stream → Outcome → Type 0
+WritesWhole output outcome =
+    (fault : RunFault) → outcome ≡ Broken fault → fault ≢ Write → output.IsKept
+
+-- the reader has failed exactly if that is the fault
+abbrev pub TellsReads : Stream → Outcome → Type 0
+TellsReads input outcome = input.HasFailed ↔ (outcome ≡ Broken Read)
+
+-- the writer has failed exactly if that is the fault
+abbrev pub TellsWrites : Stream → Outcome → Type 0
+TellsWrites output outcome = output.HasFailed ↔ (outcome ≡ Broken Write)
+
+-- a board and a document after it were checked
+abbrev pub ChecksJoined : Stream → Stream → Outcome → Type 0
+ChecksJoined input output outcome =
+    EndsAs outcome_of_check (Ran IsAnswered MAX_JOINED_BYTES input.bytes output.bytes)
+    (Fails IsAnswered CannotAnswer MAX_JOINED_BYTES input.bytes output.bytes) outcome
+    × WritesWhole output outcome
+
+-- both files were opened, and the document was checked for the board; or one can't be opened
+abbrev pub Checks : File → File → Stream → Outcome → Type 0
+Checks board proof output outcome =
+    (((CanFail board ⊎ CanFail proof) × (outcome ≡ Broken Read))
+    ⊎ ((b p : Bytes) × OpensWith board b.old × OpensWith proof p.old
+    × EndsAs outcome_of_check (RanCheck MAX_BOARD_BYTES MAX_PROOF_BYTES b p output.bytes)
+    (CheckFails MAX_BOARD_BYTES MAX_PROOF_BYTES (p.new ≡ p.old) b p output.bytes) outcome))
+    × WritesWhole output outcome
+
+-- the board was solved by this number of workers
+abbrev pub Solves : ℕ → File → Stream → Outcome → Type 0
+Solves workers board output outcome =
+    Opening board output.IsKept (λ read. EndsAs outcome_of_run
+    (Ran Solution MAX_BOARD_BYTES read output.bytes)
+    (Fails Solution (CannotSolve Ordered workers) MAX_BOARD_BYTES read output.bytes)) outcome
+    × WritesWhole output outcome
+
+-- a large board is limited by its classes, any other by its configurations
+abbrev pub limit_of : Bool → Numbering
+limit_of true = Classes
+limit_of false = Ordered
+
+-- the values of the board were counted by this number of workers
+abbrev pub Counts : ℕ → Bool → File → Stream → Outcome → Type 0
+Counts workers large board output outcome =
+    Opening board output.IsKept (λ read. EndsAs outcome_of_run
+    (Ran (Reports (limit_of large)) MAX_BOARD_BYTES read output.bytes)
+    (Fails (Reports (limit_of large)) (CannotSolve (limit_of large) workers)
+    MAX_BOARD_BYTES read output.bytes)) outcome
+    × WritesWhole output outcome
+
+-- a play on the board, with a person who is this side
+abbrev pub Plays : Side → Bool → File → Stream → Stream → Outcome → Type 0
+Plays side large board input output outcome =
+    Opening board (input.IsKept × output.IsKept) (λ read. EndsAs outcome_of_run
+    (RanPlay (limit_of large) side MAX_BOARD_BYTES read input.bytes output.bytes)
+    (PlayFails (limit_of large) side MAX_BOARD_BYTES (input.IsKept × output.IsKept)
+    read input.bytes output.bytes)) outcome
+
+-- a play on the nested board of the level
+abbrev pub Climbs : ℕ → Stream → Stream → Outcome → Type 0
+Climbs levels input output outcome =
+    EndsAs outcome_of_run (IsOver (PersonClimbs levels) input.bytes output.bytes)
+    (IsBrokenOff (PersonClimbs levels) input.bytes output.bytes) outcome
+
+-- the text of the nested board was written
+abbrev pub WritesNested : ℕ → ℕ → Stream → Outcome → Type 0
+WritesNested levels pebbles output outcome =
+    EndsAs {Answer = Unit {0}} outcome_of_run
+    (λ answer. Wrote (IsNestedText levels pebbles) output.bytes)
+    (λ fault. (fault ≡ Memory)
+    ⊎ ((fault ≡ Write) × WrotePrefix (IsNestedText levels pebbles) output.bytes)) outcome
+    × WritesWhole output outcome
+
+module _ (at : List ℕ → File) (input output : Stream) where
+  -- the job is done, or broken off; only a joined check and the plays read standard input
+  abbrev pub Does : Job → Outcome → Type 0
+  Does Joined outcome = ChecksJoined input output outcome
+  Does (Check board proof) outcome =
+      Checks (at board.now) (at proof.now) output outcome × input.IsKept
+  Does (Nested levels pebbles) outcome = WritesNested levels pebbles output outcome × input.IsKept
+  Does (Solve workers board) outcome = Solves workers (at board.now) output outcome × input.IsKept
+  Does (Report workers large board) outcome =
+      Counts workers large (at board.now) output outcome × input.IsKept
+  Does (Play side large board) outcome = Plays side large (at board.now) input output outcome
+  Does (Climb levels) outcome = Climbs levels input output outcome
+
+  -- an input of the job has failed, or can fail: standard input, or a file whose bytes aren't known
+  abbrev pub CanBeUnread : Job → Type 0
+  CanBeUnread Joined = input.HasFailed
+  CanBeUnread (Check board proof) = CanFail (at board.now) ⊎ CanFail (at proof.now)
+  CanBeUnread (Nested levels pebbles) = ⊥
+  CanBeUnread (Solve workers board) = CanFail (at board.now)
+  CanBeUnread (Report workers large board) = CanFail (at board.now)
+  CanBeUnread (Play side large board) = CanFail (at board.now) ⊎ input.HasFailed
+  CanBeUnread (Climb levels) = input.HasFailed
+
+  -- the same; the streams have failed if the outcome says so, and only then; and no read fault is
+  -- told of files whose bytes are known and of standard input that hasn't failed
+  pub record IsDone (job : Job) (outcome : Outcome) : Type 0 where
+    pub does : Does job outcome
+    pub writes : TellsWrites output outcome
+    pub reads : input.HasFailed → outcome ≡ Broken Read
+    pub unread : outcome ≡ Broken Read → CanBeUnread job

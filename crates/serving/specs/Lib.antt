@@ -1,0 +1,6 @@
+pub mod FaultLines
+pub mod Folders
+pub mod Outcomes
+pub mod Jobs
+pub mod Serving
+pub mod Servings

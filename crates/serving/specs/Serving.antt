@@ -1,0 +1,132 @@
+-- The program, from its words, files and streams to its exit status.
+use Rattle.std.specs.Prelude.{◌≡◌, ℕ, ◌<◌, ◌≤◌, ◌⊎◌, Bool, true, false, ◌&&◌, ◌||◌, List, [], ◌++◌}
+use Rattle.std.specs.Prelude.{length, codes, string_bytes}
+use Rattle.clap.specs.Walk.{Text, texts}
+use Rattle.clap.specs.Words.{fault_of, subcommand_of, takes}
+use Rattle.board_text.specs.LineForms.{with_line_feed}
+use Rattle.command_line.specs.Commands.{program}
+use Rattle.command_line.specs.Reading.{IsReadAs, ShowsWords}
+use Rattle.command_line.specs.declared.asked.Job.{Job}
+use Rattle.command_line.specs.declared.asked.Job.TheVariants.{Joined, Report, Play, Climb}
+use Rattle.command_line.specs.declared.asked.JobFault.{JobFault}
+use Rattle.command_line.specs.declared.asked.JobFault.TheVariants.{Help, Usage, Memory as NoMemory}
+use Rattle.player.specs.Showing.{AreForPerson, HasNoControl, IsTaken}
+use Rattle.serving.specs.FaultLines.{line_of_fault}
+use Rattle.serving.specs.Folders.{File}
+use Rattle.serving.specs.Jobs.{IsDone}
+use Rattle.runs.specs.Run.{Stream}
+use Rattle.serving.specs.Outcomes.{status_of}
+use Rattle.runs.specs.declared.fault.RunFault.TheVariants.{Memory, Read, Write}
+use Rattle.serving.specs.declared.outcome.Outcome.{Outcome}
+use Rattle.serving.specs.declared.outcome.Outcome.TheVariants.{Broken, Done, Refused}
+use Rattle.serving.specs.declared.serving.Terminals.{Terminals}
+use Rattle.serving.specs.declared.serving.Words.{Words}
+use Rattle.serving.specs.declared.serving.Words.TheVariants.{Given, NotText, OutOfMemory}
+
+-- the words, the program's name first, ask for the job: there is no other word, or `clap` reads it
+abbrev pub WordsAskFor : List Text → Job → Type 0
+WordsAskFor words job =
+    ((length words ≤ 1) × (job ≡ Joined))
+    ⊎ ((1 < length words) × (fault_of program words ≡ [])
+    × IsReadAs (subcommand_of program words) job)
+
+-- the text was written, and nothing else; or a prefix of it, and then the stream failed
+abbrev pub IsWritten : Stream → List ℕ → Type 0
+IsWritten stream text = IsTaken stream.bytes.old stream.bytes.new stream.HasFailed text
+
+-- one line for a person, without control bytes, if the stream is a terminal; else nothing
+abbrev pub IsForPerson : Bool → List ℕ → Type 0
+IsForPerson true text =
+    (words : List ℕ) × HasNoControl words × (text ≡ with_line_feed words)
+IsForPerson false text = text ≡ []
+
+-- the text, and at a terminal one line after it that explains it
+abbrev pub IsExplained : Bool → List ℕ → List ℕ → Type 0
+IsExplained terminal text said =
+    (note : List ℕ) × IsForPerson terminal note × (said ≡ text ++ note)
+
+-- the line of a fault, explained; of a refused document the explanation alone
+abbrev pub IsEnding : Bool → Outcome → List ℕ → Type 0
+IsEnding terminal Done said = said ≡ []
+IsEnding terminal Refused said = IsExplained terminal [] said
+IsEnding terminal (Broken fault) said = IsExplained terminal (line_of_fault fault) said
+
+-- the job reads standard input, with lines that a person may type
+abbrev pub is_typed : Job → Bool
+is_typed Joined = true
+is_typed (Play side large board) = true
+is_typed (Climb levels) = true
+is_typed job = false
+
+-- the job reads standard input, which is closed
+abbrev pub lacks_input : Terminals → Job → Bool
+lacks_input terminals job = terminals.input_closed && is_typed job
+
+-- the job asks for the limit of classes
+abbrev pub is_large : Job → Bool
+is_large (Report workers large board) = large
+is_large (Play side large board) = large
+is_large job = false
+
+-- what a person is told while the job is done: lines, if standard error is a terminal, and the job
+-- reads typed lines, from a terminal too, or the board may be large; else nothing
+abbrev pub IsPrompted : Terminals → Job → List ℕ → Type 0
+IsPrompted terminals job told =
+    AreForPerson ((is_typed job && (terminals.input && terminals.errors))
+    || (is_large job && terminals.errors)) told
+
+-- the text was written; if it is empty, the stream is as it was
+abbrev pub IsSaid : Stream → List ℕ → Type 0
+IsSaid stream text = IsWritten stream text × (text ≡ [] → stream.IsKept)
+
+module _ (at : List ℕ → File) (terminals : Terminals) (input output errors : Stream)
+    (status : ℕ) where
+  -- after these lines standard error has the outcome's text, and the exit status is the outcome's
+  abbrev pub EndsWith : List ℕ → Outcome → Type 0
+  EndsWith told outcome =
+      ((said : List ℕ) × IsEnding terminals.errors outcome said
+      × IsSaid errors (told ++ said)) × (status ≡ status_of outcome)
+
+  -- a text was written on standard output
+  abbrev pub IsHelped : List ℕ → Type 0
+  IsHelped text = IsWritten output text × input.IsKept
+      × (((output.HasFailed → ⊥) × EndsWith [] Done)
+      ⊎ (output.HasFailed × EndsWith [] (Broken Write)))
+
+  -- a text was written on standard error, for wrong use
+  abbrev pub IsRefusedWith : List ℕ → Type 0
+  IsRefusedWith text =
+      ((said : List ℕ) × IsExplained terminals.errors text said × IsWritten errors said)
+      × input.IsKept × output.IsKept × (status ≡ 2)
+
+  -- memory to read the words in was refused
+  abbrev pub HasNoMemory : Type 0
+  HasNoMemory = input.IsKept × output.IsKept × EndsWith [] (Broken Memory)
+
+  -- words that ask for no job are answered, by help or the version or as wrong use
+  abbrev pub Answers : JobFault → Type 0
+  Answers (Help text) = IsHelped (string_bytes text)
+  Answers (Usage text) = IsRefusedWith (string_bytes text)
+  Answers NoMemory = HasNoMemory
+
+  -- the job is done or broken off; or it lacks its input, and that alone is told
+  abbrev pub ServesJob : Job → Type 0
+  ServesJob job =
+      ((lacks_input terminals job ≡ false) × (told : List ℕ) × IsPrompted terminals job told
+      × (outcome : Outcome) × IsDone at input output job outcome × EndsWith told outcome)
+      ⊎ ((lacks_input terminals job ≡ true) × input.IsKept × output.IsKept
+      × EndsWith [] (Broken Read))
+
+  -- the words ask for a job, which is served; or for none, and that is answered
+  abbrev pub ServesWords : List Text → Type 0
+  ServesWords words =
+      ((job : Job) × WordsAskFor words job × ServesJob job)
+      ⊎ ((fault : JobFault) × (1 < length words) × ShowsWords words fault
+      × (takes program words ≡ true → fault ≡ NoMemory) × Answers fault)
+
+  -- the same, if the words are there and are text
+  abbrev pub Serves : Words → Type 0
+  Serves (Given words) = ServesWords (texts words.now)
+  Serves NotText = IsRefusedWith
+      (with_line_feed (codes "error: a word on the command line is not text"))
+  Serves OutOfMemory = HasNoMemory

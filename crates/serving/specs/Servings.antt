@@ -1,0 +1,53 @@
+-- Two servings of the same words.
+use Rattle.std.specs.Prelude.{◌≡◌, ◌≢◌, ℕ, ◌≤◌, ◌⊎◌, false, List, [], Some, length}
+use Rattle.clap.specs.Walk.{texts}
+use Rattle.clap.specs.Words.{fault_of}
+use Rattle.command_line.specs.Commands.{program}
+use Rattle.command_line.specs.Reading.{AsksForVersion}
+use Rattle.serving.specs.Folders.{File, Unknown}
+use Rattle.runs.specs.Run.{Stream}
+use Rattle.serving.specs.Serving.{Serves}
+use Rattle.serving.specs.declared.serving.Terminals.{Terminals}
+use Rattle.serving.specs.declared.serving.Words.{Words}
+use Rattle.serving.specs.declared.serving.Words.TheVariants.{Given}
+
+-- of each file it is known that it can't be opened, or which bytes it has
+abbrev pub AreKnown : (List ℕ → File) → Type 0
+AreKnown at = (path : List ℕ) → at path ≢ Unknown
+
+-- the stream had these bytes before, and hasn't failed
+pub record IsKnown (stream : Stream) (bytes : List ℕ) : Type 0 where
+  pub old : stream.bytes.old ≡ Some bytes
+  pub sound : stream.HasFailed → ⊥
+
+-- no text is written for the words that `clap` makes: they ask for a job or the version, or are no
+-- text
+abbrev pub HaveOwnText : Words → Type 0
+HaveOwnText (Given words) = (length (texts words.now) ≤ 1)
+    ⊎ (fault_of program (texts words.now) ≡ [])
+    ⊎ AsksForVersion (texts words.now)
+HaveOwnText words = Unit {0}
+
+-- the bytes that standard input has to give, and that standard output and error have taken
+pub record BytesBefore : Type 0 where
+  pub input : List ℕ
+  pub output : List ℕ
+  pub errors : List ℕ
+
+-- the words were served over files and streams that are known, off a terminal, and neither memory
+-- nor a worker was refused
+pub record IsServed (at : List ℕ → File) (terminals : Terminals) (before : BytesBefore)
+    (words : Words) (input output errors : Stream) (status : ℕ) : Type 0 where
+  pub files : AreKnown at
+  pub off : terminals.errors ≡ false
+  pub had_input : IsKnown input before.input
+  pub had_output : IsKnown output before.output
+  pub had_errors : IsKnown errors before.errors
+  pub serves : Serves at terminals input output errors status words
+  pub given : status ≢ 4
+
+-- standard input, output and error
+pub record StandardStreams (I O E : Type 0) : Type 0 where
+  pub input : I
+  pub output : O
+  pub errors : E

@@ -1,0 +1,40 @@
+//! Writing notes for a person at a terminal.
+
+ghost use Rattle.std.specs.Prelude.{ℕ, List, true};
+ghost use Rattle.player.specs.Showing.{IsMore, shown};
+ghost use Rattle.serving.specs.Serving.{IsForPerson};
+
+use crate::notes::Note;
+use crate::parts::Part;
+use board_text::Sink;
+use player::{write_digits, write_more, write_shown};
+
+/// Writes an explanation, as one line.
+pub(crate) fn write_note<E: Sink>(note: Note<'_>, errors: &mut E)
+    ensures { (line : List ℕ) × IsForPerson true line
+        × IsMore E.contents E.has_failed errors.old errors.new line }
+{
+    write_shown(errors, note.about);
+    write_more(errors, ": ");
+    write_parts(note.parts.as_slice(), errors);
+    write_more(errors, "\n");
+}
+
+/// Writes the parts of an explanation, one after the other.
+fn write_parts<E: Sink>(parts: &[Part], errors: &mut E)
+    ensures { (text : List ℕ) × IsMore E.contents E.has_failed errors.old errors.new (shown text) }
+{
+    for part in parts {
+        write_part(*part, errors);
+    }
+}
+
+/// Writes a part of an explanation.
+fn write_part<E: Sink>(part: Part, errors: &mut E)
+    ensures { (text : List ℕ) × IsMore E.contents E.has_failed errors.old errors.new (shown text) }
+{
+    match part {
+        Part::Words(words) => write_shown(errors, words),
+        Part::Number(number) => write_digits(errors, number),
+    }
+}

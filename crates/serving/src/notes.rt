@@ -1,0 +1,240 @@
+//! The lines that are written for a person at a terminal: before a joined check, and after the line
+//! of a fault.
+
+use crate::folder::Trouble;
+use crate::hints::board_hint;
+use crate::inputs::{Inputs, Origin, STANDARD_INPUT, Taken};
+use crate::outcome::Outcome;
+use crate::parts::{Part, Parts, around, two_words, words};
+use crate::proof_hints::{proof_hint, refusal_hint};
+use crate::sizes::Sizes;
+use classes::MAX_CLASSES;
+use positions::MAX_CONFIGURATIONS;
+use runs::{MAX_BOARD_BYTES, MAX_JOINED_BYTES, MAX_PROOF_BYTES, RunFault, Verdict};
+
+// The words say these limits.
+const _: () = prove!(MAX_BOARD_BYTES == 1_048_576);
+
+const _: () = prove!(MAX_PROOF_BYTES == 134_217_728);
+
+const _: () = prove!(MAX_JOINED_BYTES == 134_217_728);
+
+const _: () = prove!(MAX_CONFIGURATIONS == 1_048_576);
+
+const _: () = prove!(MAX_CLASSES == 16_777_216);
+
+/// The limits of a board, in words.
+pub(crate) const BOARD_LIMITS: &str = "a board has at most 1048576 bytes";
+
+/// The limits of a document and of a joined input, in words.
+pub(crate) const PROOF_LIMITS: &str = "an input has at most 134217728 bytes";
+
+/// The limits of the lines of a play, in words.
+pub(crate) const LINE_LIMITS: &str =
+    "a line of a play has at most 64 bytes, and a play at most 1000000 lines";
+
+/// The greeting of a person who types a board and a document.
+pub(crate) const JOINED_GREETING: &str =
+    "type or paste a board and a strategy document, and Ctrl-D; \
+    `pebbles --help` lists the commands";
+
+/// The explanation of a fault: the name of a file or of a stream, and what to look for there.
+#[derive(Clone, Copy)]
+pub(crate) struct Note<'a> {
+    pub(crate) about: &'a str,
+    pub(crate) parts: Parts,
+}
+
+impl<'a> Note<'a> {
+    /// The explanation of `outcome` in a run over `inputs` that is no check. It is empty if the
+    /// run was done.
+    pub(crate) fn of(outcome: Outcome, inputs: &Inputs<'a, '_>) -> Note<'a> {
+        match outcome {
+            Outcome::Broken(fault) => explain(fault, inputs),
+            Outcome::Done | Outcome::Refused => Note::new("", ""),
+        }
+    }
+
+    /// The explanation of how the check of `inputs` ended. It is empty if the document was
+    /// accepted.
+    pub(crate) fn of_check(
+        checked: Result<Verdict, RunFault>,
+        inputs: &Inputs<'a, '_>,
+    ) -> Note<'a> {
+        match checked {
+            Ok(Verdict::Accepted(_)) => Note::new("", ""),
+            Ok(Verdict::Refused(fault)) => Note {
+                about: inputs.other.name,
+                parts: two_words(
+                    refusal_hint(fault),
+                    "; is it the document of another board?",
+                ),
+            },
+            Err(fault) => explain(fault, inputs),
+        }
+    }
+
+    /// An explanation without a number.
+    pub(crate) fn new(about: &'a str, said: &'static str) -> Note<'a> {
+        Note {
+            about,
+            parts: words(said),
+        }
+    }
+}
+
+impl Note<'static> {
+    /// The explanation of `outcome` in a job that reads no file, and possibly standard input, which
+    /// may have this trouble.
+    pub(crate) fn without_files(outcome: Outcome, trouble: Option<Trouble>) -> Note<'static> {
+        let input = Origin::standard_input(trouble, LINE_LIMITS);
+        Note::of(outcome, &Inputs::alone(Taken::Small, input, input))
+    }
+
+    /// The explanation of a job that reads standard input, which is closed.
+    pub(crate) fn no_input() -> Note<'static> {
+        Note::new(
+            STANDARD_INPUT,
+            "it is closed, and this job reads it; give it with `<`, or by a pipe",
+        )
+    }
+}
+
+/// The explanation of `fault` in a job over `inputs`.
+fn explain<'a>(fault: RunFault, inputs: &Inputs<'a, '_>) -> Note<'a> {
+    let board = &inputs.board;
+    let other = &inputs.other;
+    match fault {
+        RunFault::Board(fault) => Note {
+            about: board.name,
+            parts: board_hint(fault, inputs),
+        },
+        RunFault::TooLarge => Note {
+            about: board.name,
+            parts: too_large_hint(inputs.taken, board.text),
+        },
+        RunFault::Proof(fault) => Note {
+            about: other.name,
+            parts: proof_hint(fault, inputs),
+        },
+        RunFault::Memory => Note::new(
+            "memory",
+            "the system gave no more; one worker takes least, and a smaller board less",
+        ),
+        RunFault::Worker => Note::new(
+            "threads",
+            "the system started no more of them; one worker, the default, needs none",
+        ),
+        RunFault::Read => match board.trouble {
+            Some(trouble) => unread(board.name, trouble),
+            None => unread(other.name, other.trouble.unwrap_or(Trouble::Other)),
+        },
+        RunFault::Write => Note::new(
+            "standard output",
+            "it took no more; was it closed, as by `head`, or is the disk full?",
+        ),
+        RunFault::Limit if board.is_too_long => Note::new(board.name, board.limits),
+        RunFault::Limit => Note::new(other.name, other.limits),
+    }
+}
+
+/// The explanation of an input that couldn't be opened or read.
+pub(crate) fn unread(name: &str, trouble: Trouble) -> Note<'_> {
+    let about = if name.is_empty() {
+        "the empty path"
+    } else {
+        name
+    };
+    Note {
+        about,
+        parts: trouble_hint(name, trouble),
+    }
+}
+
+/// Why an input of this name can't be opened or read, and what to do.
+fn trouble_hint(name: &str, trouble: Trouble) -> Parts {
+    match trouble {
+        Trouble::Missing if name == "-" => words(
+            "there is no file of this name; standard input is /dev/stdin, or is read when there \
+            are no words",
+        ),
+        Trouble::Missing => words("there is no such file; look for its spelling and its folder"),
+        Trouble::Forbidden => words("you may not read it; `chmod +r` permits it"),
+        Trouble::Folder => words("it is a folder; name a file in it"),
+        Trouble::NoFolder => words("a word of the path before a `/` names a file and no folder"),
+        Trouble::Loop => words("its symbolic links lead back to themselves"),
+        Trouble::LongName => words("the path, or a name in it, is longer than the system allows"),
+        Trouble::Coded(code) => around(
+            "the system could not open it; the number of its reason is ",
+            u64::from(code),
+            "",
+        ),
+        Trouble::Other => words("the system could not read it"),
+    }
+}
+
+/// The words for a board with these first bytes that is too large for a job which takes such
+/// boards.
+fn too_large_hint(taken: Taken, board: &[u8]) -> Parts {
+    let Some(sizes) = Sizes::of(board) else {
+        return words(
+            "it has more configurations than 1048576: labels to the power of pebbles, in `board 2` \
+            with one label more",
+        );
+    };
+    match taken {
+        Taken::Small => with_many_configurations(sizes),
+        Taken::SmallUnlessLarge if sizes.has_few_classes() => with_few_classes(sizes),
+        Taken::SmallUnlessLarge | Taken::Large => with_many_classes(sizes),
+    }
+}
+
+/// The words for a board with too many configurations.
+fn with_many_configurations(sizes: Sizes) -> Parts {
+    [
+        Part::Number(sizes.configurations()),
+        Part::Words(
+            " configurations, and the most is 1048576; with as many pebbles a board has at most ",
+        ),
+        Part::Number(sizes.most_labels()),
+        Part::Words(" labels"),
+        Part::Words(ending_hint(sizes)),
+        Part::Words(""),
+    ]
+}
+
+/// The words for a board with too many configurations, whose classes are few enough.
+fn with_few_classes(sizes: Sizes) -> Parts {
+    [
+        Part::Number(sizes.configurations()),
+        Part::Words(" configurations, and the most is 1048576; but its "),
+        Part::Number(sizes.classes()),
+        Part::Words(" classes are few enough for `--large`"),
+        Part::Words(ending_hint(sizes)),
+        Part::Words(""),
+    ]
+}
+
+/// The words for a board with too many classes.
+fn with_many_classes(sizes: Sizes) -> Parts {
+    [
+        Part::Number(sizes.classes()),
+        Part::Words(
+            " classes, each the labels held, whichever pebble holds which, and the most is \
+            16777216, with `--large`",
+        ),
+        Part::Words(ending_hint(sizes)),
+        Part::Words(""),
+        Part::Words(""),
+        Part::Words(""),
+    ]
+}
+
+/// What is known of a board that is too large, if it has few labels.
+fn ending_hint(sizes: Sizes) -> &'static str {
+    if sizes.has_few_labels() {
+        "; no start of this board lasts for ever, since n pebbles need 2^n - 1 labels"
+    } else {
+        ""
+    }
+}

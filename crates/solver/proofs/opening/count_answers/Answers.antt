@@ -1,7 +1,0 @@
-use Rattle.graphs.specs.Numbered.{graph_of}
-use Rattle.solver.proofs.AnswerSizes.{live-all}
-use Rattle.solver.proofs.opening.count_answers.Goals as goal
-
-pub returns : goal.returns
-returns c =
-    live-all (graph_of c.args.graph.now) c.args.gap c.answers.result c.len.result c.answers.ensures c.len.ensures
