@@ -16,8 +16,8 @@ use std::alloc::Global;
 
 impl Board {
     /// The board of these parts, or the fault that the text of the same content has: at line 2, 3
-    /// or 4, or at line
-    /// 5 + i for the pair number i, counted from 0. Memory is taken after the third line.
+    /// or 4, or at line 5 + i for the pair number i, counted from 0. Memory is taken after the
+    /// third line.
     pub fn build(
         alloc: Global,
         labels: u16,

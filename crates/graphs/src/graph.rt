@@ -1,7 +1,7 @@
 //! A game as numbers, and a table of the gaps in which they are answers.
 
-ghost use Rattle.std.specs.Prelude.{◌≡◌, ℕ, ◌<◌, ◌≤◌, length, slice_index, MatchOption, IsTrue};
-ghost use Rattle.std.specs.Prelude.{◌↔◌, IfOk};
+ghost use Rattle.std.specs.Prelude.{◌≡◌, ℕ, ◌<◌, ◌≤◌, drop, length, slice_index, MatchOption};
+ghost use Rattle.std.specs.Prelude.{◌↔◌, IfOk, IsTrue};
 ghost use Rattle.board_text.specs.PlainBoard.{IsBoard};
 ghost use Rattle.positions.specs.Ranks.{configurations};
 ghost use Rattle.classes.specs.Numbers.{class_count};
@@ -189,6 +189,8 @@ impl Graph {
         ensures room { length members.new ≡ length members.old }
         ensures members { AreMembers (graph_of self.now) gap
             (graph_of self.now).places members.new }
+        ensures others { drop (graph_of self.now).places members.new
+            ≡ drop (graph_of self.now).places members.old }
         ensures few { (graph_of self.now).places ≤ MAX_PLACES }
         ensures graph { IsGraph (graph_of self.now) }
     {

@@ -1,6 +1,6 @@
 //! The tables of a graph, filled from a numbering of a board.
 
-ghost use Rattle.std.specs.Prelude.{◌≡◌, ◌+◌, ◌<◌, ◌≤◌, length, IfOk, vec_capacity};
+ghost use Rattle.std.specs.Prelude.{◌≡◌, ◌+◌, ◌<◌, ◌≤◌, drop, length, IfOk, vec_capacity};
 ghost use Rattle.board_text.specs.PlainBoard.{IsBoard};
 ghost use Rattle.graphs.specs.Answers.{AreAnswerBits, AreMembers};
 ghost use Rattle.graphs.specs.Inside.Filling.{IsGapNoted};
@@ -46,7 +46,9 @@ pub(crate) trait Numbers {
         requires { gap < (graph_of (game self.now)).gaps }
         ensures room { length members.new ≡ length members.old }
         ensures members { AreMembers (graph_of (game self.now)) gap
-            (graph_of (game self.now)).places members.new };
+            (graph_of (game self.now)).places members.new }
+        ensures others { drop (graph_of (game self.now)).places members.new
+            ≡ drop (graph_of (game self.now)).places members.old };
 
     /// The answers of `gap`.
     fn answers(&self, gap: u32) -> LabelSet

@@ -16,8 +16,7 @@ pub fn nodes_by_index()
 {}
 
 /// A list has no more nodes than there are. A node that is in a list has that list as its home, and
-/// taking it out
-/// leaves each other list as it is.
+/// taking it out leaves each other list as it is.
 pub fn nodes_in_lists()
     ensures fit { (s : Lists) → AreLists s → (l : ℕ) → length (s.list l) ≤ s.nodes }
     ensures home { (s : Lists) → AreLists s → (l : ℕ) → (node : ℕ) → 0 < times node (s.list l)

@@ -1,6 +1,5 @@
 //! Lists linked both ways by index: the store for callers that take nodes out. No command does, so
-//! runs use `PlainLists`, and
-//! this one is a library store, over which tests run solvers.
+//! runs use `PlainLists`, and this one is a library store, over which tests run solvers.
 
 ghost use Rattle.std.specs.Prelude.{◌≡◌, ◌<◌, ◌≤◌, length, slice_index};
 ghost use Rattle.index_lists.specs.Inside.Links.{chained_lists, unless_none, next_pointed};

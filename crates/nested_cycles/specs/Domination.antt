@@ -3,8 +3,7 @@ use Rattle.std.specs.Prelude.{◌≡◌, ℕ, ◌+◌, ◌-◌, ◌%◌, ◌^◌
 use Rattle.nested_cycles.specs.Words.{word_of}
 
 -- At the first index where two words of one length differ, the digit of the first comes next after
--- that of the second round the
--- three-cycle.
+-- that of the second round the three-cycle.
 pub record WordDominates (word other : List ℕ) : Type 0 where
   pub index : ℕ
   pub inside : index < length word

@@ -24,8 +24,7 @@ pub fn words_and_numbers()
 {}
 
 /// The first digit of a label is its copy: in one copy the rest of the words decides, and of two
-/// copies the one dominates the other
-/// as in the three-cycle.
+/// copies the one dominates the other as in the three-cycle.
 pub fn copies_in_a_cycle()
     ensures one_copy { (digit : ℕ) → (word : List ℕ) → (other : List ℕ)
         → WordDominates (digit ∷ word) (digit ∷ other) ↔ WordDominates word other }

@@ -1,9 +1,13 @@
 -- The words that the program is given, and its standard streams.
-use Rattle.std.specs.Prelude.{◌≡◌, ℕ, false, List, Result, Ok, Err, map}
+use Rattle.std.specs.Prelude.{◌≡◌, ℕ, false, List, map, string_bytes}
 use Rattle.std.specs.Borrow.{Bor}
 use Rattle.board_text.specs.declared.through.Through.{Through}
 use Rattle.serving.specs.declared.serving.Words.{Words}
 use Rattle.serving.specs.declared.serving.Words.TheVariants.{Given, NotText, OutOfMemory}
+use Rattle.pebbles.specs.declared.OwnedWords.{OwnedWords}
+use Rattle.pebbles.specs.declared.OwnedWords.TheVariants.{Given as OwnedGiven}
+use Rattle.pebbles.specs.declared.OwnedWords.TheVariants.{NotText as OwnedNotText}
+use Rattle.pebbles.specs.declared.OwnedWords.TheVariants.{OutOfMemory as OwnedOutOfMemory}
 
 -- a stream of std of which nothing was read, or to which nothing was written
 abbrev pub fresh : {T : Type 0} → T → Through T
@@ -19,7 +23,8 @@ GivesTexts all (Given words) = borrowed_texts words.now ≡ all
 GivesTexts all NotText = ⊥
 GivesTexts all OutOfMemory = Unit {0}
 
--- the words are those of the command line, or tell why there are none
-abbrev pub Gives : {A : Type 0} → (A → List (List ℕ)) → Result A Words → Words → Type 0
-Gives texts (Ok owned) words = GivesTexts (texts owned) words
-Gives texts (Err none) words = words ≡ none
+-- the words are those that were taken, or tell why there are none
+abbrev pub Gives : OwnedWords → Words → Type 0
+Gives (OwnedGiven owned) words = GivesTexts (map string_bytes owned.items) words
+Gives OwnedNotText words = words ≡ NotText
+Gives OwnedOutOfMemory words = words ≡ OutOfMemory

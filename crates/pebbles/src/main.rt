@@ -9,14 +9,14 @@
 //! 5 a failed read or write, or an input that is too long.
 #![tactic(auto)]
 
-ghost use Rattle.std.specs.Prelude.{◌≡◌, [], map, string_bytes};
+ghost use Rattle.std.specs.Prelude.{◌≡◌, []};
 ghost use Rattle.std.specs.Process.{exit_status};
 ghost use Rattle.board_text.specs.declared.through.Through.{Through as Wrapped};
 ghost use Rattle.serving.specs.Folders.{Unknown};
 ghost use Rattle.runs.specs.Run.{stream_of};
 ghost use Rattle.serving.specs.Serving.{Serves};
 ghost use Rattle.serving.specs.declared.serving.Words.{Words as AllWords};
-ghost use Rattle.pebbles.specs.Program.{Gives, GivesTexts, fresh};
+ghost use Rattle.pebbles.specs.Program.{Gives, fresh};
 
 use board_text::Through;
 use serving::{System, Terminals, Words, serve};
@@ -36,7 +36,7 @@ fn main(rt: HostRuntime) -> ExitCode {
         input: rt.stdin().is_terminal(),
         errors: rt.stderr().is_terminal(),
     };
-    let words = owned_words(&rt, alloc);
+    let words = OwnedWords::of_process(&rt, alloc);
     serve_owned(
         &rt,
         alloc,
@@ -48,18 +48,18 @@ fn main(rt: HostRuntime) -> ExitCode {
     )
 }
 
-/// Serves the words over standard input, output and error, in the folders of the system. The exit
-/// status is the one that `serve` gives.
+/// Serves the words over streams of which nothing was read and to which nothing was written, in the
+/// folders of the system. The exit status is the one that `serve` gives.
 fn serve_owned<I: Read + Drop, O: Write + Drop, E: Write + Drop>(
     rt: &(impl Files + Threads + Wait + Sync),
     alloc: Global,
-    owned: &Result<Vec<String>, Words<'static, 'static>>,
+    owned: &OwnedWords,
     terminals: Terminals,
     input: I,
     output: O,
     errors: E,
 ) -> ExitCode
-    ensures { (words : AllWords) × Gives (λ all. map string_bytes all.items) owned.now words
+    ensures { (words : AllWords) × Gives owned.now words
         × (read : Wrapped I) × (written : Wrapped O) × (told : Wrapped E)
         × Serves (λ _. Unknown) terminals
         (stream_of (λ s. I.remaining s.inner) (λ s. s.has_failed) (fresh input) read)
@@ -67,33 +67,8 @@ fn serve_owned<I: Read + Drop, O: Write + Drop, E: Write + Drop>(
         (stream_of (λ s. E.contents s.inner) (λ s. s.has_failed) (fresh errors) told)
         (exit_status result) words }
 {
-    match owned {
-        Ok(owned) => {
-            let mut texts = Vec::new(alloc);
-            let words = borrowed(owned.as_slice(), &mut texts);
-            serve_over(rt, alloc, &words, terminals, input, output, errors)
-        }
-        Err(none) => serve_over(rt, alloc, none, terminals, input, output, errors),
-    }
-}
-
-/// Serves these words, over streams of which nothing was read and to which nothing was written.
-fn serve_over<I: Read + Drop, O: Write + Drop, E: Write + Drop>(
-    rt: &(impl Files + Threads + Wait + Sync),
-    alloc: Global,
-    words: &Words<'_, '_>,
-    terminals: Terminals,
-    input: I,
-    output: O,
-    errors: E,
-) -> ExitCode
-    ensures { (read : Wrapped I) × (written : Wrapped O) × (told : Wrapped E)
-        × Serves (λ _. Unknown) terminals
-        (stream_of (λ s. I.remaining s.inner) (λ s. s.has_failed) (fresh input) read)
-        (stream_of (λ s. O.contents s.inner) (λ s. s.has_failed) (fresh output) written)
-        (stream_of (λ s. E.contents s.inner) (λ s. s.has_failed) (fresh errors) told)
-        (exit_status result) words.now }
-{
+    let mut texts = Vec::new(alloc);
+    let words = owned.borrowed(&mut texts);
     let folder = System::new(rt);
     let mut input = Through::new(input);
     let mut output = Through::new(output);
@@ -101,7 +76,7 @@ fn serve_over<I: Read + Drop, O: Write + Drop, E: Write + Drop>(
     let status = serve(
         rt,
         alloc,
-        words,
+        &words,
         terminals,
         &folder,
         &mut input,
@@ -139,26 +114,43 @@ fn number_taken(rt: &HostRuntime) -> Option<i32> {
 }
 
 /// The words of the command line, or why there are none.
-fn owned_words(rt: &HostRuntime, alloc: Global) -> Result<Vec<String>, Words<'static, 'static>> {
-    match env::args(rt) {
-        Ok(given) => match given.collect::<Vec<String>>(alloc) {
-            Ok(words) => Ok(words),
-            Err(_) => Err(Words::OutOfMemory),
-        },
-        Err(error) if error.kind() == io::ErrorKind::OutOfMemory => Err(Words::OutOfMemory),
-        Err(_) => Err(Words::NotText),
-    }
+#[derive(Drop)]
+enum OwnedWords {
+    Given(Vec<String>),
+    /// A word isn't text.
+    NotText,
+    /// Memory for them was refused.
+    OutOfMemory,
 }
 
-/// The words with these texts, borrowed into `texts`, which is empty before.
-fn borrowed<'a, 'w>(owned: &'w [String], texts: &'a mut Vec<&'w str>) -> Words<'a, 'w>
-    requires { texts.old.items ≡ [] }
-    ensures { GivesTexts (map string_bytes owned.now) result }
-{
-    for word in owned {
-        if texts.push(word.as_str()).is_err() {
-            return Words::OutOfMemory;
+impl OwnedWords {
+    /// The words of the process.
+    fn of_process(rt: &HostRuntime, alloc: Global) -> OwnedWords {
+        match env::args(rt) {
+            Ok(given) => match given.collect::<Vec<String>>(alloc) {
+                Ok(words) => OwnedWords::Given(words),
+                Err(_) => OwnedWords::OutOfMemory,
+            },
+            Err(error) if error.kind() == io::ErrorKind::OutOfMemory => OwnedWords::OutOfMemory,
+            Err(_) => OwnedWords::NotText,
         }
     }
-    Words::Given(texts.as_slice())
+
+    /// The same words, their texts borrowed into `texts`, which is empty before.
+    fn borrowed<'a, 'w>(&'w self, texts: &'a mut Vec<&'w str>) -> Words<'a, 'w>
+        requires { texts.old.items ≡ [] }
+        ensures { Gives self.now result }
+    {
+        let owned = match self {
+            OwnedWords::Given(owned) => owned,
+            OwnedWords::NotText => return Words::NotText,
+            OwnedWords::OutOfMemory => return Words::OutOfMemory,
+        };
+        for word in owned {
+            if texts.push(word.as_str()).is_err() {
+                return Words::OutOfMemory;
+            }
+        }
+        Words::Given(texts.as_slice())
+    }
 }

@@ -1,7 +1,7 @@
 -- What a person is told in a play, line by line.
-use Rattle.std.proofs.Common.{◌≡◌, ◌≢◌, ℕ, suc, ◌<◌, ◌≤◌, ◌⊎◌, Bool, true, false, List, [], ◌∷◌, ◌++◌}
+use Rattle.std.proofs.Common.{◌≡◌, ℕ, suc, ◌<◌, ◌⊎◌, Bool, true, false, List, [], ◌∷◌, ◌++◌}
 use Rattle.std.proofs.Common.{inl, inr, refl, sym, ap, ◌∙◌, subst, arith, append-nil, append_assoc, length}
-use Rattle.std.specs.Prelude.{Option, Result, Ok, Err, IfOk, IfErr}
+use Rattle.std.specs.Prelude.{Option, Result, Ok, Err, IfErr}
 use Rattle.std.specs.Io.KnownBytes.{Appends, Keeps}
 use Rattle.board_text.specs.Streams.{AppendsPrefix}
 use Rattle.player.specs.Inside.Prompts.{TellsAfter, greeting_if}
@@ -173,13 +173,14 @@ module _ (game : Game) (at : List ℕ) (requests : ℕ) where
       (brings_more game (Going at requests) lines line text said (Going stood before) (Over end) brings replies, none)
 
   -- a line whose reply isn't written, whatever it is
-  pub nearly_told : (shows : Bool) (told : List ℕ) (lines : List (List ℕ)) (line text said stood : List ℕ) (before : ℕ)
-      (to : Standing) → AreResponses game (Going at requests) lines text (Going stood before)
+  pub nearly_told : (shows : Bool) (left_old left_new : Option (List ℕ)) (told : List ℕ) (lines : List (List ℕ))
+      (line text said stood : List ℕ) (before : ℕ) (to : Standing)
+      → AreResponses game (Going at requests) lines text (Going stood before)
       → BringsAndTells shows game (Going at requests) told lines text (Going stood before)
       → IsResponse game (Going stood before) line said to
-      → NearlyTells (BringsAndTells shows game (Going at requests)) (AreResponses game (Going at requests)) told
-      (lines ++ line ∷ []) (text ++ said) to
-  nearly_told shows told lines line text said stood before to brought tells replies = inr (
+      → NearlyTells (BringsAndTells shows game (Going at requests)) (AreResponses game (Going at requests)) left_old
+      left_new told (lines ++ line ∷ []) (text ++ said) to
+  nearly_told shows left_old left_new told lines line text said stood before to brought tells replies = inr (
     brings_more game (Going at requests) lines line text said (Going stood before) to brought replies,
     inl (lines, line, refl, text, Going stood before, tells),
   )
@@ -191,8 +192,8 @@ module _ (Tells : List ℕ → List (List ℕ) → List ℕ → Standing → Typ
     (left_old left_new taken_old taken_now taken_new : Option (List ℕ)) (told : List ℕ) where
   -- a text wasn't written whole
   pub near : (IsRight : List ℕ → Type 0) (fault : PlayFault) → FailsToWrite taken_now taken_new IsRight fault
-      → BreaksOff (NearlyTells Tells Brings told) left_old left_new taken_old taken_new fault
-      → BreaksOff (TellsBefore fault Tells Brings told) left_old left_new taken_old taken_new fault
+      → BreaksOff (NearlyTells Tells Brings left_old left_new told) left_old left_new taken_old taken_new fault
+      → BreaksOff (TellsBefore fault Tells Brings left_old left_new told) left_old left_new taken_old taken_new fault
   near IsRight Write fails breaks = breaks
   near IsRight Memory fails breaks = breaks
   near IsRight Read fails breaks = absurd fails
@@ -200,9 +201,9 @@ module _ (Tells : List ℕ → List (List ℕ) → List ℕ → Standing → Typ
 
   pub near_if : (IsRight : List ℕ → Type 0) (result : Result PlayEnd PlayFault)
       → IfErr result (FailsToWrite taken_now taken_new IsRight)
-      → IfErr result (BreaksOff (NearlyTells Tells Brings told) left_old left_new taken_old taken_new)
-      → IfErr result (λ fault. BreaksOff (TellsBefore fault Tells Brings told) left_old left_new taken_old taken_new
-      fault)
+      → IfErr result (BreaksOff (NearlyTells Tells Brings left_old left_new told) left_old left_new taken_old taken_new)
+      → IfErr result (λ fault. BreaksOff (TellsBefore fault Tells Brings left_old left_new told) left_old left_new
+      taken_old taken_new fault)
   near_if IsRight (Ok end) fails breaks = tt
   near_if IsRight (Err fault) fails breaks = near IsRight fault fails breaks
 
@@ -213,7 +214,7 @@ pub unread_told : (Tells : List ℕ → List (List ℕ) → List ℕ → Standin
     (text at : List ℕ) (requests : ℕ) (told : List ℕ) (fault : PlayFault) → Tells told lines text (Going at requests)
     → Appends taken_old taken_now text → HasCome left_old left_now lines unread → length lines < MOST_LINES
     → GivesNoLine unread left_now left_new fault
-    → BreaksOff (TellsBefore fault Tells Brings told) left_old left_new taken_old taken_now fault
+    → BreaksOff (TellsBefore fault Tells Brings left_old left_new told) left_old left_new taken_old taken_now fault
 unread_told Tells Brings left_old left_now left_new taken_old taken_now lines unread text at requests told Read tells
     written
     come few gives =
@@ -247,26 +248,27 @@ module _ (shows : Bool) (game : Game) (opening : List ℕ) (first : Standing)
   played_and_told told lines more to brings =
       record { opening = opening; first = first; more = more; opens = opens; brings = brings; text_is = refl }
 
-  nearly_played : (told : List ℕ) (lines : List (List ℕ)) (more : List ℕ) (to : Standing)
-      → NearlyTells (BringsAndTells shows game first) (AreResponses game first) told lines more to
-      → NearlyTells (IsPlayedAndTold shows game) (IsPlayed game) told lines (opening ++ more) to
-  nearly_played told lines more to (inl tells) = inl (played_and_told told lines more to tells)
-  nearly_played told lines more to (inr (brings, inl (before, last, is, front, stood, tells))) = inr (
+  nearly_played : (left_old left_new : Option (List ℕ)) (told : List ℕ) (lines : List (List ℕ)) (more : List ℕ)
+      (to : Standing)
+      → NearlyTells (BringsAndTells shows game first) (AreResponses game first) left_old left_new told lines more to
+      → NearlyTells (IsPlayedAndTold shows game) (IsPlayed game) left_old left_new told lines (opening ++ more) to
+  nearly_played left_old left_new told lines more to (inl tells) = inl (played_and_told told lines more to tells)
+  nearly_played left_old left_new told lines more to (inr (brings, inl (before, last, is, front, stood, tells))) = inr (
     played lines more to brings,
     inl (before, last, is, opening ++ front, stood, played_and_told told before front stood tells),
   )
-  nearly_played told lines more to (inr (brings, inr none)) = inr (played lines more to brings, inr none)
+  nearly_played left_old left_new told lines more to (inr (brings, inr none)) =
+      inr (played lines more to brings, inr none)
 
   module _ (left_old left_new taken_old taken_now taken_new : Option (List ℕ))
       (written : Appends taken_old taken_now opening)
       (told : List ℕ) where
     broken_before : (fault : PlayFault)
-        → BreaksOff (TellsBefore fault (BringsAndTells shows game first) (AreResponses game first) told) left_old
-        left_new
-        taken_now taken_new fault
-        → BreaksOff (TellsBefore fault (IsPlayedAndTold shows game) (IsPlayed game) told) left_old left_new taken_old
-        taken_new
-        fault
+        → BreaksOff
+        (TellsBefore fault (BringsAndTells shows game first) (AreResponses game first) left_old left_new told)
+        left_old left_new taken_now taken_new fault
+        → BreaksOff (TellsBefore fault (IsPlayedAndTold shows game) (IsPlayed game) left_old left_new told)
+        left_old left_new taken_old taken_new fault
     broken_before Read breaks =
         breaks_off (BringsAndTells shows game first told) (IsPlayedAndTold shows game told) opening
         (played_and_told told)
@@ -276,12 +278,14 @@ module _ (shows : Bool) (game : Game) (opening : List ℕ) (first : Standing)
         (played_and_told told)
         left_old left_new taken_old taken_now taken_new written Limit breaks
     broken_before Write breaks =
-        breaks_off (NearlyTells (BringsAndTells shows game first) (AreResponses game first) told)
-        (NearlyTells (IsPlayedAndTold shows game) (IsPlayed game) told) opening (nearly_played told)
+        breaks_off (NearlyTells (BringsAndTells shows game first) (AreResponses game first) left_old left_new told)
+        (NearlyTells (IsPlayedAndTold shows game) (IsPlayed game) left_old left_new told) opening
+        (nearly_played left_old left_new told)
         left_old left_new taken_old taken_now taken_new written Write breaks
     broken_before Memory breaks =
-        breaks_off (NearlyTells (BringsAndTells shows game first) (AreResponses game first) told)
-        (NearlyTells (IsPlayedAndTold shows game) (IsPlayed game) told) opening (nearly_played told)
+        breaks_off (NearlyTells (BringsAndTells shows game first) (AreResponses game first) left_old left_new told)
+        (NearlyTells (IsPlayedAndTold shows game) (IsPlayed game) left_old left_new told) opening
+        (nearly_played left_old left_new told)
         left_old left_new taken_old taken_now taken_new written Memory breaks
 
     pub prompted : (result : Result PlayEnd PlayFault)
@@ -300,17 +304,17 @@ module _ (shows : Bool) (game : Game) (opening : List ℕ) (first : Standing)
   pub alone : IsPlayed game [] opening first
   alone = subst (λ l. IsPlayed game [] l first) (append-nil opening) (played [] [] first (refl, refl))
 
-  nearly_alone : NearlyTells (IsPlayedAndTold shows game) (IsPlayed game) [] [] opening first
-  nearly_alone = inr (alone, inr (refl, refl))
+  nearly_alone : (left : Option (List ℕ))
+      → NearlyTells (IsPlayedAndTold shows game) (IsPlayed game) left left [] [] opening first
+  nearly_alone left = inr (alone, inr (refl, refl, refl))
 
   -- nothing was written, and nothing told
   pub untold : (left taken_old taken_new : Option (List ℕ)) → Keeps taken_old taken_new
       → ArePrompts shows game left left taken_old taken_new (Err Memory) []
   untold left taken_old taken_new kept = record {
     ok = tt;
-    fault = unopened (NearlyTells (IsPlayedAndTold shows game) (IsPlayed game) []) opening first nearly_alone left
-        taken_old
-        taken_new kept;
+    fault = unopened (NearlyTells (IsPlayedAndTold shows game) (IsPlayed game) left left []) opening first
+        (nearly_alone left) left taken_old taken_new kept;
   }
 
   -- the opening wasn't written whole, and nothing was told
@@ -318,9 +322,8 @@ module _ (shows : Bool) (game : Game) (opening : List ℕ) (first : Standing)
       → ArePrompts shows game left left taken_old taken_new (Err Write) []
   untold_opening left taken_old taken_new begun = record {
     ok = tt;
-    fault = unshown_opening (NearlyTells (IsPlayedAndTold shows game) (IsPlayed game) []) opening first nearly_alone
-        left
-        taken_old taken_new begun;
+    fault = unshown_opening (NearlyTells (IsPlayedAndTold shows game) (IsPlayed game) left left []) opening first
+        (nearly_alone left) left taken_old taken_new begun;
   }
 
 over_alone : (shows : Bool) (game : Game) (end : PlayEnd) → BringsAndTells shows game (Over end) [] [] [] (Over end)
@@ -405,28 +408,30 @@ module _ (Played : List (List ℕ) → List ℕ → Standing → Type 0) (Claim 
   of_broken Write (lines, rest, text, came, either, written) = of_either lines rest text either
   of_broken Memory (lines, rest, text, came, either, written) = of_either lines rest text either
 
-module _ (shows : Bool) (game : Game) (told : List ℕ) where
+module _ (shows : Bool) (game : Game) (told : List ℕ) (left_old left_new : Option (List ℕ)) where
   nearly_for_person : (lines : List (List ℕ)) (text : List ℕ) (to : Standing)
-      → NearlyTells (IsPlayedAndTold shows game) (IsPlayed game) told lines text to → AreForPerson shows told
+      → NearlyTells (IsPlayedAndTold shows game) (IsPlayed game) left_old left_new told lines text to
+      → AreForPerson shows told
   nearly_for_person lines text to (inl tells) = played_for_person game shows told lines text to tells
   nearly_for_person lines text to (inr (played, inl (before, last, is, front, stood, tells))) =
       played_for_person game shows told before front stood tells
-  nearly_for_person lines text to (inr (played, inr (is, none))) =
+  nearly_for_person lines text to (inr (played, inr (unread, is, none))) =
       subst (AreForPerson shows) (sym none) (nothing_for_person shows)
 
   before_for_person : (fault : PlayFault) (lines : List (List ℕ)) (text : List ℕ) (to : Standing)
-      → TellsBefore fault (IsPlayedAndTold shows game) (IsPlayed game) told lines text to → AreForPerson shows told
+      → TellsBefore fault (IsPlayedAndTold shows game) (IsPlayed game) left_old left_new told lines text to
+      → AreForPerson shows told
   before_for_person Read lines text to tells = played_for_person game shows told lines text to tells
   before_for_person Limit lines text to tells = played_for_person game shows told lines text to tells
   before_for_person Write lines text to tells = nearly_for_person lines text to tells
   before_for_person Memory lines text to tells = nearly_for_person lines text to tells
 
-  pub prompts_for_person : (left_old left_new taken_old taken_new : Option (List ℕ)) (result : Result PlayEnd PlayFault)
+  pub prompts_for_person : (taken_old taken_new : Option (List ℕ)) (result : Result PlayEnd PlayFault)
       → ArePrompts shows game left_old left_new taken_old taken_new result told → AreForPerson shows told
-  prompts_for_person left_old left_new taken_old taken_new (Ok end) is =
+  prompts_for_person taken_old taken_new (Ok end) is =
       of_ended (IsPlayedAndTold shows game told) (AreForPerson shows told)
       (played_for_person game shows told) left_old left_new
       taken_old taken_new end is.ok
-  prompts_for_person left_old left_new taken_old taken_new (Err fault) is =
-      of_broken (TellsBefore fault (IsPlayedAndTold shows game) (IsPlayed game) told) (AreForPerson shows told)
-      (before_for_person fault) left_old left_new taken_old taken_new fault is.fault
+  prompts_for_person taken_old taken_new (Err fault) is =
+      of_broken (TellsBefore fault (IsPlayedAndTold shows game) (IsPlayed game) left_old left_new told)
+      (AreForPerson shows told) (before_for_person fault) left_old left_new taken_old taken_new fault is.fault

@@ -2,7 +2,7 @@
 -- that there are.
 use Rattle.std.specs.Prelude.{◌≡◌, ◌≢◌, ℕ, ◌<◌, ◌-◌, ◌==◌, ◌↔◌, ◌⊎◌, if◌then◌else◌, List, [], ◌∷◌}
 use Rattle.std.specs.Prelude.{◌++◌, AllPairs, Bool, Contains, IfErr, IfOk, Option, Result, codes}
-use Rattle.std.specs.Prelude.{false, true}
+use Rattle.std.specs.Prelude.{true}
 use Rattle.std.specs.Fmt.{decimal}
 use Rattle.board_text.specs.LineForms.{spaced_numbers, with_line_feed}
 use Rattle.board_text.specs.PlainBoard.{PlainBoard}
@@ -98,25 +98,26 @@ pub record IsPlayedAndTold (shows : Bool) (game : Game) (told : List ℕ) (lines
 -- ---- a play that is broken off
 
 -- a text that belongs to these lines, where what was told belongs to them; or, since the last of
--- them may be unanswered, to those before it; or nothing was told, since the opening wasn't written
+-- them may be unanswered, to those before it; or nothing was read and nothing told, since the
+-- opening wasn't written
 abbrev pub NearlyTells : (List ℕ → List (List ℕ) → List ℕ → Standing → Type 0)
-    → (List (List ℕ) → List ℕ → Standing → Type 0) → List ℕ → List (List ℕ) → List ℕ → Standing
-    → Type 0
-NearlyTells Tells Brings told lines text to =
+    → (List (List ℕ) → List ℕ → Standing → Type 0) → Option (List ℕ) → Option (List ℕ) → List ℕ
+    → List (List ℕ) → List ℕ → Standing → Type 0
+NearlyTells Tells Brings left_old left_new told lines text to =
     Tells told lines text to
     ⊎ (Brings lines text to × (((before : List (List ℕ)) × (last : List ℕ)
     × (lines ≡ before ++ last ∷ []) × (front : List ℕ) × (stood : Standing)
     × Tells told before front stood)
-    ⊎ ((lines ≡ []) × (told ≡ []))))
+    ⊎ ((left_new ≡ left_old) × (lines ≡ []) × (told ≡ []))))
 
 -- after a fault of reading all lines that came are answered, and what was told belongs to them;
 -- when a text can't be made or written, the last one may not be
 abbrev pub TellsBefore : PlayFault → (List ℕ → List (List ℕ) → List ℕ → Standing → Type 0)
-    → (List (List ℕ) → List ℕ → Standing → Type 0) → List ℕ → List (List ℕ) → List ℕ → Standing
-    → Type 0
-TellsBefore Read Tells Brings = Tells
-TellsBefore Limit Tells Brings = Tells
-TellsBefore fault Tells Brings = NearlyTells Tells Brings
+    → (List (List ℕ) → List ℕ → Standing → Type 0) → Option (List ℕ) → Option (List ℕ) → List ℕ
+    → List (List ℕ) → List ℕ → Standing → Type 0
+TellsBefore Read Tells Brings left_old left_new = Tells
+TellsBefore Limit Tells Brings left_old left_new = Tells
+TellsBefore fault Tells Brings left_old left_new = NearlyTells Tells Brings left_old left_new
 
 -- what was told in a play with this result, by the lines that came and the text that was written
 pub record IsToldIn (Tells : List ℕ → List (List ℕ) → List ℕ → Standing → Type 0)
@@ -124,7 +125,8 @@ pub record IsToldIn (Tells : List ℕ → List (List ℕ) → List ℕ → Stand
     (left_old left_new taken_old taken_new : Option (List ℕ))
     (result : Result PlayEnd PlayFault) (told : List ℕ) : Type 0 where
   pub ok : IfOk result (HasEnded (Tells told) left_old left_new taken_old taken_new)
-  pub fault : IfErr result (λ fault. BreaksOff (TellsBefore fault Tells Brings told)
+  pub fault : IfErr result (λ fault. BreaksOff
+      (TellsBefore fault Tells Brings left_old left_new told)
       left_old left_new taken_old taken_new fault)
 
 -- the same of a play from its opening on

@@ -9,8 +9,7 @@ ghost use Rattle.positions.specs.Tuples.{tuple_of};
 ghost use Rattle.positions.specs.Value.{HasValue};
 
 /// The gap of a pebble at a configuration is a gap of that pebble, and its members are the
-/// configurations
-/// that differ in that pebble's label alone.
+/// configurations that differ in that pebble's label alone.
 pub fn gaps_of_configurations()
     ensures is_gap { (board : PlainBoard) → (configuration : List ℕ) → (pebble : ℕ)
         → IsConfiguration board configuration

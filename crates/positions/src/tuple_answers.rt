@@ -15,8 +15,7 @@ use std::marker::Model;
 use std::snapshot::Snapshot;
 
 /// The answers for each tuple of places of the other pebbles. Gaps of the same tuple have the same
-/// answers,
-/// whichever their pebbles are.
+/// answers, whichever their pebbles are.
 ///
 /// Contracts see it as the board.
 #[derive(Drop)]

@@ -258,18 +258,18 @@ map-ascends f from n grows = λ i j d less low.
     rw (at, next) (grows (from + i) (from + j) (omega (arith, less)) (omega (arith, low, size)))
 
 module _ (s : PlainStage) (round : ℕ) (is_done : Bool) (st : IsState s round is_done) where
-  abbrev arena : PlainGraph
-  arena = (graph_of s.game)
+  abbrev graph : PlainGraph
+  graph = (graph_of s.game)
 
-  is-arena : IsGraph arena
-  is-arena = st.is_graph
+  is-graph : IsGraph graph
+  is-graph = st.is_graph
 
-  pub round-below : round < arena.configurations
+  pub round-below : round < graph.configurations
   round-below = let some = st.some in let bound = st.bound in omega arith
 
   -- an open configuration lasts more requests than the rounds
-  pub open-lasts : (x : ℕ) → x < arena.configurations → is_open s.values x ≡ true → lasts arena (suc round) x ≡ true
-  open-lasts x i e = lasts-at-most arena is-arena (suc round) (suc (struck_rounds is_done round)) x i (later is_done)
+  pub open-lasts : (x : ℕ) → x < graph.configurations → is_open s.values x ≡ true → lasts graph (suc round) x ≡ true
+  open-lasts x i e = lasts-at-most graph is-graph (suc round) (suc (struck_rounds is_done round)) x i (later is_done)
       (sym (st.stage.words_are.opened x i) ∙ e)
     where
       later : (d : Bool) → suc round ≤ suc (struck_rounds d round)
@@ -277,24 +277,24 @@ module _ (s : PlainStage) (round : ℕ) (is_done : Bool) (st : IsState s round i
       later false = omega arith
 
   -- a configuration that lasts more requests than the rounds is open
-  pub lasts-open : (x : ℕ) → x < arena.configurations → lasts arena (suc round) x ≡ true → is_open s.values x ≡ true
+  pub lasts-open : (x : ℕ) → x < graph.configurations → lasts graph (suc round) x ≡ true → is_open s.values x ≡ true
   lasts-open x i e = st.stage.words_are.opened x i ∙ by is_done refl
     where
-      by : (d : Bool) → is_done ≡ d → lasts arena (suc (struck_rounds is_done round)) x ≡ true
-      by true done = ap (λ d. lasts arena (suc (struck_rounds d round)) x) done ∙ (st.last done).lasting x i e
-      by false going = ap (λ d. lasts arena (suc (struck_rounds d round)) x) going ∙ e
+      by : (d : Bool) → is_done ≡ d → lasts graph (suc (struck_rounds is_done round)) x ≡ true
+      by true done = ap (λ d. lasts graph (suc (struck_rounds d round)) x) done ∙ (st.last done).lasting x i e
+      by false going = ap (λ d. lasts graph (suc (struck_rounds d round)) x) going ∙ e
 
   -- the word of a configuration that isn't open is at most the number of rounds
-  pub word-few : (x : ℕ) → x < arena.configurations → is_open s.values x ≡ false → slice_index s.values x ≤ round
+  pub word-few : (x : ℕ) → x < graph.configurations → is_open s.values x ≡ false → slice_index s.values x ≤ round
   word-few x i shut = elim (cases_lt round (slice_index s.values x)) [
     | inr most ↦ most
     | inl more ↦ absurd (true_not_false (is_open s.values x)
-        (lasts-open x i (lasts-at-most arena is-arena (suc round) (slice_index s.values x) x i (omega arith)
+        (lasts-open x i (lasts-at-most graph is-graph (suc round) (slice_index s.values x) x i (omega arith)
         (st.stage.words_are.lasting x i shut))) shut)
   ]
 
-  pub word-value : (x : ℕ) → x < arena.configurations → is_open s.values x ≡ false
-      → LastsExactly arena x (slice_index s.values x)
+  pub word-value : (x : ℕ) → x < graph.configurations → is_open s.values x ≡ false
+      → LastsExactly graph x (slice_index s.values x)
   word-value x i shut = record {
     is_rank = i;
     lasting = st.stage.words_are.lasting x i shut;
@@ -302,37 +302,37 @@ module _ (s : PlainStage) (round : ℕ) (is_done : Bool) (st : IsState s round i
   }
 
   -- a configuration with a value of at most the number of rounds has it as its word
-  pub value-word : (j x : ℕ) → j ≤ round → LastsExactly arena x j
+  pub value-word : (j x : ℕ) → j ≤ round → LastsExactly graph x j
       → (is_open s.values x ≡ false) × (slice_index s.values x ≡ j)
   value-word j x most value =
       let i = value.is_rank in
       let shut : is_open s.values x ≡ false = elim (true_or_false (is_open s.values x)) [
         | inr shut ↦ shut
-        | inl still ↦ absurd (true_not_false (lasts arena (suc j) x)
-            (lasts-at-most arena is-arena (suc j) (suc round) x i (omega arith) (open-lasts x i still)) value.stopping)
+        | inl still ↦ absurd (true_not_false (lasts graph (suc j) x)
+            (lasts-at-most graph is-graph (suc j) (suc round) x i (omega arith) (open-lasts x i still)) value.stopping)
       ] in (
         shut,
-        word-at arena is-arena (lasts arena
+        word-at graph is-graph (lasts graph
             (struck_rounds is_done round)) s.values j x i st.stage.words_are shut value.lasting value.stopping,
       )
 
-  pub forever-of : is_done ≡ true → (x : ℕ) → x < arena.configurations → lasts arena (suc round) x ≡ true
-      → LastsForever arena x
-  forever-of done x i e = λ depth. lasts-forever arena is-arena (suc round) (st.last done).lasting depth x i e
+  pub forever-of : is_done ≡ true → (x : ℕ) → x < graph.configurations → lasts graph (suc round) x ≡ true
+      → LastsForever graph x
+  forever-of done x i e = λ depth. lasts-forever graph is-graph (suc round) (st.last done).lasting depth x i e
 
   -- a number lasts exactly the value of its configuration
-  worth : (x v : ℕ) → x < arena.configurations
-      → LastsExactly arena x v ↔ HasValue s.game.board (configuration_of s.game x) (Finite v)
-  worth x v i = worth-is s.game.board arena (configuration_of s.game) is-arena (numbered-shows s.game st.is_board) x v i
+  worth : (x v : ℕ) → x < graph.configurations
+      → LastsExactly graph x v ↔ HasValue s.game.board (configuration_of s.game x) (Finite v)
+  worth x v i = worth-is s.game.board graph (configuration_of s.game) is-graph (numbered-shows s.game st.is_board) x v i
 
   pub none-has : is_done ≡ true → NoneHas s.game.board (suc round)
   none-has done = λ c ok has.
       let x : ℕ = number_in s.game c in
       let i = number-below s.game st.is_board c ok in
       let exact = (worth x (suc round) i).1 ((number-value s.game st.is_board c ok (Finite (suc round))).0 has) in
-      true_not_false (lasts arena (suc (suc round)) x) ((st.last done).lasting x i exact.lasting) exact.stopping
+      true_not_false (lasts graph (suc (suc round)) x) ((st.last done).lasting x i exact.lasting) exact.stopping
 
-  pub filed-exactly : (v x : ℕ) → x < arena.configurations
+  pub filed-exactly : (v x : ℕ) → x < graph.configurations
       → (0 < times x (filed_at s v)) ↔ ((v ≤ round) × HasValue s.game.board (configuration_of s.game x) (Finite v))
   filed-exactly v x i = (
     λ h. let low = value-in-range s v x st.stage.filed_are h in
@@ -340,7 +340,7 @@ module _ (s : PlainStage) (round : ℕ) (is_done : Bool) (st : IsState s round i
         let word : slice_index s.values x ≡ v = filed-word s v x st.stage.filed_are low i h in
         let shut = valued_word s.values x (λ e. omega arith) in (
           subst (λ j. j ≤ round) word (word-few x i shut),
-          (worth x v i).0 (subst (λ j. LastsExactly arena x j) word (word-value x i shut)),
+          (worth x v i).0 (subst (λ j. LastsExactly graph x j) word (word-value x i shut)),
         ),
     λ has. let word = value-word v x has.0 ((worth x v i).1 has.1) in
         let most : v ≤ round = has.0 in
@@ -349,9 +349,9 @@ module _ (s : PlainStage) (round : ℕ) (is_done : Bool) (st : IsState s round i
   )
 
   -- the list of a gap has its open members
-  pub source-shown : (g : ℕ) → g < arena.gaps
-      → get_or (first_lists arena.gaps (open_members arena s.values)) g [] ≡ open_members arena s.values g
-  source-shown g i = get_or-map-range_with_len (open_members arena s.values) 0 arena.gaps g g [] i (omega arith)
+  pub source-shown : (g : ℕ) → g < graph.gaps
+      → get_or (first_lists graph.gaps (open_members graph s.values)) g [] ≡ open_members graph s.values g
+  source-shown g i = get_or-map-range_with_len (open_members graph s.values) 0 graph.gaps g g [] i (omega arith)
 
   cond_some : (c d : Bool) → c ≡ true → d ≡ true → 0 < cond {A = ℕ} (c && d) 1 0
   cond_some c d e f = rw (e, f) (omega arith)
@@ -362,37 +362,37 @@ module _ (s : PlainStage) (round : ℕ) (is_done : Bool) (st : IsState s round i
     rounds = round;
     is_done = is_done;
     buckets = s.buckets;
-    sources = first_lists arena.gaps (open_members arena s.values);
+    sources = first_lists graph.gaps (open_members graph s.values);
     due = due_strikes s;
   }
 
   open-members : AreOpenMembers shown
   open-members = record {
     listed = λ g v i j.
-        let x = arena.member g v in
-        let x_in = is-arena.member_in g v i j in
-        let count = member-times arena is-arena (is_open s.values) g i x in
+        let x = graph.member g v in
+        let x_in = is-graph.member_in g v i j in
+        let count = member-times graph is-graph (is_open s.values) g i x in
         rw (source-shown g i) (
           λ h. tree_of_lasts s.game st.is_board (suc round) x x_in
-              (open-lasts x x_in (both_true (is_open s.values x) (is_member arena g x) (times_true _ _ h count)).0),
+              (open-lasts x x_in (both_true (is_open s.values x) (is_member graph g x) (times_true _ _ h count)).0),
           λ tree. let e = lasts_of_tree s.game st.is_board (suc round) x x_in tree in
-              let some = cond_some (is_open s.values x) (is_member arena g x) (lasts-open x x_in e)
-              (member-is arena g v x j refl) in
+              let some = cond_some (is_open s.values x) (is_member graph g x) (lasts-open x x_in e)
+              (member-is graph g v x j refl) in
               omega arith,
         );
     once = λ g x i j. rw (source-shown g i)
-        (let count = member-times arena is-arena (is_open s.values) g i x in
-        let few = cond_few (is_open s.values x && is_member arena g x) in omega arith);
+        (let count = member-times graph is-graph (is_open s.values) g i x in
+        let few = cond_few (is_open s.values x && is_member graph g x) in omega arith);
     members = λ g x i. rw (source-shown g i) (λ h.
-        let m = members-are arena (is_open s.values) g 0 arena.places x h in
+        let m = members-are graph (is_open s.values) g 0 graph.places x h in
         let low = m.below in
         (m.label, omega arith, sym m.is));
     ascending = λ g i. rw (source-shown g i) (AllPairs-filter (λ first second. first < second) (is_open s.values) _
-        (map-ascends (arena.member g) 0 arena.places (λ v w less low. is-arena.ascending g v w i less (omega arith))));
+        (map-ascends (graph.member g) 0 graph.places (λ v w less low. is-graph.ascending g v w i less (omega arith))));
   }
 
-  pub due-is : due_strikes s ≡ filter (is_struck arena) (filed_at s round)
-  due-is = ap (λ v. filter (is_struck arena) (filed_at s v)) (let at = st.value_is in omega arith)
+  pub due-is : due_strikes s ≡ filter (is_struck graph) (filed_at s round)
+  due-is = ap (λ v. filter (is_struck graph) (filed_at s v)) (let at = st.value_is in omega arith)
 
   pub solving_of : IsSolving shown
   solving_of = record {
@@ -413,7 +413,7 @@ module _ (s : PlainStage) (round : ℕ) (is_done : Bool) (st : IsState s round i
   }
 
   -- a word says the value that the board gives to the configuration that its number stands for
-  pub value-read : (x : ℕ) → x < arena.configurations → (o : Option ℕ) → o ≡ value_of_word (slice_index s.values x)
+  pub value-read : (x : ℕ) → x < graph.configurations → (o : Option ℕ) → o ≡ value_of_word (slice_index s.values x)
       → (v : ℕ) → (o ≡ Some v) ↔ ((v ≤ round) × HasValue s.game.board (configuration_of s.game x) (Finite v))
   value-read x i o is v =
       let word : ℕ = slice_index s.values x in
@@ -428,7 +428,7 @@ module _ (s : PlainStage) (round : ℕ) (is_done : Bool) (st : IsState s round i
             let some : o ≡ Some word = is ∙ ap (λ (t : Bool). cond t None (Some word)) shut in (
               λ e. let same : word ≡ v = some_same word v (sym some ∙ e) in (
                 subst (λ j. j ≤ round) same (word-few x i shut),
-                (worth x v i).0 (subst (λ j. LastsExactly arena x j) same (word-value x i shut)),
+                (worth x v i).0 (subst (λ j. LastsExactly graph x j) same (word-value x i shut)),
               ),
               λ has. some ∙ ap Some (value-word v x has.0 ((worth x v i).1 has.1)).1,
             )
@@ -438,35 +438,35 @@ module _ (s : PlainStage) (round : ℕ) (is_done : Bool) (st : IsState s round i
   first-values x value i = value-read x i (slice_index_or (map value_of_word s.values) x None)
       (get_or-map value_of_word s.values x 0 None (let size = st.stage.filed_are.values_length in omega arith)) value
 
-  pub counts-before : (g : ℕ) → g < arena.gaps → is_done ≡ false
+  pub counts-before : (g : ℕ) → g < graph.gaps → is_done ≡ false
       → HasSize (AnswerLasts s.game g round) (slice_index s.counts g)
   counts-before g i going =
       subst (HasSize (AnswerLasts s.game g round))
       (sym (st.stage.counts_are.counted g i
-      ∙ ap (λ d. live_answers arena (lasts arena (struck_rounds d round)) g) going))
+      ∙ ap (λ d. live_answers graph (lasts graph (struck_rounds d round)) g) going))
       (above-size s.game st.is_board round g i)
 
   pub first-counts : is_done ≡ false → AreFirstCounts shown s.counts
   first-counts going gap i = counts-before gap i going
 
-  pub counts-after : (g : ℕ) → g < arena.gaps → is_done ≡ true
+  pub counts-after : (g : ℕ) → g < graph.gaps → is_done ≡ true
       → HasSize (AnswerForever s.game g) (slice_index s.counts g)
   counts-after g i done =
       subst (HasSize (AnswerForever s.game g))
       (sym (st.stage.counts_are.counted g i
-      ∙ ap (λ d. live_answers arena (lasts arena (struck_rounds d round)) g) done))
-      (live-size arena g (lasts arena (suc round))
-      (λ v. HasValue s.game.board (configuration_of s.game (arena.member g v)) Forever) (λ v j.
-      let low = is-arena.member_in g v i j in (
-        λ e. forever_of_lasts s.game st.is_board (arena.member g v) low (forever-of done (arena.member g v) low e),
-        λ forever. lasts_of_tree s.game st.is_board (suc round) (arena.member g v) low (forever (suc round)),
+      ∙ ap (λ d. live_answers graph (lasts graph (struck_rounds d round)) g) done))
+      (live-size graph g (lasts graph (suc round))
+      (λ v. HasValue s.game.board (configuration_of s.game (graph.member g v)) Forever) (λ v j.
+      let low = is-graph.member_in g v i j in (
+        λ e. forever_of_lasts s.game st.is_board (graph.member g v) low (forever-of done (graph.member g v) low e),
+        λ forever. lasts_of_tree s.game st.is_board (suc round) (graph.member g v) low (forever (suc round)),
       )))
 
   -- ---- a round, from the state before it
 
   pub to-begin : is_done ≡ false → IsStriking s (due_strikes s)
   to-begin going = round-starts s st.is_graph st.few round round-below st.value_is (due_strikes s) due-is
-      (subst (λ d. IsStage (lasts arena (struck_rounds d round)) s) going st.stage)
+      (subst (λ d. IsStage (lasts graph (struck_rounds d round)) s) going st.stage)
 
   -- before a round nothing of its value is struck
   pub unstruck-of : is_done ≡ false → IsUnstruck s
@@ -479,7 +479,7 @@ module _ (s : PlainStage) (round : ℕ) (is_done : Bool) (st : IsState s round i
       few = st.few;
       low = (let at = st.value_is in let below = round-below in omega arith);
     };
-    stage = subst (λ d. IsStage (lasts arena (struck_rounds d round)) s) going st.stage;
+    stage = subst (λ d. IsStage (lasts graph (struck_rounds d round)) s) going st.stage;
   }
 
   module _ (s' : PlainStage) (struck : IsStriking s' []) (kept : IsKeptStage s s') where

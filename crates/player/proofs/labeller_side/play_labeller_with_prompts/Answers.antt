@@ -3,7 +3,7 @@ use Rattle.std.proofs.lemmas.Result.{IfOk-weaker, IfErr-weaker, err_from_is_err_
 use Rattle.std.specs.Io.KnownBytes.{Appends}
 use Rattle.board_text.specs.Streams.{AppendsPrefix}
 use Rattle.positions.proofs.Cited.{some_value}
-use Rattle.player.specs.Transcript.{AreResponses, BeginsPlay, Going, IsPlayed, Over, PersonAnswers}
+use Rattle.player.specs.Transcript.{AreResponses, BeginsPlay, Going, IsPlayed, PersonAnswers}
 use Rattle.player.proofs.AnswerLines.{has_opening}
 use Rattle.player.proofs.PlayLengths.{keeps_to_value}
 use Rattle.player.proofs.OpeningLines.{has_ended, breaks_off, over_at_once, unopened, unshown_opening, Keeps-same}

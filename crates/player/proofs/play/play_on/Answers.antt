@@ -1,11 +1,11 @@
-use Rattle.std.proofs.Common.{refl, [], ◌++◌, ◌+◌, ◌∷◌, ap, ◌∙◌, arith, inl, subst, sym}
+use Rattle.std.proofs.Common.{refl, [], ◌++◌, ◌+◌, ◌∷◌, ap, ◌∙◌, arith, inl, subst}
 use Rattle.std.proofs.lemmas.List.{length_push}
 use Rattle.std.proofs.lemmas.Result.{err_from_is_err_and}
 use Rattle.board_text.proofs.Cited.{Appends-trans}
 use Rattle.player.specs.Inside.Prompts.{TellsAfter, greeting_if}
 use Rattle.player.specs.Inside.Steps.{IsResponseToMeaning}
-use Rattle.player.specs.Prompts.{BringsAndTells, NearlyTells, TellsBefore}
-use Rattle.player.specs.Transcript.{AreResponses, Going, Over, stopped_line}
+use Rattle.player.specs.Prompts.{BringsAndTells, NearlyTells}
+use Rattle.player.specs.Transcript.{AreResponses, Going}
 use Rattle.player.proofs.MoreTexts.{then_more}
 use Rattle.player.proofs.ReadLines.{none_yet, line_came, all_came, came_of}
 use Rattle.player.proofs.ToldPlays.{begins_told, ends_told, goes_on_told, near, near_if, nearly_told, unread_told}
@@ -160,7 +160,7 @@ returns-in_default-clause-told g c =
             c.end_play.ensures.end
             c.end_play.ensures.written;
         fault = near_if Tells Brings _ _ _ _ _ i.told _ c.end_play.result c.end_play.ensures.fault
-            (not_stopped (NearlyTells Tells Brings i.told) _ _ _ _ _ i.said i.text _ _
+            (not_stopped (NearlyTells Tells Brings _ _ i.told) _ _ _ _ _ i.said i.text _ _
             (inl i.tells) i.written c.end_play.result
             came c.end_play.ensures.fault);
       },
@@ -180,10 +180,10 @@ returns-in_err-end-clause-told g c =
       rw (p.1, p.2) (record {
         ok = tt;
         fault = near Tells Brings _ _ _ _ _ i.told _ c.in_err-end.field-0.0 fails
-            (broken (NearlyTells Tells Brings i.told) _ _ _ _ _ i.said i.text _ _ (inl i.tells) i.written _ _ next
+            (broken (NearlyTells Tells Brings _ _ i.told) _ _ _ _ _ i.said i.text _ _ (inl i.tells) i.written _ _ next
             (omega (arith, i.few, c.loop-test.true))
             (IsResponseToMeaning game (Going (g.P.Play.at c.loop.play) (g.P.Play.requests c.loop.play)) _)
-            (λ said to says. nearly_told game _ 0 c.args.shows i.told i.said next.line i.text said _ _ to i.brought
+            (λ said to says. nearly_told game _ 0 c.args.shows _ _ i.told i.said next.line i.text said _ _ to i.brought
             i.tells
             (says next.line next.spells))
             c.in_err-end.field-0.0 fails);

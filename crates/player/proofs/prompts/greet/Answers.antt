@@ -1,6 +1,5 @@
-use Rattle.std.proofs.Common.{[], false, refl, true}
+use Rattle.std.proofs.Common.{false, true}
 use Rattle.player.specs.Inside.Prompts.{greeting_if}
-use Rattle.player.specs.Prompts.{shown_line}
 use Rattle.player.specs.Showing.{IsMore}
 use Rattle.player.proofs.MoreTexts.{if_there, none_more}
 use Rattle.player.proofs.prompts.greet.Goals as goal

@@ -1,6 +1,5 @@
 use Rattle.std.proofs.Common.{codes, ◌-◌, ◌++◌, subst}
 use Rattle.std.specs.Fmt.{decimal}
-use Rattle.player.specs.Prompts.{pebble_choices}
 use Rattle.player.specs.Showing.{IsMore, shown}
 use Rattle.player.proofs.ChoiceLines.{many_pebbles, one_pebble}
 use Rattle.player.proofs.MoreTexts.{then_shown}

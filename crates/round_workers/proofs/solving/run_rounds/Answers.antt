@@ -1,7 +1,7 @@
-use Rattle.std.proofs.Common.{◌≤◌, length, ap, subst, refl, sym, ◌∙◌, arith}
+use Rattle.std.proofs.Common.{◌≤◌, length, ap, refl, sym, ◌∙◌, arith}
 use Rattle.std.proofs.lemmas.Result.{err_from_is_err_and}
 use Rattle.graphs.specs.Numbered.{Numbered, graph_of}
-use Rattle.solver.specs.Solving.{Solving, bucket}
+use Rattle.solver.specs.Solving.{bucket}
 use Rattle.solver.proofs.Cited.{fewer_left}
 use Rattle.round_workers.proofs.Rounds.{bucket_few}
 use Rattle.round_workers.proofs.solving.run_rounds.Goals as goal

@@ -1,4 +1,4 @@
-use Rattle.std.proofs.Common.{◌≡◌, ◌<◌, refl, subst, arith}
+use Rattle.std.proofs.Common.{◌≡◌, subst, arith}
 use Rattle.positions.specs.Ranks.{configuration_at}
 use Rattle.positions.proofs.HeldPlaces.{AreFirstHeld, all_held, one_held}
 use Rattle.positions.proofs.Ranks.{configuration_at_is}

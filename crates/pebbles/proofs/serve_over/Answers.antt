@@ -1,9 +1,0 @@
-use Rattle.pebbles.proofs.serve_over.Goals as goal
-
-pub returns : goal.returns
-returns g c = (
-  c.serve-status.new.input,
-  c.serve-status.new.output,
-  c.serve-status.new.errors,
-  rw c.from.ensures (rw (c.new-input.ensures, c.new-output.ensures, c.new-errors.ensures) at c.serve-status.ensures),
-)
