@@ -11,6 +11,7 @@ ghost use Rattle.board_text.specs.declared.fault.BoardKind.TheVariants.{Memory a
 use crate::board::{MAX_LABELS, MAX_PEBBLES};
 
 /// A text is that of one board at most.
+#[tactic(auto, using(crate::proofs::OneReading::one_board))]
 pub fn one_board()
     ensures { (first : PlainBoard) → (second : PlainBoard) → IsBoard first → IsBoard second
         → board_text first ≡ board_text second

@@ -21,6 +21,7 @@ pub fn limits()
 {}
 
 /// `clap` finds no fault in words exactly if it takes them.
+#[tactic(auto, using(crate::proofs::FaultsTaken::faults_or_taken))]
 pub fn faultless_words_are_taken()
     ensures { (words : List Text) → (fault_of commands.program words ≡ [])
         ↔ (takes commands.program words ≡ true) }

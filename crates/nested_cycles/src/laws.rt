@@ -52,6 +52,7 @@ pub fn one_of_two()
 {}
 
 /// A nested board of n labels has n * (n - 1) / 2 pairs: half of all pairs of different labels.
+#[tactic(auto, using(crate::proofs::PairCounts::count_of_pairs))]
 pub fn half_of_all_pairs()
     ensures { (levels : ℕ) → (pebbles : ℕ) → (board : PlainBoard)
         → IsNestedBoard levels pebbles board
@@ -59,6 +60,7 @@ pub fn half_of_all_pairs()
 {}
 
 /// A level and a number of pebbles have at most one nested board.
+#[tactic(auto, using(crate::proofs::NestedBoards::one_nested_board))]
 pub fn one_nested_board()
     ensures { (levels : ℕ) → (pebbles : ℕ) → (first : PlainBoard) → (second : PlainBoard)
         → IsNestedBoard levels pebbles first → IsNestedBoard levels pebbles second

@@ -21,6 +21,7 @@ pub fn one_has_a_tree()
 {}
 
 /// A labeller who can answer `depth + 1` requests can answer `depth`.
+#[tactic(auto, using(crate::proofs::Trees::lasts_less))]
 pub fn lasts_less()
     ensures { (board : PlainBoard) → (depth : ℕ) → (configuration : List ℕ)
         → LastsLess board depth configuration }
@@ -34,6 +35,7 @@ pub fn values_by_requests()
 {}
 
 /// No configuration has two values.
+#[tactic(auto, using(crate::proofs::Values::same_value))]
 pub fn one_value_at_most()
     ensures { (board : PlainBoard) → (configuration : List ℕ) → (first : ValueData)
         → (second : ValueData)
@@ -76,6 +78,7 @@ pub fn one_dominator()
 {}
 
 /// A claim that tables show holds.
+#[tactic(auto, using(crate::proofs::Claims::claim_holds))]
 pub fn shown_claims_hold()
     ensures { (board : PlainBoard) → (labeller : List AnswerRow) → (adversary : List RequestRow)
         → (claim : ClaimData)

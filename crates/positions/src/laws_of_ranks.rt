@@ -19,6 +19,7 @@ pub fn ranks_and_configurations()
 {}
 
 /// Ranks are in the order of the lists of labels, first label first.
+#[tactic(auto, using(crate::proofs::Ranks::in_order))]
 pub fn ranks_are_in_order()
     ensures { (board : PlainBoard) → (first : List ℕ) → (second : List ℕ)
         → IsConfiguration board first → IsConfiguration board second

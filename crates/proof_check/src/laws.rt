@@ -10,6 +10,7 @@ ghost use Rattle.proof_check.specs.declared.fault.CheckFault.{CheckFault as Faul
 ghost use Rattle.proof_check.specs.declared.fault.CheckFault.TheVariants.{Memory as OutOfMemory};
 
 /// The rows of a document that breaks no rule show its claim.
+#[tactic(auto, using(crate::proofs::ShownClaims::shows))]
 pub fn rules_show()
     ensures { (board : PlainBoard) → (proof : PlainProof) → IsProof board proof
         → BreaksNoRule board proof

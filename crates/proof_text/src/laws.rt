@@ -15,6 +15,7 @@ use crate::proof::MOST_TURNS;
 
 /// For one board a text is that of one document at most. So the text that is printed for a
 /// document is read back as that document.
+#[tactic(auto, using(crate::proofs::OneDocument::one_document))]
 pub fn one_document()
     ensures { (board : PlainBoard) → (first : PlainProof) → (second : PlainProof) → IsBoard board
         → IsProof board first
@@ -23,6 +24,7 @@ pub fn one_document()
 {}
 
 /// No line of a document's text has a fault but out of memory.
+#[tactic(auto, using(crate::proofs::OneDocument::no_fault))]
 pub fn documents_have_no_fault()
     ensures { (board : PlainBoard) → (document : PlainProof) → (line : ℕ) → (kind : Kind)
         → IsBoard board → IsProof board document

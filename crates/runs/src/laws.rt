@@ -92,6 +92,7 @@ pub fn solved_boards_show_their_value()
 
 /// Any document of the format whose text was written means the value. So the strategies that a
 /// reader finds in the bytes are those of which `solved_boards_show_their_value` speaks.
+#[tactic(auto, using(crate::proofs::Headlines::written_means))]
 pub fn written_documents_mean_the_value()
     ensures { (text : List ℕ) → (value : ValueData) → (written : List ℕ) → (board : PlainBoard)
         → (document : PlainProof)
@@ -133,6 +134,7 @@ pub fn printed_documents_are_accepted()
 {}
 
 /// The counts of a report add up to the number of configurations.
+#[tactic(auto, using(crate::proofs::CountSums::adds_up))]
 pub fn reports_add_up()
     ensures { (board : PlainBoard) → (report : CountReport) → IsReport board report
         → sum report.counts + report.forever ≡ configurations board }

@@ -46,6 +46,7 @@ pub fn one_best_request()
 
 /// A labeller who can answer one more than a number of requests
 /// can answer that number after a best answer.
+#[tactic(auto, using(crate::proofs::BestAnswers::lasts_after))]
 pub fn best_answers_last()
     ensures { (board : PlainBoard) → (number : ℕ) → (configuration : List ℕ) → (pebble : ℕ)
         → (label : ℕ) → pebble < board.pebbles

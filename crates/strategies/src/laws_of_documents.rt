@@ -22,12 +22,14 @@ pub fn each_board_has_a_document()
 {}
 
 /// The claim of the document of a board holds.
+#[tactic(auto, using(crate::proofs::KeptRules::claims_what_holds))]
 pub fn documents_claim_what_holds()
     ensures { (board : PlainBoard) → (proof : PlainProof) → IsDocumentOf board proof
         → Holds board proof.claim }
 {}
 
 /// The rows of the document of a board show its claim.
+#[tactic(auto, using(crate::proofs::ShownClaims::shows_claim))]
 pub fn documents_show_their_claim()
     ensures { (board : PlainBoard) → (proof : PlainProof) → IsConfiguration board board.start
         → IsDocumentOf board proof
@@ -35,6 +37,7 @@ pub fn documents_show_their_claim()
 {}
 
 /// The document of a board means the value of its start.
+#[tactic(auto, using(crate::proofs::Meanings::means_value))]
 pub fn documents_mean_their_value()
     ensures { (board : PlainBoard) → (proof : PlainProof) → (value : ValueData)
         → IsConfiguration board board.start → IsDocumentOf board proof
