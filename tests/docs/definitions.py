@@ -11,7 +11,8 @@ import re
 from harness import CRATES, TOP
 
 THEOREMS = os.path.join(TOP, 'docs', 'theorems.md')
-HEAD = re.compile(r'^(?:(?:abbrev|unfoldable) pub|pub record|pub data|(?:pub )?record|abbrev|unfoldable) ([\w-]+)')
+# one that stands in a module block begins two columns further right
+HEAD = re.compile(r'^(?:(?:  )?(?:(?:abbrev|unfoldable) pub|pub record|pub data)|record|abbrev|unfoldable) ([\w-]+)')
 USE = re.compile(r'^use Rattle\.(\w+)\.specs\.([\w.-]+?)(?:\.\{([^}]*)\}| as ([\w-]+))$')
 WORD = re.compile(r"[\w'-]+(?:\.[\w'-]+)*")
 PASSAGE = re.compile(r'<!-- (table|count|code) of ([\w. ]+?)(?:, beyond ([\w. ]+?))? -->(.*?)<!-- end -->', re.S)

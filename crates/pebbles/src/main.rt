@@ -14,7 +14,7 @@ ghost use Rattle.std.specs.Process.{exit_status};
 ghost use Rattle.board_text.specs.declared.through.Through.{Through as Wrapped};
 ghost use Rattle.serving.specs.Folders.{Unknown};
 ghost use Rattle.runs.specs.Run.{stream_of};
-ghost use Rattle.serving.specs.Serving.{Serves};
+ghost use Rattle.serving.specs.Serving.{ServesAnyWords};
 ghost use Rattle.serving.specs.declared.serving.Words.{Words as AllWords};
 ghost use Rattle.pebbles.specs.Program.{Gives, fresh};
 
@@ -61,7 +61,7 @@ fn serve_owned<I: Read + Drop, O: Write + Drop, E: Write + Drop>(
 ) -> ExitCode
     ensures { (words : AllWords) × Gives owned.now words
         × (read : Wrapped I) × (written : Wrapped O) × (told : Wrapped E)
-        × Serves (λ _. Unknown) terminals
+        × ServesAnyWords (λ _. Unknown) terminals
         (stream_of (λ s. I.remaining s.inner) (λ s. s.has_failed) (fresh input) read)
         (stream_of (λ s. O.contents s.inner) (λ s. s.has_failed) (fresh output) written)
         (stream_of (λ s. E.contents s.inner) (λ s. s.has_failed) (fresh errors) told)

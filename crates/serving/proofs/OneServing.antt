@@ -61,9 +61,9 @@ use Rattle.runs.specs.Output.{line_of}
 use Rattle.runs.specs.Report.{Reports}
 use Rattle.runs.specs.Run.{Bytes, Fails, Ran, Stream}
 use Rattle.player.specs.Showing.{AreForPerson}
-use Rattle.serving.specs.Serving.{Answers, WordsAskFor, EndsWith, HasNoMemory, IsHelped, IsEnding, IsExplained}
+use Rattle.serving.specs.Serving.{AnswersWords, WordsAskFor, EndsWith, HasNoMemory, IsHelped, IsEnding, IsExplained}
 use Rattle.serving.specs.Serving.{IsPrompted, IsRefusedWith, IsWritten}
-use Rattle.serving.specs.Serving.{Serves, ServesWords, is_large, is_typed, lacks_input}
+use Rattle.serving.specs.Serving.{ServesAnyWords, ServesWords, is_large, is_typed, lacks_input}
 use Rattle.serving.specs.Servings.{AreKnown, HaveOwnText}
 use Rattle.runs.specs.SolveRun.{CannotSolve}
 use Rattle.runs.specs.Texts.{HasNoneWithin, HasNoProof, IsBoardWithin, IsSmallBoard, IsWrongBoard, IsWrongProof}
@@ -1199,8 +1199,8 @@ module _ (at : List ℕ → File) (known : AreKnown at) (terminals : Terminals) 
           read.2 read_too.2 is.done also.done is.fair also.fair)
 
   both_faults : (words : List Text) (fault next : JobFault) → ShowsWords words fault → ShowsWords words next
-      → Answers at terminals input output errors status fault
-      → Answers at terminals other_input other_output other_errors other next
+      → AnswersWords at terminals input output errors status fault
+      → AnswersWords at terminals other_input other_output other_errors other next
       → (status ≡ other) × (AsksForVersion words → AreSame)
   both_faults words NoMemory next shows shows_too is also =
       absurd (no_memory at terminals off lines taken told input output errors status gives is)
@@ -1262,11 +1262,11 @@ module _ (at : List ℕ → File) (known : AreKnown at) (terminals : Terminals) 
   both_served words (inl (job, asks, is)) (inr (fault, more, shows, takes, answers)) =
       absurd (job_or_fault words job fault asks more shows
       (λ e. no_memory at terminals off lines taken told other_input other_output other_errors other gives_too
-      (subst (λ f. Answers at terminals other_input other_output other_errors other f) e answers)))
+      (subst (λ f. AnswersWords at terminals other_input other_output other_errors other f) e answers)))
   both_served words (inr (fault, more, shows, takes, answers)) (inl (job, asks, is)) =
       absurd (job_or_fault words job fault asks more shows
       (λ e. no_memory at terminals off lines taken told input output errors status gives
-      (subst (λ f. Answers at terminals input output errors status f) e answers)))
+      (subst (λ f. AnswersWords at terminals input output errors status f) e answers)))
   both_served words (inr (fault, more, shows, takes, answers))
       (inr (next, more_too, shows_too, takes_too, answers_too)) =
       let both = both_faults words fault next shows shows_too answers answers_too in (
@@ -1275,13 +1275,13 @@ module _ (at : List ℕ → File) (known : AreKnown at) (terminals : Terminals) 
           | inl few ↦ absurd (omega (arith, few, more))
           | inr (inl none) ↦ absurd (not_faultless words fault
               (λ e. no_memory at terminals off lines taken told input output errors status gives
-              (subst (λ f. Answers at terminals input output errors status f) e answers)) none shows)
+              (subst (λ f. AnswersWords at terminals input output errors status f) e answers)) none shows)
           | inr (inr version) ↦ both.1 version
         ],
       )
 
-  pub both_given : (words : Words) → Serves at terminals input output errors status words
-      → Serves at terminals other_input other_output other_errors other words
+  pub both_given : (words : Words) → ServesAnyWords at terminals input output errors status words
+      → ServesAnyWords at terminals other_input other_output other_errors other words
       → (status ≡ other) × (HaveOwnText words → AreSame)
   both_given (Given words) is also = both_served (texts words.now) is also
   both_given OutOfMemory is also =

@@ -106,16 +106,18 @@ WritesNested levels pebbles output outcome =
 
 module _ (at : List ℕ → File) (input output : Stream) where
   -- the job is done, or broken off; only a joined check and the plays read standard input
-  abbrev pub Does : Job → Outcome → Type 0
-  Does Joined outcome = ChecksJoined input output outcome
-  Does (Check board proof) outcome =
+  abbrev pub DoesJob : Job → Outcome → Type 0
+  DoesJob Joined outcome = ChecksJoined input output outcome
+  DoesJob (Check board proof) outcome =
       Checks (at board.now) (at proof.now) output outcome × input.IsKept
-  Does (Nested levels pebbles) outcome = WritesNested levels pebbles output outcome × input.IsKept
-  Does (Solve workers board) outcome = Solves workers (at board.now) output outcome × input.IsKept
-  Does (Report workers large board) outcome =
+  DoesJob (Nested levels pebbles) outcome =
+      WritesNested levels pebbles output outcome × input.IsKept
+  DoesJob (Solve workers board) outcome =
+      Solves workers (at board.now) output outcome × input.IsKept
+  DoesJob (Report workers large board) outcome =
       Counts workers large (at board.now) output outcome × input.IsKept
-  Does (Play side large board) outcome = Plays side large (at board.now) input output outcome
-  Does (Climb levels) outcome = Climbs levels input output outcome
+  DoesJob (Play side large board) outcome = Plays side large (at board.now) input output outcome
+  DoesJob (Climb levels) outcome = Climbs levels input output outcome
 
   -- an input of the job has failed, or can fail: standard input, or a file whose bytes aren't known
   abbrev pub CanBeUnread : Job → Type 0
@@ -130,7 +132,7 @@ module _ (at : List ℕ → File) (input output : Stream) where
   -- the same; the streams have failed if the outcome says so, and only then; and no read fault is
   -- told of files whose bytes are known and of standard input that hasn't failed
   pub record IsDone (job : Job) (outcome : Outcome) : Type 0 where
-    pub does : Does job outcome
+    pub does : DoesJob job outcome
     pub writes : TellsWrites output outcome
     pub reads : input.HasFailed → outcome ≡ Broken Read
     pub unread : outcome ≡ Broken Read → CanBeUnread job

@@ -104,10 +104,10 @@ module _ (at : List ℕ → File) (terminals : Terminals) (input output errors :
   HasNoMemory = input.IsKept × output.IsKept × EndsWith [] (Broken Memory)
 
   -- words that ask for no job are answered, by help or the version or as wrong use
-  abbrev pub Answers : JobFault → Type 0
-  Answers (Help text) = IsHelped (string_bytes text)
-  Answers (Usage text) = IsRefusedWith (string_bytes text)
-  Answers NoMemory = HasNoMemory
+  abbrev pub AnswersWords : JobFault → Type 0
+  AnswersWords (Help text) = IsHelped (string_bytes text)
+  AnswersWords (Usage text) = IsRefusedWith (string_bytes text)
+  AnswersWords NoMemory = HasNoMemory
 
   -- the job is done or broken off; or it lacks its input, and that alone is told
   abbrev pub ServesJob : Job → Type 0
@@ -122,11 +122,11 @@ module _ (at : List ℕ → File) (terminals : Terminals) (input output errors :
   ServesWords words =
       ((job : Job) × WordsAskFor words job × ServesJob job)
       ⊎ ((fault : JobFault) × (1 < length words) × ShowsWords words fault
-      × (takes program words ≡ true → fault ≡ NoMemory) × Answers fault)
+      × (takes program words ≡ true → fault ≡ NoMemory) × AnswersWords fault)
 
   -- the same, if the words are there and are text
-  abbrev pub Serves : Words → Type 0
-  Serves (Given words) = ServesWords (texts words.now)
-  Serves NotText = IsRefusedWith
+  abbrev pub ServesAnyWords : Words → Type 0
+  ServesAnyWords (Given words) = ServesWords (texts words.now)
+  ServesAnyWords NotText = IsRefusedWith
       (with_line_feed (codes "error: a word on the command line is not text"))
-  Serves OutOfMemory = HasNoMemory
+  ServesAnyWords OutOfMemory = HasNoMemory

@@ -6,7 +6,7 @@ use Rattle.command_line.specs.Commands.{program}
 use Rattle.command_line.specs.Reading.{AsksForVersion}
 use Rattle.serving.specs.Folders.{File, Unknown}
 use Rattle.runs.specs.Run.{Stream}
-use Rattle.serving.specs.Serving.{Serves}
+use Rattle.serving.specs.Serving.{ServesAnyWords}
 use Rattle.serving.specs.declared.serving.Terminals.{Terminals}
 use Rattle.serving.specs.declared.serving.Words.{Words}
 use Rattle.serving.specs.declared.serving.Words.TheVariants.{Given}
@@ -43,7 +43,7 @@ pub record IsServed (at : List ℕ → File) (terminals : Terminals) (before : B
   pub had_input : IsKnown input before.input
   pub had_output : IsKnown output before.output
   pub had_errors : IsKnown errors before.errors
-  pub serves : Serves at terminals input output errors status words
+  pub serves : ServesAnyWords at terminals input output errors status words
   pub given : status ≢ 4
 
 -- standard input, output and error

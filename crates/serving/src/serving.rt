@@ -5,7 +5,8 @@ ghost use Rattle.clap.specs.Walk.{texts};
 ghost use Rattle.player.specs.Showing.{IsMore};
 ghost use Rattle.runs.specs.Run.{stream_of};
 ghost use Rattle.serving.specs.Serving.{IsEnding, IsExplained};
-ghost use Rattle.serving.specs.Serving.{Serves, ServesJob, ServesWords, is_typed, lacks_input};
+ghost use Rattle.serving.specs.Serving.{ServesAnyWords, ServesJob, ServesWords};
+ghost use Rattle.serving.specs.Serving.{is_typed, lacks_input};
 ghost use Rattle.command_line.specs.Reading.{IsInRange};
 ghost use Rattle.runs.specs.declared.fault.RunFault.TheVariants.{Memory};
 ghost use Rattle.serving.specs.declared.outcome.Outcome.TheVariants.{Broken};
@@ -109,7 +110,7 @@ pub fn serve<F: Folder, I: Source, O: Sink, E: Sink>(
     requires input_unended { I.has_ended input.old ≡ false }
     requires output_ready { O.has_failed output.old ≡ false }
     requires errors_ready { E.has_failed errors.old ≡ false }
-    ensures { Serves (F.at folder.now) terminals
+    ensures { ServesAnyWords (F.at folder.now) terminals
         (stream_of I.remaining I.has_failed input.old input.new)
         (stream_of O.contents O.has_failed output.old output.new)
         (stream_of E.contents E.has_failed errors.old errors.new)
