@@ -1,15 +1,17 @@
-"""Wrong bodies and weakened definitions fit the repository as it is: no name stands twice, each old text stands once in its file, and each
-mutation that the gate doesn't try says where it was refused."""
+"""Wrong bodies and weakened definitions fit the repository as it is: no name stands twice, each old text stands once in its file, each
+mutation that the gate doesn't try says where it was refused, and those of each crate were tried on the promises that it has now."""
 import os
 import re
 from collections import Counter
 from functools import partial
 
 from harness import CRATES, TOP, Check, standing
-from mutations import DEFINITIONS, edits_of, read, texts
+from mutations import DEFINITIONS, edits_of, of_crate, read, read_sums, texts
+from promises import of_folder
 
-# a row of docs/proving/edits.md: a crate, and its wrong bodies that stay in the gate
-OWED = re.compile(r'^\| `(\w+)` \| (`\w+`(?:, `\w+`)*) \|$', re.M)
+# a row of docs/proving/edits.md: a crate, its wrong bodies that are owed, and those that the gate has beside them
+IN_GATE = re.compile(r'^\| `(\w+)` \| ((?:`\w+`(?:, `\w+`)*)?) \| ((?:`\w+`(?:, `\w+`)*)?) \|$', re.M)
+MOST_BESIDE = 3
 REFUSED = re.compile(r'(\w+), \S.*$')
 TRIED = re.compile(r'\d{4}-\d\d-\d\d on [0-9a-f]{8,}$')
 
@@ -77,20 +79,36 @@ def of_no_crate():
     return f'no crates: {", ".join(found)}' if found else None
 
 
-def lacks_owed():
-    """None, or the wrong bodies that docs/proving/edits.md says are owed, and that the gate doesn't try."""
+def others_in_gate():
+    """None, or what differs between the wrong bodies of the gate and the table of docs/proving/edits.md."""
     with open(os.path.join(TOP, 'docs', 'proving', 'edits.md')) as file:
-        rows = OWED.findall(file.read())
-    there = {(crate, mutation.name) for crate in standing(TOP) for mutation in edits_of(crate)}
-    lacking = [f'{crate}: {name}' for crate, names in rows for name in names.strip('`').split('`, `') if (crate, name) not in there]
-    return f'not in the gate: {"; ".join(lacking)}' if lacking else None if rows else 'no wrong body is owed'
+        rows = {crate: [set(re.findall(r'\w+', names)) for names in both] for crate, *both in IN_GATE.findall(file.read())}
+    told = [f'{crate}: more than {MOST_BESIDE} beside the owed ones' for crate, (_, beside) in rows.items() if len(beside) > MOST_BESIDE]
+    for crate in standing(TOP):
+        there, wanted = {mutation.name for mutation in edits_of(crate)}, set().union(*rows.get(crate, ()))
+        told += [f'{crate}: {name} is not in the gate' for name in sorted(wanted - there)]
+        told += [f'{crate}: {name} is in the gate, and not in the table' for name in sorted(there - wanted)]
+    return '; '.join(told) or (None if rows else 'docs/proving/edits.md has no table of the wrong bodies of the gate')
+
+
+def untried():
+    """None, or the crates whose promises are others than those on which their further wrong bodies and weakened definitions were tried."""
+    now, then = of_folder(TOP), read_sums()
+    with_some = [crate for crate in standing(TOP) if of_crate(crate)]
+    found = [crate for crate in with_some if then.get(crate) != now.sum_of(crate)]
+    strangers = [crate for crate in then if crate not in with_some]
+    if strangers:
+        return f'tests/mutations/promises.sums names {", ".join(strangers)}, of which there is nothing to try'
+    return f'a definition or a clause changed in or below {", ".join(found)}: `tests/mutations/run --changed FOLDER`, in a copy of the ' \
+           'repository whose crates are proved, tries what the gate does not' if found else None
 
 
 def checks():
-    """One for each crate with wrong bodies, two for the texts, and one for those that are owed."""
+    """One for each crate with wrong bodies, two for the texts, one for those of the gate, and one for what was tried."""
     for crate in standing(TOP):
         if edits_of(crate) or crate in texts():
             yield Check(f'the wrong bodies of {crate}', partial(wrong_in_crate, crate))
     yield Check('the weakened definitions', partial(wrong_in_definitions))
     yield Check('the texts of wrong bodies', partial(of_no_crate))
-    yield Check('the wrong bodies that are owed', partial(lacks_owed))
+    yield Check('the wrong bodies of the gate', partial(others_in_gate))
+    yield Check('the promises on which wrong bodies were tried', partial(untried))

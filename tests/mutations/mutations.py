@@ -7,6 +7,9 @@ one that changed what the proof of that crate reads. `tests: CRATE` names tests 
 
 The text NAME.txt has the further wrong bodies of the crate NAME, definitions.txt has weakened definitions. The wrong bodies that the gate
 tries are the edits of crates/NAME/must-fail/, a file each; its name is the mistake, with `_` between the words.
+
+promises.sums has a line for each crate with further wrong bodies or weakened definitions: its name, and the checksum of the promises on
+which all of them were refused (promises.py). `tests/mutations/run --changed` alone writes it.
 """
 import os
 import re
@@ -17,6 +20,7 @@ from harness import CRATES
 HERE = os.path.dirname(os.path.abspath(__file__))
 DEFINITIONS = 'definitions'
 ANSWER = ('refused', 'tried')
+SUMS = os.path.join(HERE, 'promises.sums')
 
 
 def parted(line):
@@ -103,6 +107,29 @@ def write(name, head, mutations):
     blocks = ['\n'.join(f'{word}: {text}' for word, text in mutation.lines) for mutation in mutations]
     with open(path_of(name), 'w') as file:
         file.write('\n\n'.join([head, *blocks]) + '\n')
+
+
+def of_crate(crate):
+    """The further wrong bodies of a crate and its weakened definitions, each with the name of its text."""
+    found = [(crate, mutation) for mutation in read(crate)[1]] if crate in texts() else []
+    return found + [(DEFINITIONS, mutation) for mutation in read(DEFINITIONS)[1] if mutation.crate == crate]
+
+
+# ---- checksums
+
+def read_sums():
+    """The checksums of the promises that were tried, by crate."""
+    if not os.path.isfile(SUMS):
+        return {}
+    with open(SUMS) as file:
+        return dict(line.split() for line in file)
+
+
+def write_sum(crates, crate, checksum):
+    """Writes the checksum of a crate, in the order of these crates, and drops those of others."""
+    sums = read_sums() | {crate: checksum}
+    with open(SUMS, 'w') as file:
+        file.writelines(f'{name} {sums[name]}\n' for name in crates if name in sums)
 
 
 # ---- the edits that the gate tries
