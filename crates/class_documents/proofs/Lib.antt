@@ -1,0 +1,12 @@
+pub mod ArrangedPlaces
+pub mod OrderNumbers
+pub mod RowSearch
+pub mod PlacesAt
+pub mod ClassTrees
+pub mod ClassClaims
+pub mod ClassSteps
+pub mod ClassDocumentFaults
+pub mod FirstClassRow
+pub mod CheckedRows
+pub mod NamedClasses
+pub mod Cited

@@ -1,0 +1,148 @@
+//! The labeller's rows of a document by classes, checked.
+
+ghost use Rattle.std.specs.Prelude.{◌≡◌, ◌<◌, MatchOption};
+ghost use Rattle.board_text.specs.PlainBoard.{IsConfiguration};
+ghost use Rattle.proof_text.specs.Rules as rules;
+ghost use Rattle.proof_text.specs.Rules.{one_less, Serves};
+ghost use Rattle.class_documents.specs.Arranged.{arranged};
+ghost use Rattle.class_documents.specs.ClassProof.{IsClassDocument, plain_class_proof};
+ghost use Rattle.class_documents.specs.ClassProof.{class_answer_row, class_answer_rows};
+ghost use Rattle.class_documents.specs.ClassRules.{MeetsClassRequest, MeetsClassRequests};
+ghost use Rattle.class_documents.specs.ClassFaults.{IsWrongClassAnswer, IsWrongClassAt};
+ghost use Rattle.class_documents.specs.ClassFaults.{IsWrongClassStart};
+ghost use Rattle.class_documents.specs.Inside.Checked.{IsClassAnswering, IsClassUnservedFor};
+
+use crate::checked_row::CheckedRow;
+use crate::fault::ClassFault;
+use crate::proof::{ClassProof, LabellerClassRow};
+use crate::row_search::{find, row_number};
+use board_text::Board;
+use positions::{Claim, Side, Turns, is_legal};
+
+/// The turns that are left after one of `turns`.
+fn after_one(turns: Turns) -> Turns
+    ensures { result ≡ one_less turns }
+{
+    match turns {
+        Turns::Count(turns) => Turns::Count(turns.saturating_sub(1)),
+        Turns::Always => Turns::Always,
+    }
+}
+
+/// The turns that `claim` wants of the start.
+fn wanted_of(claim: Claim) -> Turns
+    ensures { result ≡ rules.wanted_of claim }
+{
+    match claim {
+        Claim::Exactly(number) | Claim::AtLeast(number) => Turns::Count(number),
+        Claim::AtMost(_) => Turns::Count(0),
+        Claim::Forever => Turns::Always,
+    }
+}
+
+impl CheckedRow for LabellerClassRow {
+    ghost is_ready = { IsClassAnswering };
+
+    ghost meets = { λ board proof row.
+        MeetsClassRequests board proof.labeller (class_answer_row board row) };
+
+    ghost is_wrong = { λ board proof row.
+        IsWrongClassAnswer board proof.labeller (class_answer_row board row) };
+
+    /// The fault of the row's first faulty pebble, if it has one.
+    fn fault(&self, board: &Board, proof: &ClassProof) -> Option<ClassFault> {
+        for pebble in 0..board.pebbles() {
+            if let Some(fault) = answer_fault(board, proof, self, pebble) {
+                return Some(fault);
+            }
+        }
+        None
+    }
+}
+
+/// The fault of the answer of `row` to a request of `pebble`, if it has one.
+fn answer_fault(
+    board: &Board,
+    proof: &ClassProof,
+    row: &LabellerClassRow,
+    pebble: u8,
+) -> Option<ClassFault>
+    requires row { IsClassAnswering board.now proof.now row.now }
+    requires pebble { pebble < board.now.pebbles }
+    ensures { MatchOption result
+        (MeetsClassRequest board.now (class_answer_rows board.now proof.now.labeller.items)
+        (class_answer_row board.now row.now) pebble)
+        (IsWrongClassAt board.now (class_answer_rows board.now proof.now.labeller.items)
+        (class_answer_row board.now row.now) pebble) }
+{
+    let pebbles = board.pebbles() as usize;
+    let label = row.take[pebble as usize];
+    let at = row_number(board, row);
+    if !is_legal(board, &row.at[..pebbles], pebble, label) {
+        return Some(ClassFault::IllegalAnswer { at, pebble });
+    }
+    let missing = ClassFault::Unlisted {
+        side: Side::Labeller,
+        at,
+        turn: pebble as u16,
+    };
+    let short = ClassFault::TooSmall { at, pebble };
+    let mut result = row.at;
+    result[pebble as usize] = label;
+    turns_fault(
+        board,
+        proof,
+        &result[..pebbles],
+        after_one(row.turns),
+        missing,
+        short,
+    )
+}
+
+/// The fault of the number of the start's class in the labeller's rows, if it has one.
+pub(crate) fn start_fault(board: &Board, proof: &ClassProof) -> Option<ClassFault>
+    requires { IsClassDocument board.now proof.now }
+    ensures { MatchOption result
+        (Serves (class_answer_rows board.now proof.now.labeller.items)
+        (arranged board.now.labels board.now.start) (rules.wanted_of proof.now.claim))
+        (IsWrongClassStart board.now (plain_class_proof board.now proof.now)) }
+{
+    let side = Side::Labeller;
+    let missing = ClassFault::StartMissing { side };
+    let short = ClassFault::StartNumber { side };
+    turns_fault(
+        board,
+        proof,
+        board.start(),
+        wanted_of(proof.claim),
+        missing,
+        short,
+    )
+}
+
+/// The fault if the labeller's rows don't serve the `wanted` turns at the class of `places`:
+/// `missing` if no row is for it, `short` if its row has too few turns.
+fn turns_fault(
+    board: &Board,
+    proof: &ClassProof,
+    places: &[u16],
+    wanted: Turns,
+    missing: ClassFault,
+    short: ClassFault,
+) -> Option<ClassFault>
+    requires document { IsClassDocument board.now proof.now }
+    requires places { IsConfiguration board.now places.now }
+    ensures { MatchOption result
+        (Serves (class_answer_rows board.now proof.now.labeller.items)
+        (arranged board.now.labels places.now) wanted)
+        (IsClassUnservedFor (class_answer_rows board.now proof.now.labeller.items)
+        (arranged board.now.labels places.now) wanted missing short) }
+{
+    if wanted == Turns::Count(0) {
+        return None;
+    }
+    let Some(row) = find(board, &proof.labeller, places) else {
+        return Some(missing);
+    };
+    (row.turns < wanted).then_some(short)
+}

@@ -1,0 +1,4 @@
+-- The lemmas that crates above cite, passed on from one place. Declares nothing.
+pub use Rattle.class_strategies.proofs.DocumentForm.{has_form}
+pub use Rattle.class_strategies.proofs.KeptClassRules.{breaks_no_rule}
+pub use Rattle.class_strategies.proofs.OneClassList.{one_document}

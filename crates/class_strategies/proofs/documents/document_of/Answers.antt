@@ -1,0 +1,28 @@
+use Rattle.class_strategies.proofs.AskedClassRows.{asked_rows, asked_filled}
+use Rattle.class_strategies.proofs.DocumentForm.{has_form}
+use Rattle.class_strategies.proofs.KeptClassRules.{breaks_no_rule}
+use Rattle.class_strategies.proofs.documents.document_of.Goals as goal
+
+pub returns-clause-document : goal.returns-clause-document
+returns-clause-document g c = record {
+  value = c.args.value;
+  has_value = c.requires.value;
+  claim = c.from.ensures;
+  labeller = c.requires.labeller.exactly;
+  adversary = asked_rows
+      (g.M.MovesByPlaces.board c.args.moves.now) c.args.value c.args.adversary.items c.requires.adversary;
+}
+
+pub returns-clause-form : goal.returns-clause-form
+returns-clause-form g c = record {
+  is_proof = has_form (g.M.MovesByPlaces.board c.args.moves.now) _ c.requires.start c.requires.few
+      (returns-clause-document g c);
+  places_padded = λ k d inside. (c.requires.labeller.filled k d inside).0;
+  answers_padded = λ k d inside. (c.requires.labeller.filled k d inside).1;
+  asked_padded = asked_filled
+      (g.M.MovesByPlaces.board c.args.moves.now) c.args.value c.args.adversary.items c.requires.adversary;
+}
+
+pub returns-clause-rules : goal.returns-clause-rules
+returns-clause-rules g c = breaks_no_rule (g.M.MovesByPlaces.board c.args.moves.now) _ c.requires.start
+    (returns-clause-document g c)

@@ -1,0 +1,42 @@
+use Rattle.std.proofs.Common.{◌≡◌, take}
+use Rattle.class_strategies.specs.Inside.ReachedClasses.{class_numbered}
+use Rattle.class_strategies.proofs.MadeClassRows.{adversary_row_is, no_request}
+use Rattle.class_strategies.proofs.sections.AdversaryClassRowSectionRow.at.Given.{Over}
+use Rattle.class_strategies.proofs.sections.AdversaryClassRowSectionRow.at.Goals as goal
+use Rattle.class_strategies.proofs.sections.AdversaryClassRowSectionRow.at.Goals.{After-pebbles}
+
+here : (g : Over) (c : After-pebbles g)
+    → take (g.M.MovesByPlaces.board c.args.moves.now).pebbles c.places_at-at.result
+    ≡ class_numbered (g.M.MovesByPlaces.board c.args.moves.now) c.args.number
+here g c = (rw c.board-board.ensures at c.places_at-at.ensures.places) (class_numbered
+    (g.M.MovesByPlaces.board c.args.moves.now) c.args.number)
+    c.requires.0.is c.requires.0.number_is
+
+size : (g : Over) (c : After-pebbles g) → c.pebbles.result ≡ (g.M.MovesByPlaces.board c.args.moves.now).pebbles
+size g c = rw c.board-board.ensures at c.pebbles.ensures.value
+
+pub returns-in_default : goal.returns-in_default
+returns-in_default g c =
+    let at = (goal.at.returns-in_default g c).After-pebbles in
+    no_request (g.M.MovesByPlaces.board c.args.moves.now) c.args.number c.pebbles.result c.places_at-at.result
+    (size g at) (here g at)
+    c.in_default.ensures
+
+pub returns-in_err-pebble : goal.returns-in_err-pebble
+returns-in_err-pebble g c =
+    let at = (goal.at.returns-in_err-pebble g c).After-pebbles in
+    rw c.from_residual.ensures
+    (no_request (g.M.MovesByPlaces.board c.args.moves.now) c.args.number c.pebbles.result c.places_at-at.result
+    (size g at) (here g at)
+    (c.request.ensures.none.0 c.in_err-pebble.was))
+
+pub returns : goal.returns
+returns g c =
+    let at = (goal.at.returns g c).After-pebbles in (
+      adversary_row_is (g.M.MovesByPlaces.board c.args.moves.now) c.args.number c.pebbles.result c.places_at-at.result
+          (size g at) (here g at)
+          c.in_ok-pebble.pebble c.in-Finite.left c.requires.0 c.requires.1 c.in-Finite.ensures
+          c.in_ok-pebble.ensures.best,
+      here g at,
+      rw c.board-board.ensures at c.places_at-at.ensures.padded,
+    )

@@ -1,0 +1,57 @@
+use Rattle.std.proofs.Common.{◌≡◌, ◌<◌, ◌≤◌, ℕ, List, take, subst, arith}
+use Rattle.board_text.specs.declared.board.TheConstants.{MAX_PEBBLES}
+use Rattle.strategies.specs.Best.{IsBestAnswer}
+use Rattle.strategies.proofs.MadeRows.{taken_more}
+use Rattle.class_strategies.specs.Inside.ReachedClasses.{class_numbered}
+use Rattle.class_strategies.proofs.MadeClassRows.{held_is, has_answer, labeller_row_is}
+use Rattle.class_strategies.proofs.sections.LabellerClassRowSectionRow.at.Given.{Over}
+use Rattle.class_strategies.proofs.sections.LabellerClassRowSectionRow.at.Goals as goal
+use Rattle.class_strategies.proofs.sections.LabellerClassRowSectionRow.at.Goals.{After-pebbles, in-Some, in_default}
+
+here : (g : Over) (c : After-pebbles g)
+    → take (g.M.MovesByPlaces.board c.args.moves.now).pebbles c.places_at-at.result
+    ≡ class_numbered (g.M.MovesByPlaces.board c.args.moves.now) c.args.number
+here g c = (rw c.board-board.ensures at c.places_at-at.ensures.places) (class_numbered
+    (g.M.MovesByPlaces.board c.args.moves.now) c.args.number)
+    c.requires.0.is c.requires.0.number_is
+
+size : (g : Over) (c : After-pebbles g) → c.pebbles.result ≡ (g.M.MovesByPlaces.board c.args.moves.now).pebbles
+size g c = rw c.board-board.ensures at c.pebbles.ensures.value
+
+pub loop-pebble-preserved : goal.loop-pebble-preserved
+loop-pebble-preserved g c =
+    let b = g.M.MovesByPlaces.board c.args.moves.now in
+    let at = (goal.at.loop-pebble-preserved g c).After-pebbles in
+    let pebble : ℕ = c.loop-pebble.pebble in
+    let end = rw c.board-board.ensures at c.pebbles-pebble-end.ensures.value in
+    let is_board = rw c.board-board.ensures at c.pebbles.ensures.is_board in
+    let is_pebble : pebble < b.pebbles = omega (arith, end, c.loop-pebble-test.true) in
+    let low : pebble < MAX_PEBBLES = omega (arith, is_pebble, is_board.pebbles.1) in
+    elim c.match-answer.branch [
+      | in-Some w ↦ rw w.take-is
+          (taken_more b
+          (class_numbered b c.args.number) pebble w.in-Some.label c.loop-pebble.take low c.loop-pebble.invariant
+          (subst (λ (l : List ℕ). IsBestAnswer b l pebble w.in-Some.label)
+          (held_is b c.args.number c.pebbles.result c.places_at-at.result (size g at)
+          (here g at)) w.in-Some.ensures.best))
+      | in_default w ↦ absurd (has_answer b c.args.number c.pebbles.result c.places_at-at.result (size g at) (here g at)
+          c.requires.1 pebble is_pebble w.in_default.ensures)
+    ]
+
+pub returns : goal.returns
+returns g c =
+    let b = g.M.MovesByPlaces.board c.args.moves.now in
+    let at = (goal.at.returns g c).After-pebbles in
+    let end = rw c.board-board.ensures at c.pebbles-pebble-end.ensures.value in
+    let past : b.pebbles ≤ c.loop-pebble.pebble = omega (arith, end, c.loop-pebble-test.false) in
+    rw c.turns-turns.ensures (
+      labeller_row_is b c.args.number c.pebbles.result c.places_at-at.result (size g at) (here g at) c.args.start
+          c.value.result c.loop-pebble.pebble c.loop-pebble.take
+          (rw c.board-board.ensures at c.pebbles.ensures.is_board)
+          past c.requires.1 c.value.ensures c.loop-pebble.invariant,
+      here g at,
+      (
+        rw c.board-board.ensures at c.places_at-at.ensures.padded,
+        λ pebble above. c.loop-pebble.invariant.rest pebble (omega (arith, past, above)),
+      ),
+    )

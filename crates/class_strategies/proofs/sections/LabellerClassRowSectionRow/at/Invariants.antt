@@ -1,0 +1,7 @@
+use Rattle.strategies.proofs.MadeRows.{AreTaken}
+use Rattle.class_strategies.specs.Inside.ReachedClasses.{class_numbered}
+use Rattle.class_strategies.proofs.sections.LabellerClassRowSectionRow.at.Given as goal
+
+abbrev pub invariant-loop-pebble : goal.invariant-loop-pebble
+invariant-loop-pebble g l = AreTaken (g.M.MovesByPlaces.board l.moves) (class_numbered
+    (g.M.MovesByPlaces.board l.moves) l.number) l.pebble l.take

@@ -1,0 +1,3 @@
+-- Definitions that clauses of this crate's own functions cite, and no public contract.
+pub mod ReachedClasses
+pub mod ClassSide

@@ -1,0 +1,2 @@
+pub mod ClassDocument
+pub mod Inside
