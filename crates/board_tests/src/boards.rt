@@ -49,37 +49,44 @@ const CYCLE_OF_CYCLES: &[(u16, u16)] = &[
     (8, 7),
 ];
 
-/// Whether these are the pairs of which the first label dominates the second.
-fn has_pairs(board: &Board, pairs: &[(u16, u16)]) -> bool {
+/// Asserts that these are the pairs of which the first label dominates the second.
+fn assert_pairs(rt: &impl Abort, board: &Board, pairs: &[(u16, u16)]) {
     for x in 0..board.labels() {
         for y in 0..board.labels() {
-            if board.beats(x, y) != pairs.contains(&(x, y)) {
-                return false;
-            }
+            assert_same(rt, (x, y), board.beats(x, y), pairs.contains(&(x, y)));
         }
     }
-    true
 }
 
-/// Whether these are the words of the labels that dominate this one.
-fn has_dominators(board: &Board, label: u16, words: &[u64]) -> bool {
-    label < board.labels() && board.dominators(label) == words
+/// The words of the labels that dominate this one, if it is a label.
+fn dominators_of(board: &Board, label: u16) -> Option<&[u64]> {
+    if label < board.labels() {
+        Some(board.dominators(label))
+    } else {
+        None
+    }
 }
 
 /// Asserts the words of the labels that dominate each of these.
 fn assert_dominators(rt: &impl Abort, board: &Board, wanted: &[(u16, [u64; 4])]) {
     for (label, words) in wanted {
-        assert_same(rt, *label, has_dominators(board, *label, words), true);
+        assert_same(
+            rt,
+            *label,
+            dominators_of(board, *label),
+            Some(words.as_slice()),
+        );
     }
 }
 
-/// Whether both are labels, the first dominates the second, and there is no other pair of the two.
-fn has_one_way(board: &Board, x: u16, y: u16) -> bool {
-    x < board.labels()
-        && y < board.labels()
-        && board.beats(x, y)
-        && !board.beats(y, x)
-        && !board.beats(x, x)
+/// Whether the first dominates the second, the second the first, and the first itself, if they are
+/// labels.
+fn ways_of(board: &Board, x: u16, y: u16) -> Option<[bool; 3]> {
+    if x < board.labels() && y < board.labels() {
+        Some([board.beats(x, y), board.beats(y, x), board.beats(x, x)])
+    } else {
+        None
+    }
 }
 
 /// Asserts the numbers of labels and pebbles of a board, and its start.
@@ -93,7 +100,7 @@ fn assert_sizes(rt: &impl Abort, board: &Board, labels: u16, pebbles: u8, start:
 fn small_boards(rt: HostRuntime) {
     let board = board_of(&rt, rt.alloc(), THREE_CYCLE);
     assert_sizes(&rt, &board, 3, 2, &[0, 0]);
-    assert!(rt; has_pairs(&board, &[(0, 2), (1, 0), (2, 1)]));
+    assert_pairs(&rt, &board, &[(0, 2), (1, 0), (2, 1)]);
     let dominators = [
         (0, [0b010, 0, 0, 0]),
         (1, [0b100, 0, 0, 0]),
@@ -102,7 +109,7 @@ fn small_boards(rt: HostRuntime) {
     assert_dominators(&rt, &board, &dominators);
     let board = board_of(&rt, rt.alloc(), LONE_LABEL);
     assert_sizes(&rt, &board, 1, 1, &[0]);
-    assert!(rt; has_pairs(&board, &[]));
+    assert_pairs(&rt, &board, &[]);
 }
 
 #[test]
@@ -111,7 +118,12 @@ fn the_largest_board(rt: HostRuntime) -> Result<(), AllocError> {
     let board = board_of(&rt, rt.alloc(), text.as_str());
     assert_sizes(&rt, &board, 256, 6, &[255, 128, 100, 64, 9, 0]);
     for (x, y) in [(255, 0), (255, 254), (1, 0), (128, 127), (64, 63)] {
-        assert_same(&rt, (x, y), has_one_way(&board, x, y), true);
+        assert_same(
+            &rt,
+            (x, y),
+            ways_of(&board, x, y),
+            Some([true, false, false]),
+        );
     }
     let dominators = [
         (0, [ALL - 1, ALL, ALL, ALL]),
@@ -130,7 +142,7 @@ fn a_cycle_of_cycles(rt: HostRuntime) {
         &rt,
         "parts of a board",
     );
-    assert!(rt; board.labels() == 9);
+    assert_eq!(rt; board.labels(), 9);
     for label in 0..9 {
         let dominated = [2, 6, 7, 8].contains(&label);
         assert_same(&rt, label, board.beats(0, label), dominated);

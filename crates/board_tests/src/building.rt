@@ -1,6 +1,6 @@
 //! Boards that are built of their parts, and the faults of such parts.
 
-use crate::assertions::assert_same;
+use crate::assertions::{assert_same, assert_text};
 use board_text::BoardKind;
 use fakes::boards::{PAIR_WITHOUT_LABELS, THREE_CYCLE};
 use fakes::{build_board, print_board};
@@ -33,10 +33,15 @@ fn built_and_printed(rt: HostRuntime) {
         "parts of a board",
     );
     let text = print_board(rt.alloc(), &board).expect(&rt, "the text of a board");
-    assert_eq!(rt; text.as_str(), THREE_CYCLE);
+    assert_text(&rt, "three labels", text.as_bytes(), THREE_CYCLE.as_bytes());
     let board = build_board(rt.alloc(), 2, 2, &[2, 2], &[(1, 0)]).expect(&rt, "parts of a board");
     let text = print_board(rt.alloc(), &board).expect(&rt, "the text of a board");
-    assert_eq!(rt; text.as_str(), PAIR_WITHOUT_LABELS);
+    assert_text(
+        &rt,
+        "no held label",
+        text.as_bytes(),
+        PAIR_WITHOUT_LABELS.as_bytes(),
+    );
 }
 
 /// Asserts the fault of parts of which the only pair is faulty, too.

@@ -10,6 +10,8 @@ mod boards;
 #[cfg(test)]
 mod building;
 #[cfg(test)]
+mod differences;
+#[cfg(test)]
 mod nested;
 #[cfg(test)]
 mod printing;

@@ -4,7 +4,7 @@ ghost use Rattle.std.specs.Prelude.{◌≡◌, IfSome, string_bytes};
 ghost use Rattle.board_text.specs.Ranges.{InRange};
 ghost use Rattle.nested_cycles.specs.NestedBoard.{IsNestedBoard};
 
-use crate::assertions::{assert_same, board_of};
+use crate::assertions::{assert_same, assert_text, board_of};
 use board_text::{Board, parse, print};
 use fakes::boards::{LONE_LABEL, THREE_CYCLE, THREE_PEBBLES};
 use fakes::{make_nested, print_board};
@@ -48,25 +48,25 @@ fn print_again(alloc: Global, text: &str) -> Option<String>
 }
 
 /// Asserts the text of the nested board of a level.
-fn assert_text(rt: &impl Abort, alloc: Global, levels: u8, pebbles: u8, wanted: &str)
+fn assert_nested(rt: &impl Abort, alloc: Global, levels: u8, pebbles: u8, wanted: &str)
     requires levels { InRange 1 6 levels }
     requires pebbles { InRange 1 6 pebbles }
 {
     let text = nested_text(rt, alloc, levels, pebbles);
-    assert_eq!(rt; text.as_str(), wanted);
+    assert_text(rt, (levels, pebbles), text.as_bytes(), wanted.as_bytes());
 }
 
 #[test]
 fn the_smallest_levels(rt: HostRuntime) {
-    assert_text(&rt, rt.alloc(), 1, 1, LONE_LABEL);
-    assert_text(&rt, rt.alloc(), 2, 2, THREE_CYCLE);
-    assert_text(&rt, rt.alloc(), 2, 3, THREE_PEBBLES);
+    assert_nested(&rt, rt.alloc(), 1, 1, LONE_LABEL);
+    assert_nested(&rt, rt.alloc(), 2, 2, THREE_CYCLE);
+    assert_nested(&rt, rt.alloc(), 2, 3, THREE_PEBBLES);
 }
 
 #[test]
 fn labels_that_the_first_dominates(rt: HostRuntime) {
     let board = nested(&rt, rt.alloc(), 3, 3);
-    assert!(rt; board.labels() == 9);
+    assert_eq!(rt; board.labels(), 9);
     for label in 0..9 {
         let dominated = [2, 6, 7, 8].contains(&label);
         assert_same(&rt, ("board", label), board.beats(0, label), dominated);
@@ -111,7 +111,7 @@ fn assert_printed_again(rt: &impl Abort, alloc: Global, text: &str) {
     let again = print_again(alloc, text)
         .or_else(|| print_again(alloc, text))
         .expect(rt, "the text of a board");
-    assert_eq!(rt; again.as_str(), text);
+    assert_text(rt, "printed again", again.as_bytes(), text.as_bytes());
 }
 
 /// The board that is read from the text of this one.
@@ -138,10 +138,27 @@ fn labels_of_the_highest_level(rt: HostRuntime) {
     let second_copy = 31_381_059_609;
     let third_copy = 62_762_119_218;
     let last = 94_143_178_826;
-    assert!(rt; nested_beats(24, second_copy, 0) && !nested_beats(24, 0, second_copy));
-    assert!(rt; nested_beats(24, 0, third_copy) && !nested_beats(24, third_copy, 0));
-    assert!(rt; nested_beats(24, third_copy, second_copy));
-    assert!(rt; nested_beats(24, 0, last) && nested_beats(24, last, second_copy));
-    assert!(rt; nested_beats(24, last, last - 1) && !nested_beats(24, last, last));
-    assert!(rt; !nested_beats(1, 0, 0));
+    let second = [
+        nested_beats(24, second_copy, 0),
+        nested_beats(24, 0, second_copy),
+    ];
+    assert_same(&rt, "the second copy", second, [true, false]);
+    let third = [
+        nested_beats(24, third_copy, 0),
+        nested_beats(24, 0, third_copy),
+    ];
+    assert_same(&rt, "the third copy", third, [false, true]);
+    let later = nested_beats(24, third_copy, second_copy);
+    assert_same(&rt, "the third over the second", later, true);
+    let ends = [
+        nested_beats(24, 0, last),
+        nested_beats(24, last, second_copy),
+    ];
+    assert_same(&rt, "the last label", ends, [true, true]);
+    let within = [
+        nested_beats(24, last, last - 1),
+        nested_beats(24, last, last),
+    ];
+    assert_same(&rt, "its own copy", within, [true, false]);
+    assert_same(&rt, "the first level", nested_beats(1, 0, 0), false);
 }

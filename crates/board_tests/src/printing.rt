@@ -1,6 +1,6 @@
 //! Boards that are read, printed and read again.
 
-use crate::assertions::{assert_same, board_of};
+use crate::assertions::{assert_same, assert_text, board_of};
 use fakes::boards::{
     CHAIN_OF_THREE, CYCLE_WITH_A_WAY_IN, CYCLE_WITHOUT_LABELS, LONE_LABEL, LONE_WITHOUT_LABEL,
     NO_PAIRS, ONE_PAIR, PAIR_WITHOUT_LABELS, SHARED_LABEL, THREE_CYCLE, THREE_PEBBLES,
@@ -13,7 +13,7 @@ use std::process::Abort;
 fn assert_printed(rt: &impl Abort, alloc: Global, text: &str) {
     let board = board_of(rt, alloc, text);
     let again = print_board(alloc, &board).expect(rt, "the text of a board");
-    assert_same(rt, text, again.as_str(), text);
+    assert_text(rt, ("bytes", text.len()), again.as_bytes(), text.as_bytes());
 }
 
 #[test]

@@ -126,7 +126,10 @@ fn answers_by_definition(board: &Board, space: &Space) -> bool
 fn ranks_of_a_chain(rt: HostRuntime) {
     let board = board_of(&rt, rt.alloc(), CHAIN_OF_THREE);
     let space = Space::of(&board).expect(&rt, "a small board");
-    assert!(rt; space.configurations() == 9 && space.pebbles() == 2 && space.labels() == 3);
+    assert_eq!(rt;
+        (space.configurations(), space.pebbles(), space.labels()),
+        (9, 2, 3)
+    );
     assert_same(&rt, "rank", rank_of(&space, &[1, 2]), Some(5));
     assert_same(&rt, "another label", space.with(5, 0, 2), 8);
     assert_same(&rt, "dominator of 5", space.dominator(&board, 5), Some(1));
@@ -137,7 +140,10 @@ fn ranks_of_a_chain(rt: HostRuntime) {
 fn gaps_of_a_chain(rt: HostRuntime) {
     let board = board_of(&rt, rt.alloc(), CHAIN_OF_THREE);
     let space = Space::of(&board).expect(&rt, "a small board");
-    assert!(rt; space.configurations() == 9 && space.pebbles() == 2 && space.gaps() == 6);
+    assert_eq!(rt;
+        (space.configurations(), space.pebbles(), space.gaps()),
+        (9, 2, 6)
+    );
     assert_same(&rt, "gaps", [space.gap(5, 0), space.gap(5, 1)], [2, 4]);
     assert_same(
         &rt,
@@ -151,7 +157,7 @@ fn gaps_of_a_chain(rt: HostRuntime) {
 fn answers_of_a_chain(rt: HostRuntime) {
     let board = board_of(&rt, rt.alloc(), CHAIN_OF_THREE);
     let space = Space::of(&board).expect(&rt, "a small board");
-    assert!(rt; space.gaps() == 6 && space.labels() == 3);
+    assert_eq!(rt; (space.gaps(), space.labels()), (6, 3));
     let answers = (
         space.member(4, 0),
         space.count_answers(&board, 4),
@@ -192,7 +198,7 @@ fn sizes(rt: HostRuntime) {
 fn a_pebble_without_a_label(rt: HostRuntime) {
     let board = board_of(&rt, rt.alloc(), LONE_WITHOUT_LABEL);
     let space = Space::of(&board).expect(&rt, "a small board");
-    assert!(rt; space.configurations() == 2 && space.pebbles() == 1);
+    assert_eq!(rt; (space.configurations(), space.pebbles()), (2, 1));
     assert_same(&rt, "places", (space.places(), space.blank()), (2, Some(1)));
     assert_same(&rt, "with its label", space.dominator(&board, 0), Some(0));
     assert_same(&rt, "without one", space.dominator(&board, 1), None);

@@ -5,7 +5,7 @@
 
 ghost use Rattle.std.specs.Prelude.{◌≡◌, ◌<◌, false, IfErr};
 
-use crate::assertions::assert_same;
+use crate::assertions::{assert_same, assert_text};
 use board_text::{Failed, ReadFault, Sink, Source, Through, read_all, write_all};
 use fakes::{Broken, Drip, Failing, Interrupted, Trickle};
 use std::alloc::{AllocError, Global};
@@ -16,41 +16,48 @@ const TEXT: &[u8] = b"board 1\nlabels 1\n";
 
 const PLENTY: usize = 100_000;
 
-/// Whether the bytes of the reader are this text, or why not all of them were read.
-fn is_read<S: Source>(
+/// Asserts that the bytes of the reader are this text, if all of them are read.
+fn read_text<S: Source>(
+    rt: &impl Abort,
     alloc: Global,
     reader: &mut S,
     limit: usize,
     text: &[u8],
-) -> Result<bool, ReadFault>
+) -> Result<(), ReadFault>
     requires unfailed { S.has_failed reader.old ≡ false }
     requires unended { S.has_ended reader.old ≡ false }
     requires limit { limit < usize.MAX }
     ensures unended { IfErr result (λ _. S.has_ended reader.new ≡ false) }
 {
     let bytes = read_all(alloc, reader, limit)?;
-    Ok(bytes.as_slice() == text)
+    assert_text(rt, ("limit", limit), bytes.as_slice(), text);
+    Ok(())
 }
 
-/// Whether the text is read from a slow reader, or why not, and whether the reader has failed.
-fn is_read_slowly(alloc: Global, good_calls: usize, limit: usize) -> (Result<bool, ReadFault>, bool)
+/// The answer of a slow reader of the text, and whether it has failed.
+fn read_slowly(
+    rt: &impl Abort,
+    alloc: Global,
+    good_calls: usize,
+    limit: usize,
+) -> (Result<(), ReadFault>, bool)
     requires { limit < usize.MAX }
 {
     let mut reader = Drip::new(TEXT, good_calls);
-    let mut answer = is_read(alloc, &mut reader, limit, TEXT);
+    let mut answer = read_text(rt, alloc, &mut reader, limit, TEXT);
     if answer == Err(ReadFault::Memory) {
         reader = Drip::new(TEXT, good_calls);
-        answer = is_read(alloc, &mut reader, limit, TEXT);
+        answer = read_text(rt, alloc, &mut reader, limit, TEXT);
     }
     (answer, reader.failed())
 }
 
-/// Whether the text is read from a slice, or why not.
-fn is_read_at_once(alloc: Global, text: &[u8], limit: usize) -> Result<bool, ReadFault>
+/// The answer of a reader that gives the text at once.
+fn read_at_once(rt: &impl Abort, alloc: Global, text: &[u8], limit: usize) -> Result<(), ReadFault>
     requires { limit < usize.MAX }
 {
-    match is_read(alloc, &mut Through::new(text), limit, text) {
-        Err(ReadFault::Memory) => is_read(alloc, &mut Through::new(text), limit, text),
+    match read_text(rt, alloc, &mut Through::new(text), limit, text) {
+        Err(ReadFault::Memory) => read_text(rt, alloc, &mut Through::new(text), limit, text),
         answer => answer,
     }
 }
@@ -58,21 +65,18 @@ fn is_read_at_once(alloc: Global, text: &[u8], limit: usize) -> Result<bool, Rea
 #[test]
 fn reads_of_one_byte(rt: HostRuntime) {
     for good_calls in 0..TEXT.len() + 1 {
-        let answer = is_read_slowly(rt.alloc(), good_calls, PLENTY);
+        let answer = read_slowly(&rt, rt.alloc(), good_calls, PLENTY);
         assert_same(&rt, good_calls, answer, (Err(ReadFault::Read), true));
     }
     let calls = TEXT.len() + 1;
     let answers = [
-        is_read_slowly(rt.alloc(), calls, PLENTY),
-        is_read_slowly(rt.alloc(), calls, TEXT.len()),
-        is_read_slowly(rt.alloc(), calls, TEXT.len() - 1),
-        is_read_slowly(rt.alloc(), calls, 0),
+        read_slowly(&rt, rt.alloc(), calls, PLENTY),
+        read_slowly(&rt, rt.alloc(), calls, TEXT.len()),
+        read_slowly(&rt, rt.alloc(), calls, TEXT.len() - 1),
+        read_slowly(&rt, rt.alloc(), calls, 0),
     ];
     let limit = (Err(ReadFault::Limit), false);
-    assert_eq!(rt;
-        answers,
-        [(Ok(true), false), (Ok(true), false), limit, limit]
-    );
+    assert_eq!(rt; answers, [(Ok(()), false), (Ok(()), false), limit, limit]);
 }
 
 #[test]
@@ -80,15 +84,12 @@ fn reads_of_many_bytes(rt: HostRuntime) -> Result<(), AllocError> {
     let text = vec![in rt.alloc(); 7; 20_000].or_else(|_| vec![in rt.alloc(); 7; 20_000])?;
     let text = text.as_slice();
     let answers = [
-        is_read_at_once(rt.alloc(), text, PLENTY),
-        is_read_at_once(rt.alloc(), text, 20_000),
-        is_read_at_once(rt.alloc(), text, 19_999),
-        is_read_at_once(rt.alloc(), &[], 0),
+        read_at_once(&rt, rt.alloc(), text, PLENTY),
+        read_at_once(&rt, rt.alloc(), text, 20_000),
+        read_at_once(&rt, rt.alloc(), text, 19_999),
+        read_at_once(&rt, rt.alloc(), &[], 0),
     ];
-    assert_eq!(rt;
-        answers,
-        [Ok(true), Ok(true), Err(ReadFault::Limit), Ok(true)]
-    );
+    assert_eq!(rt; answers, [Ok(()), Ok(()), Err(ReadFault::Limit), Ok(())]);
     Ok(())
 }
 
@@ -97,10 +98,10 @@ fn reads_of_many_bytes(rt: HostRuntime) -> Result<(), AllocError> {
 fn assert_first_error_fails<R: Read + Drop>(rt: &impl Abort, alloc: Global, inner: R) {
     let mut reader = Through::new(inner);
     assert!(rt; !Source::failed(&reader));
-    let mut answer = is_read(alloc, &mut reader, PLENTY, TEXT);
+    let mut answer = read_text(rt, alloc, &mut reader, PLENTY, TEXT);
     if answer == Err(ReadFault::Memory) {
         assert!(rt; !Source::failed(&reader));
-        answer = is_read(alloc, &mut reader, PLENTY, TEXT);
+        answer = read_text(rt, alloc, &mut reader, PLENTY, TEXT);
     }
     assert_eq!(rt; answer, Err(ReadFault::Read));
     assert!(rt; Source::failed(&reader));
@@ -124,10 +125,8 @@ fn assert_written_slowly(
 ) {
     let mut writer: Trickle<32> = Trickle::new(good_calls, failing);
     let answer = write_all(&mut writer, text);
-    assert_eq!(rt;
-        (answer, writer.failed(), writer.taken()),
-        (wanted.0, wanted.1, taken)
-    );
+    assert_same(rt, good_calls, (answer, writer.failed()), wanted);
+    assert_text(rt, good_calls, writer.taken(), taken);
 }
 
 #[test]
@@ -168,5 +167,5 @@ fn writers_of_std(rt: HostRuntime) {
     let (answer, has_failed, cursor) = write_through(Cursor::new([0; 17]));
     assert_same(&rt, "room enough", (answer, has_failed), (Ok(()), false));
     let bytes = cursor.into_inner();
-    assert_eq!(rt; bytes.as_slice(), TEXT);
+    assert_text(&rt, "room enough", bytes.as_slice(), TEXT);
 }

@@ -1,6 +1,6 @@
 //! Documents that are read and printed, and the faults of those that are none.
 
-use crate::assertions::{assert_same, board_of};
+use crate::assertions::{assert_same, assert_text, board_of};
 use crate::documents::{print_document, read_document};
 use fakes::boards::{
     CHAIN_OF_THREE, CYCLE_WITH_A_WAY_IN, CYCLE_WITHOUT_LABELS, LONE_WITHOUT_LABEL, ONE_PAIR,
@@ -80,7 +80,7 @@ fn assert_printed(rt: &impl Abort, alloc: Global, board: &str, text: &str) {
     let space = space_of(rt, alloc, board);
     let proof = read_document(alloc, &space, text.as_bytes()).expect(rt, "a document");
     let again = print_document(alloc, &space, &proof).expect(rt, "the text of a document");
-    assert_same(rt, text, again.as_str(), text);
+    assert_text(rt, text, again.as_bytes(), text.as_bytes());
 }
 
 #[test]

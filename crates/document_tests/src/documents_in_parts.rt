@@ -3,7 +3,7 @@
 ghost use Rattle.std.specs.Prelude.{◌≡◌, ◌≤◌};
 ghost use Rattle.proof_text.specs.Proof.{IsDocument};
 
-use crate::assertions::{assert_same, board_of};
+use crate::assertions::{assert_text, board_of};
 use crate::documents::print_document;
 use crate::strategy_documents::document_of;
 use board_text::{Board, Memory};
@@ -41,7 +41,7 @@ fn assert_one_text(rt: &(impl Abort + Threads + Sync), alloc: Global, board: &Bo
     let proof = document_of(alloc, board, &values).expect(rt, "a document");
     let whole = print_document(alloc, values.space(), &proof).expect(rt, "its text");
     let text = printed_in_parts(rt, alloc, values.space(), &proof, parts).expect(rt, "in parts");
-    assert_same(rt, ("parts", parts), text.as_str(), whole.as_str());
+    assert_text(rt, ("parts", parts), text.as_bytes(), whole.as_bytes());
 }
 
 #[test]

@@ -5,7 +5,7 @@
 
 ghost use Rattle.std.specs.Prelude.{◌≡◌};
 
-use crate::assertions::assert_same;
+use crate::assertions::{assert_same, assert_text};
 use crate::documents::print_document;
 use crate::drawn_boards::drawn_board;
 use crate::strategy_documents::document_of;
@@ -66,7 +66,7 @@ fn assert_same_answers(rt: &impl Abort, alloc: Global, seed: u64) -> (bool, bool
     let by_classes = values_by_classes(alloc, &board).expect(rt, "values by classes");
     let wanted = document_text(rt, alloc, &board, &by_ranks);
     let found = document_text(rt, alloc, &board, &by_classes);
-    assert_same(rt, ("document", seed), found.as_str(), wanted.as_str());
+    assert_text(rt, ("document", seed), found.as_bytes(), wanted.as_bytes());
     assert_same_report(rt, seed, &board, &by_classes, &by_ranks);
     let lasts = start_value(&board, &by_ranks) == Some(Value::Forever);
     (board.version() == 2, lasts)

@@ -6,7 +6,7 @@
 ghost use Rattle.std.specs.Prelude.{◌≡◌, IfOk};
 ghost use Rattle.proof_text.specs.Proof.{IsDocument};
 
-use crate::assertions::{assert_same, board_of};
+use crate::assertions::{assert_same, assert_text, board_of};
 use crate::documents::{check_document, print_document};
 use board_text::{Board, Memory};
 use fakes::boards::{
@@ -41,19 +41,19 @@ pub(crate) fn document_of(alloc: Global, board: &Board, values: &Values) -> Resu
 }
 
 /// Asserts that the document of a board with these values has this text.
-fn assert_text(rt: &impl Abort, alloc: Global, board: &Board, values: &Values, text: &str)
+fn assert_written(rt: &impl Abort, alloc: Global, board: &Board, values: &Values, text: &str)
     requires { values.now ≡ board.now }
 {
     let proof = document_of(alloc, board, values).expect(rt, "a document");
     let written = print_document(alloc, values.space(), &proof).expect(rt, "its text");
-    assert_same(rt, text, written.as_str(), text);
+    assert_text(rt, text, written.as_bytes(), text.as_bytes());
 }
 
 /// Asserts that the document of the board with the first text has the second.
 fn assert_document<S: ListStore + Drop>(rt: &impl Abort, alloc: Global, board: &str, text: &str) {
     let board = board_of(rt, alloc, board);
     let values = values_over::<S>(alloc, &board).expect(rt, "values");
-    assert_text(rt, alloc, &board, &values, text);
+    assert_written(rt, alloc, &board, &values, text);
 }
 
 #[test]
@@ -229,7 +229,7 @@ fn make_in_turn(rt: &impl Abort, alloc: Global, board: &Board, text: &str) {
         match document(alloc, board, &values) {
             Ok(proof) => {
                 let written = print_document(alloc, values.space(), &proof).expect(rt, "a text");
-                assert_same(rt, "the text", written.as_str(), text);
+                assert_text(rt, "the text", written.as_bytes(), text.as_bytes());
             }
             Err(Memory) => {
                 assert_same(rt, "refused before", was_refused, false);

@@ -32,7 +32,7 @@ impl<'a> Drip<'a> {
     }
 
     /// The bytes that it hasn't given yet.
-    pub fn rest(&self) -> &[u8] {
+    pub fn rest(&self) -> &'a [u8] {
         self.rest
     }
 }

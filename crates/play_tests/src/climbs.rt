@@ -3,12 +3,13 @@
 
 ghost use Rattle.board_text.specs.Ranges.{InRange};
 
-use board_text::{Sink, Source};
-use fakes::{Drip, Failing, Outcome, Trickle, comes_right};
+use crate::outcomes::{Outcome, PLENTY, Writer, assert_play};
+use board_text::Source;
+use fakes::{Drip, Failing};
 use player::{PlayEnd, PlayFault, play_nested};
 use std::alloc::Global;
-
-const PLENTY: usize = 1000;
+use std::fmt::Debug;
+use std::process::Abort;
 
 const LINES: &[u8] = b"0\n1\n2\n0\nquit\n";
 
@@ -43,64 +44,64 @@ const TWO_LEVELS: Climb = Climb {
     ..THREE_LEVELS
 };
 
-/// The outcome of a play that is to come to this answer and to write this, or a prefix of it if it
-/// is refused memory. Its ends fail exactly if the answer says so.
-fn outcome(
-    alloc: Global,
-    climb: Climb,
-    wanted: Result<PlayEnd, PlayFault>,
-    written: &[u8],
-) -> Outcome
+/// What a play comes to.
+fn outcome(alloc: Global, climb: Climb) -> Outcome
     requires { InRange 1 24 climb.levels }
 {
     let mut lines = Drip::new(climb.lines, climb.reads);
-    let mut writer = Trickle::<200>::new(climb.writes, climb.failing);
+    let mut writer = Writer::new(climb.writes, climb.failing);
     let answer = play_nested(alloc, climb.levels, &mut lines, &mut writer);
-    let told = lines.failed() == (answer == Err(PlayFault::Read))
-        && writer.failed() == (answer == Err(PlayFault::Write));
-    let is_refused = answer == Err(PlayFault::Memory);
-    let is_right = if is_refused {
-        written.starts_with(writer.taken())
-    } else {
-        answer == wanted && writer.taken() == written
-    };
-    Outcome::of(is_refused, told && is_right)
+    Outcome {
+        answer,
+        read_failed: lines.failed(),
+        writer,
+    }
 }
 
-/// Whether a play comes to this answer and writes this. It is asked once more if it was refused
-/// memory.
-fn serves(alloc: Global, climb: Climb, wanted: Result<PlayEnd, PlayFault>, written: &[u8]) -> bool
+/// Asserts the answer of a play and the bytes that it writes.
+fn assert_climb<P: Debug + Copy>(
+    rt: &impl Abort,
+    alloc: Global,
+    place: P,
+    climb: Climb,
+    wanted: Result<PlayEnd, PlayFault>,
+    written: &[u8],
+)
     requires { InRange 1 24 climb.levels }
 {
-    comes_right(
-        || -> Outcome
-            requires { InRange 1 24 climb.levels }
-        { outcome(alloc, climb, wanted, written) },
-    )
+    let play = || -> Outcome
+        requires { InRange 1 24 climb.levels }
+    { outcome(alloc, climb) };
+    assert_play(rt, place, play, wanted, written);
 }
 
-/// Whether a play of the lines at the second level comes to this answer and writes this.
-fn answers(
+/// Asserts the answer of a play of these lines at the second level, and the bytes that it writes.
+fn assert_lines(
+    rt: &impl Abort,
     alloc: Global,
+    place: &str,
     lines: &'static [u8],
     wanted: Result<PlayEnd, PlayFault>,
     written: &[u8],
-) -> bool {
-    serves(
-        alloc,
-        Climb {
-            lines,
-            ..TWO_LEVELS
-        },
-        wanted,
-        written,
-    )
+) {
+    let climb = Climb {
+        lines,
+        ..TWO_LEVELS
+    };
+    assert_climb(rt, alloc, place, climb, wanted, written);
 }
 
 #[test]
 fn requests_at_the_third_level(rt: HostRuntime) {
     let stopped = Ok(PlayEnd::Stopped { requests: 4 });
-    assert!(rt; serves(rt.alloc(), THREE_LEVELS, stopped, REPLIES));
+    assert_climb(
+        &rt,
+        rt.alloc(),
+        "the third level",
+        THREE_LEVELS,
+        stopped,
+        REPLIES,
+    );
 }
 
 #[test]
@@ -112,16 +113,23 @@ fn a_word_without_digits(rt: HostRuntime) {
     };
     let stopped = Ok(PlayEnd::Stopped { requests: 1 });
     let written = b"levels 1\nat .\npebble 0 takes .\nat .\nstopped after 1 requests\n";
-    assert!(rt; serves(rt.alloc(), climb, stopped, written));
+    assert_climb(&rt, rt.alloc(), "the first level", climb, stopped, written);
 }
+
+/// Lines that make one request, for each way in which they end.
+const ENDINGS: [(&str, &[u8]); 3] = [
+    ("with a line feed", b"1\n"),
+    ("without a line feed", b"1"),
+    ("by quit", b"1\nquit\n0\n"),
+];
 
 #[test]
 fn the_input_ends(rt: HostRuntime) {
     let stopped = Ok(PlayEnd::Stopped { requests: 1 });
     let written = b"levels 2\nat 0 0\npebble 1 takes 1\nat 0 1\nstopped after 1 requests\n";
-    assert!(rt; answers(rt.alloc(), b"1\n", stopped, written));
-    assert!(rt; answers(rt.alloc(), b"1", stopped, written));
-    assert!(rt; answers(rt.alloc(), b"1\nquit\n0\n", stopped, written));
+    for (ending, lines) in &ENDINGS {
+        assert_lines(&rt, rt.alloc(), ending, lines, stopped, written);
+    }
 }
 
 #[test]
@@ -129,7 +137,8 @@ fn other_lines_are_no_requests(rt: HostRuntime) {
     let none = Ok(PlayEnd::Stopped { requests: 0 });
     let written =
         b"levels 2\nat 0 0\nnot a request\nnot a request\nnot a request\nnot a request\nnot a request\nstopped after 0 requests\n";
-    assert!(rt; answers(rt.alloc(), b"2\n00\n\n.\nQuit\n", none, written));
+    let lines = b"2\n00\n\n.\nQuit\n";
+    assert_lines(&rt, rt.alloc(), "five lines", lines, none, written);
 }
 
 #[test]
@@ -137,9 +146,16 @@ fn long_lines(rt: HostRuntime) {
     let none = Ok(PlayEnd::Stopped { requests: 0 });
     let longest = b"xxxxxxxxxxxxxxxxxxxxxxxxxxxxxxxxxxxxxxxxxxxxxxxxxxxxxxxxxxxxxxxx\n";
     let refused = b"levels 2\nat 0 0\nnot a request\nstopped after 0 requests\n";
-    assert!(rt; answers(rt.alloc(), longest, none, refused));
+    assert_lines(&rt, rt.alloc(), "64 bytes", longest, none, refused);
     let longer = b"xxxxxxxxxxxxxxxxxxxxxxxxxxxxxxxxxxxxxxxxxxxxxxxxxxxxxxxxxxxxxxxxx\n";
-    assert!(rt; answers(rt.alloc(), longer, Err(PlayFault::Limit), OPENED));
+    assert_lines(
+        &rt,
+        rt.alloc(),
+        "65 bytes",
+        longer,
+        Err(PlayFault::Limit),
+        OPENED,
+    );
 }
 
 /// The bytes that are written by the time that this number of bytes of the lines is read.
@@ -162,10 +178,8 @@ fn a_read_fails_at_each_call(rt: HostRuntime) {
             ..THREE_LEVELS
         };
         let written = replies_after(reads);
-        assert!(rt;
-            serves(rt.alloc(), climb, Err(PlayFault::Read), written),
-            "at call {reads}"
-        );
+        let fault = Err(PlayFault::Read);
+        assert_climb(&rt, rt.alloc(), ("reads", reads), climb, fault, written);
     }
 }
 
@@ -179,10 +193,8 @@ fn a_write_fails_at_each_call(rt: HostRuntime) {
                 ..THREE_LEVELS
             };
             let written = REPLIES.get(..writes).unwrap_or(b"");
-            assert!(rt;
-                serves(rt.alloc(), climb, Err(PlayFault::Write), written),
-                "at call {writes}"
-            );
+            let fault = Err(PlayFault::Write);
+            assert_climb(&rt, rt.alloc(), ("writes", writes), climb, fault, written);
         }
     }
 }

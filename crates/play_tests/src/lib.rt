@@ -6,6 +6,8 @@ mod assertions;
 #[cfg(test)]
 mod climbs;
 #[cfg(test)]
+mod outcomes;
+#[cfg(test)]
 mod plays;
 #[cfg(test)]
 mod plays_in_memory;

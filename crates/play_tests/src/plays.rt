@@ -2,12 +2,13 @@
 
 ghost use Rattle.std.specs.Prelude.{◌≡◌};
 
-use crate::assertions::{assert_same, board_of};
-use board_text::Board;
+use crate::assertions::board_of;
+use crate::outcomes::{Outcome, PLENTY, Writer, assert_play};
+use board_text::{Board, Source};
 use fakes::boards::{CHAIN_OF_THREE, THREE_CYCLE};
 use fakes::plays::{ANSWERS, ASKED, NO_STRATEGY, REPLIES, REQUESTS};
-use fakes::{Drip, Failing, Outcome, Trickle, comes_right};
-use player::{PlayEnd, PlayFault, play_adversary_side, play_labeller_side};
+use fakes::{Drip, Failing};
+use player::{PlayEnd, play_adversary_side, play_labeller_side};
 use solved_boards::values_of;
 use solver::Values;
 use std::alloc::Global;
@@ -20,59 +21,45 @@ enum Person {
     Labeller,
 }
 
-/// The outcome of a play on a board that is to end so and to write this, or a prefix of it if it is
-/// refused memory.
-fn outcome(
-    alloc: Global,
-    board: &Board,
-    values: &Values,
-    person: Person,
-    lines: &[u8],
-    wanted: PlayEnd,
-    written: &[u8],
-) -> Outcome
+/// What a play on a board comes to.
+fn outcome(alloc: Global, board: &Board, values: &Values, person: Person, lines: &[u8]) -> Outcome
     requires { values.now ≡ board.now }
 {
-    let mut reader = Drip::new(lines, 1000);
-    let mut writer = Trickle::<200>::new(1000, Failing::Refuses);
-    let end = match person {
+    let mut reader = Drip::new(lines, PLENTY);
+    let mut writer = Writer::new(PLENTY, Failing::Refuses);
+    let answer = match person {
         Person::Adversary => play_adversary_side(alloc, board, values, &mut reader, &mut writer),
         Person::Labeller => play_labeller_side(alloc, board, values, &mut reader, &mut writer),
     };
-    let is_refused = end == Err(PlayFault::Memory);
-    let is_right = if is_refused {
-        written.starts_with(writer.taken())
-    } else {
-        end == Ok(wanted) && writer.taken() == written
-    };
-    Outcome::of(is_refused, is_right)
+    Outcome {
+        answer,
+        read_failed: reader.failed(),
+        writer,
+    }
 }
 
-/// Asserts the end of a play on a board, and the bytes that it writes. A play that was refused
-/// memory is played once more.
-fn assert_play(
+/// Asserts the end of a play on a board, and the bytes that it writes.
+fn assert_board_play(
     rt: &impl Abort,
     alloc: Global,
-    board: &str,
+    text: &str,
     person: Person,
     lines: &[u8],
     wanted: PlayEnd,
     written: &[u8],
 ) {
-    let board = board_of(rt, alloc, board);
+    let board = board_of(rt, alloc, text);
     let values = values_of(alloc, &board).expect(rt, "values");
-    let is_right = comes_right(
-        || -> Outcome
-            requires { values ≡ board }
-        { outcome(alloc, &board, &values, person, lines, wanted, written) },
-    );
-    assert_same(rt, wanted, is_right, true);
+    let play = || -> Outcome
+        requires { values ≡ board }
+    { outcome(alloc, &board, &values, person, lines) };
+    assert_play(rt, (person, text), play, Ok(wanted), written);
 }
 
 #[test]
 fn a_person_asks(rt: HostRuntime) {
     let stuck = PlayEnd::Stuck { requests: 2 };
-    assert_play(
+    assert_board_play(
         &rt,
         rt.alloc(),
         CHAIN_OF_THREE,
@@ -88,7 +75,7 @@ fn a_person_asks_on_the_cycle(rt: HostRuntime) {
     let written =
         b"forever\nat 0 0\npebble 0 takes 1\nat 1 0\npebble 0 takes 1\nat 1 0\npebble 1 takes 2\nat 1 2\nstopped after 3 requests\n";
     let stopped = PlayEnd::Stopped { requests: 3 };
-    assert_play(
+    assert_board_play(
         &rt,
         rt.alloc(),
         THREE_CYCLE,
@@ -102,7 +89,7 @@ fn a_person_asks_on_the_cycle(rt: HostRuntime) {
 #[test]
 fn a_person_answers(rt: HostRuntime) {
     let stuck = PlayEnd::Stuck { requests: 2 };
-    assert_play(
+    assert_board_play(
         &rt,
         rt.alloc(),
         CHAIN_OF_THREE,
@@ -115,7 +102,7 @@ fn a_person_answers(rt: HostRuntime) {
 
 #[test]
 fn no_strategy_against_a_person(rt: HostRuntime) {
-    assert_play(
+    assert_board_play(
         &rt,
         rt.alloc(),
         THREE_CYCLE,

@@ -3,10 +3,10 @@
 
 ghost use Rattle.std.specs.Prelude.{◌≡◌};
 
-use crate::assertions::assert_same;
-use board_text::Board;
-use fakes::{Drip, Failing, Outcome, Shape, Trickle, comes_right, shaped};
-use player::{PlayEnd, PlayFault, play_adversary, play_labeller};
+use crate::outcomes::{Outcome, PLENTY, Writer, assert_play};
+use board_text::{Board, Source};
+use fakes::{Drip, Failing, Shape, shaped};
+use player::{PlayEnd, play_adversary, play_labeller};
 use positions::Side;
 use solved_boards::numbered_values_of;
 use solver::NumberedValues;
@@ -21,42 +21,37 @@ struct Wanted {
     written: &'static [u8],
 }
 
-/// The outcome of a play that is to be as wanted, or to write a prefix of the text if it is refused
-/// memory.
+/// What a play on a board comes to.
 fn outcome(
     alloc: Global,
     board: &Board,
     values: &NumberedValues,
     person: Side,
-    wanted: Wanted,
+    lines: &[u8],
 ) -> Outcome
     requires { values.now.board ≡ board.now }
 {
-    let mut reader = Drip::new(wanted.lines, 1000);
-    let mut writer = Trickle::<200>::new(1000, Failing::Refuses);
-    let end = match person {
+    let mut reader = Drip::new(lines, PLENTY);
+    let mut writer = Writer::new(PLENTY, Failing::Refuses);
+    let answer = match person {
         Side::Adversary => play_adversary(alloc, board, values, &mut reader, &mut writer),
         Side::Labeller => play_labeller(alloc, board, values, &mut reader, &mut writer),
     };
-    let is_refused = end == Err(PlayFault::Memory);
-    let is_right = if is_refused {
-        wanted.written.starts_with(writer.taken())
-    } else {
-        end == Ok(wanted.end) && writer.taken() == wanted.written
-    };
-    Outcome::of(is_refused, is_right)
+    Outcome {
+        answer,
+        read_failed: reader.failed(),
+        writer,
+    }
 }
 
-/// Asserts a play on the order. One that was refused memory is played once more.
-fn assert_play(rt: &impl Abort, alloc: Global, person: Side, wanted: Wanted) {
+/// Asserts a play on the order.
+fn assert_order_play(rt: &impl Abort, alloc: Global, person: Side, wanted: Wanted) {
     let board = shaped(alloc, Shape::Order, 103, 3).expect(rt, "a board");
     let values = numbered_values_of(alloc, &board).expect(rt, "values");
-    let is_right = comes_right(
-        || -> Outcome
-            requires { values.board ≡ board }
-        { outcome(alloc, &board, &values, person, wanted) },
-    );
-    assert_same(rt, wanted.end, is_right, true);
+    let play = || -> Outcome
+        requires { values.board ≡ board }
+    { outcome(alloc, &board, &values, person, wanted.lines) };
+    assert_play(rt, person, play, Ok(wanted.end), wanted.written);
 }
 
 #[test]
@@ -68,7 +63,7 @@ fn a_person_asks_without_ranks(rt: HostRuntime) {
             pebble 1 takes 2\nat 1 2 0\nnot a request\npebble 1 takes 2\nat 1 2 0\n\
             stopped after 3 requests\n",
     };
-    assert_play(&rt, rt.alloc(), Side::Adversary, wanted);
+    assert_order_play(&rt, rt.alloc(), Side::Adversary, wanted);
 }
 
 #[test]
@@ -79,5 +74,5 @@ fn a_person_answers_without_ranks(rt: HostRuntime) {
         written: b"value 102\nat 0 0 0\nask 0\nat 1 0 0\nask 1\nnot an answer\n\
             at 1 102 0\nask 0\nno label for pebble 0 after 2 requests\n",
     };
-    assert_play(&rt, rt.alloc(), Side::Labeller, wanted);
+    assert_order_play(&rt, rt.alloc(), Side::Labeller, wanted);
 }

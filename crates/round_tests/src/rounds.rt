@@ -91,7 +91,7 @@ fn assert_share(
     seat: usize,
     wanted: Share<'_>,
 ) {
-    assert!(rt; share_of(round, seat) == Some(wanted), "at seat {seat}");
+    assert_same(rt, ("seat", seat), share_of(round, seat), Some(wanted));
 }
 
 /// Asserts the answers to steps, one after the other.
@@ -427,8 +427,9 @@ fn assert_drawn_order(rt: &impl Abort, alloc: Global, solver: &Solver<PlainLists
         apply(&mut round, Step::Join { into: 0, from: 1 }),
         Ok(Seen::Joined),
     );
-    let is_won = share_of(&round, 0).is_some_and(|share| has_each(share.won, &SHARED));
-    assert!(rt; is_won && !has_work(&round, 0), "at {state}");
+    let share = share_of(&round, 0);
+    let is_won = share.is_some_and(|share| has_each(share.won, &SHARED));
+    assert!(rt; is_won && !has_work(&round, 0), "at {state}: {share:?}");
 }
 
 #[test]

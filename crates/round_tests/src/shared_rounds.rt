@@ -152,7 +152,10 @@ pub(crate) fn assert_won(
     requires { IsOf round seat }
 {
     match round.close(seat) {
-        Ok(closed) => assert!(rt; has_each(closed.won(), wanted)),
+        Ok(closed) => {
+            let won = closed.won();
+            assert!(rt; has_each(won, wanted), "won {won:?}, and not {wanted:?}");
+        }
         Err(_) => panic!(rt; "a round that is done was not closed"),
     }
 }

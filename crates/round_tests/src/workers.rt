@@ -345,7 +345,10 @@ fn sixteen_workers_on_the_chain(rt: HostRuntime) {
     for round in 0..64 {
         let (all, least, most) = shares(&watch, round).expect(&rt, "shares");
         assert_same(&rt, round, all, u64::from(126 - 2 * round));
-        assert!(&rt; most <= least.saturating_add(1), "round {round}");
+        assert!(&rt;
+            most <= least.saturating_add(1),
+            "round {round}: {least} to {most}"
+        );
     }
     assert_same(
         &rt,

@@ -64,42 +64,40 @@ fn unlink<S: ListStore>(store: &mut S, node: u32) -> bool
     }
 }
 
-/// Whether a list is read as these nodes, from its first node on and from its last node on.
-fn reads_as<S: ListStore>(store: &S, of: u32, nodes: &[u32]) -> bool
+/// Asserts that a list is read as these nodes, from its first node on and from its last node on.
+fn assert_list<S: ListStore>(rt: &impl Abort, place: &str, store: &S, of: u32, nodes: &[u32])
     requires { of < (S.state store.now).lists }
 {
     let mut at = store.first(of);
     for wanted in nodes {
-        match at {
-            Some(node) if node == *wanted && store.home(node) == Some(of) => at = store.next(node),
-            _ => return false,
-        }
+        assert_same(rt, (place, "forwards"), at, Some(*wanted));
+        let node = at.expect(rt, place);
+        assert_same(rt, (place, "home of", node), store.home(node), Some(of));
+        at = store.next(node);
     }
-    if at.is_some() || store.len(of) as usize != nodes.len() {
-        return false;
-    }
+    assert_same(rt, (place, "after the last"), at, None);
+    assert_same(rt, (place, "length"), store.len(of) as usize, nodes.len());
     at = store.last(of);
     for wanted in nodes.iter().rev() {
-        match at {
-            Some(node) if node == *wanted => at = store.prev(node),
-            _ => return false,
-        }
+        assert_same(rt, (place, "backwards"), at, Some(*wanted));
+        at = store.prev(at.expect(rt, place));
     }
-    at.is_none()
+    assert_same(rt, (place, "before the first"), at, None);
 }
 
-/// Whether a node is read as being in no list.
-fn is_loose<S: ListStore>(store: &S, node: u32) -> bool
+/// The list of a node, and the nodes after and before it there.
+fn around<S: ListStore>(store: &S, node: u32) -> [Option<u32>; 3]
     requires { node < (S.state store.now).nodes }
 {
-    store.home(node).is_none() && store.next(node).is_none() && store.prev(node).is_none()
+    [store.home(node), store.next(node), store.prev(node)]
 }
 
-/// Whether the two lists of a store are read as these nodes.
-fn both_read_as<S: ListStore>(store: &S, first: &[u32], second: &[u32]) -> bool
+/// Asserts that the two lists of a store are read as these nodes.
+fn assert_both<S: ListStore>(rt: &impl Abort, place: &str, store: &S, first: &[u32], second: &[u32])
     requires { (S.state store.now).lists ≡ 2 }
 {
-    reads_as(store, 0, first) && reads_as(store, 1, second)
+    assert_list(rt, place, store, 0, first);
+    assert_list(rt, place, store, 1, second);
 }
 
 /// Pushes of three nodes out of four, of which one is unlinked.
@@ -109,16 +107,17 @@ fn push_and_unlink<S: ListStore>(rt: &impl Abort, store: &mut S)
     ensures nodes { (S.state store.new).nodes ≡ 4 }
     ensures lists { (S.state store.new).lists ≡ 2 }
 {
-    assert!(rt; both_read_as(store, &[], &[]));
+    assert_both(rt, "empty", store, &[], &[]);
     assert!(rt; push(store, 0, 3) & push(store, 0, 1) & push(store, 0, 2));
-    assert!(rt; reads_as(store, 0, &[3, 1, 2]));
+    assert_list(rt, "three nodes", store, 0, &[3, 1, 2]);
     assert!(rt; unlink(store, 1));
-    assert!(rt; reads_as(store, 0, &[3, 2]) && is_loose(store, 1));
-    let around = [store.next(3), store.prev(2), store.home(1)];
+    assert_list(rt, "without 1", store, 0, &[3, 2]);
+    assert_same(rt, "1", around(store, 1), [None; 3]);
+    let beside = [store.next(3), store.prev(2), store.home(1)];
     assert_same(
         rt,
         "after 3, before 2, home of 1",
-        around,
+        beside,
         [Some(2), Some(3), None],
     );
 }
@@ -129,12 +128,13 @@ fn move_between<S: ListStore>(rt: &impl Abort, store: &mut S)
     requires lists { (S.state store.old).lists ≡ 2 }
 {
     store.move_to(3, 1);
-    assert!(rt; both_read_as(store, &[2], &[3]));
+    assert_both(rt, "3 is moved", store, &[2], &[3]);
     store.move_to(2, 0);
-    assert!(rt; both_read_as(store, &[2], &[3]));
+    assert_both(rt, "2 stays", store, &[2], &[3]);
     store.move_to(1, 1);
     store.move_to(3, 1);
-    assert!(rt; both_read_as(store, &[2], &[1, 3]) && is_loose(store, 0));
+    assert_both(rt, "1 before 3", store, &[2], &[1, 3]);
+    assert_same(rt, "0", around(store, 0), [None; 3]);
 }
 
 /// Pushes, unlinks and moves of four nodes in two lists.
@@ -157,7 +157,7 @@ fn three_nodes<S: ListStore>(rt: &impl Abort, store: &mut S)
     assert_same(rt, "ends", ends, [Some(1), Some(1), None, None]);
     assert_same(rt, "length", store.len(0), 1);
     assert!(rt; push(store, 0, 0));
-    assert!(rt; reads_as(store, 0, &[1, 0]));
+    assert_list(rt, "0 is back", store, 0, &[1, 0]);
     assert_same(rt, "before 0", store.prev(0), Some(1));
 }
 
@@ -165,22 +165,25 @@ fn three_nodes<S: ListStore>(rt: &impl Abort, store: &mut S)
 fn empty_stores<S: ListStore + Drop>(rt: &impl Abort, alloc: Global) {
     let _nothing: S = make(rt, alloc, 0, 0);
     let no_node: S = make(rt, alloc, 0, 1);
-    assert!(rt; reads_as(&no_node, 0, &[]));
+    assert_list(rt, "no node", &no_node, 0, &[]);
     let no_list: S = make(rt, alloc, 1, 0);
-    assert!(rt; is_loose(&no_list, 0));
+    assert_same(rt, "no list", around(&no_list, 0), [None; 3]);
 }
 
 /// A store of one node and one list.
 fn one_node<S: ListStore + Drop>(rt: &impl Abort, alloc: Global) {
     let mut one: S = make(rt, alloc, 1, 1);
-    assert!(rt; push(&mut one, 0, 0) && reads_as(&one, 0, &[0]));
+    assert!(rt; push(&mut one, 0, 0));
+    assert_list(rt, "one node", &one, 0, &[0]);
     one.move_to(0, 0);
-    assert!(rt; reads_as(&one, 0, &[0]));
-    assert!(rt; unlink(&mut one, 0) && reads_as(&one, 0, &[]) && is_loose(&one, 0));
+    assert_list(rt, "moved to its list", &one, 0, &[0]);
+    assert!(rt; unlink(&mut one, 0));
+    assert_list(rt, "no node any more", &one, 0, &[]);
+    assert_same(rt, "the node", around(&one, 0), [None; 3]);
 }
 
-/// Whether a vector of the number 7 has these numbers when a list is appended to it.
-fn appended_is<S: ListStore>(store: &S, alloc: Global, of: u32, wanted: &[u32]) -> bool
+/// Asserts the numbers of a vector of the number 7 when a list is appended to it.
+fn assert_appended<S: ListStore>(rt: &impl Abort, alloc: Global, store: &S, of: u32, wanted: &[u32])
     requires { of < (S.state store.now).lists }
 {
     let room = store.len(of) as usize + 1;
@@ -188,19 +191,19 @@ fn appended_is<S: ListStore>(store: &S, alloc: Global, of: u32, wanted: &[u32]) 
         Err(_) => Vec::with_capacity(alloc, room),
         made => made,
     };
-    let Ok(mut list) = made else { return false };
+    let mut list = made.expect(rt, "room");
     list.push_reserved(7);
     store.append_list(of, &mut list);
-    list.as_slice() == wanted
+    assert_same(rt, ("list", of), list.as_slice(), wanted);
 }
 
 /// Lists that were filled in turns, appended to a vector.
 fn appended_lists<S: ListStore + Drop>(rt: &impl Abort, alloc: Global) {
     let mut store: S = make(rt, alloc, 4, 3);
     assert!(rt; push(&mut store, 1, 2) & push(&mut store, 0, 3) & push(&mut store, 1, 0));
-    assert!(rt; appended_is(&store, alloc, 1, &[7, 2, 0]));
-    assert!(rt; appended_is(&store, alloc, 0, &[7, 3]));
-    assert!(rt; appended_is(&store, alloc, 2, &[7]));
+    assert_appended(rt, alloc, &store, 1, &[7, 2, 0]);
+    assert_appended(rt, alloc, &store, 0, &[7, 3]);
+    assert_appended(rt, alloc, &store, 2, &[7]);
 }
 
 /// Makes one of the three operations, if it may be made.
@@ -221,44 +224,28 @@ fn operate<S: ListStore>(store: &mut S, operation: u32, node: u32, list: u32)
     }
 }
 
-/// Whether a list is read alike from both stores.
-fn same_list<S: ListStore, T: ListStore>(store: &S, other: &T, of: u32) -> bool
-    requires in_store { of < (S.state store.now).lists }
-    requires in_other { of < (T.state other.now).lists }
+/// The ends of a list and its length.
+fn ends_of<S: ListStore>(store: &S, of: u32) -> (Option<u32>, Option<u32>, u32)
+    requires { of < (S.state store.now).lists }
 {
-    store.first(of) == other.first(of)
-        && store.last(of) == other.last(of)
-        && store.len(of) == other.len(of)
+    (store.first(of), store.last(of), store.len(of))
 }
 
-/// Whether a node is read alike from both stores.
-fn same_node<S: ListStore, T: ListStore>(store: &S, other: &T, node: u32) -> bool
-    requires in_store { node < (S.state store.now).nodes }
-    requires in_other { node < (T.state other.now).nodes }
-{
-    store.next(node) == other.next(node)
-        && store.prev(node) == other.prev(node)
-        && store.home(node) == other.home(node)
-}
-
-/// Whether all nodes and lists are read alike from both stores.
-fn same_readings<S: ListStore, T: ListStore>(store: &S, other: &T) -> bool
+/// Asserts that all nodes and lists are read alike from both stores after an operation.
+fn assert_alike<S: ListStore, T: ListStore>(rt: &impl Abort, operation: u32, store: &S, other: &T)
     requires store_nodes { (S.state store.now).nodes ≡ NODES }
     requires store_lists { (S.state store.now).lists ≡ LISTS }
     requires other_nodes { (T.state other.now).nodes ≡ NODES }
     requires other_lists { (T.state other.now).lists ≡ LISTS }
 {
     for of in 0..LISTS {
-        if !same_list(store, other, of) {
-            return false;
-        }
+        let place = ("after operation", operation, "list", of);
+        assert_same(rt, place, ends_of(store, of), ends_of(other, of));
     }
     for node in 0..NODES {
-        if !same_node(store, other, node) {
-            return false;
-        }
+        let place = ("after operation", operation, "node", node);
+        assert_same(rt, place, around(store, node), around(other, node));
     }
-    true
 }
 
 #[test]
@@ -302,6 +289,6 @@ fn stores_agree(rt: HostRuntime) {
         let list = draws.below(LISTS);
         operate(&mut plain, operation, node, list);
         operate(&mut linked, operation, node, list);
-        assert!(rt; same_readings(&plain, &linked), "after operation {turn}");
+        assert_alike(&rt, turn, &plain, &linked);
     }
 }

@@ -119,7 +119,10 @@ fn assert_lasting(
         let label = u16::try_from(game.request(pebble))
             .ok()
             .expect(rt, "a label");
-        assert!(rt; pebble < space.pebbles() && space.legal(board, rank, pebble, label));
+        assert!(rt;
+            pebble < space.pebbles() && space.legal(board, rank, pebble, label),
+            "pebble {pebble} to {label} at {rank}"
+        );
         rank = space.with(rank, pebble, label);
         assert_same(rt, rank, values.of(rank), Value::Forever);
         requests /= levels;
@@ -157,7 +160,10 @@ fn ten_thousand_requests_at_the_highest_level(rt: HostRuntime) {
         let pebble = ((drawn >> 33) % 24) as u8;
         let reply = game.request(pebble);
         for (other, word) in game.words().iter().enumerate() {
-            assert!(rt; other == usize::from(pebble) || dominates(reply, *word));
+            assert!(rt;
+                other == usize::from(pebble) || dominates(reply, *word),
+                "{reply} over {word}"
+            );
         }
     }
 }

@@ -1,5 +1,5 @@
 use Rattle.std.proofs.Common.{◌<◌, IfSome}
-use Rattle.solving_tests.proofs.lists.reads_as.Given as goal
+use Rattle.solving_tests.proofs.lists.assert_list.Given as goal
 
 abbrev pub invariant-loop-wanted : goal.invariant-loop-wanted
 invariant-loop-wanted g l = IfSome l.at (λ node. node < (g.S.ListStore.state l.store).nodes)
