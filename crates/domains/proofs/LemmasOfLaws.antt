@@ -14,6 +14,7 @@ use Rattle.domains.proofs.ResiduesModuloNineteen.{nineteen_dominated}
 use Rattle.domains.proofs.ShownDocuments.{documents_for, claims_of_documents}
 use Rattle.domains.proofs.SmallDomains.{two_carried, three_carried, four_carried, five_carried}
 use Rattle.domains.proofs.SmallDomains.{six_carried, seven_carried, eight_carried}
+use Rattle.domains.proofs.SmallDomains.{cycle_exactly, residues_exactly, products_exactly}
 use Rattle.domains.proofs.Withdrawals.{freed_lasts}
 use Rattle.positions.proofs.Cited.{same_value}
 
@@ -37,6 +38,9 @@ pub ruleset few_labels_carry_many_lemmas = (
   six_carried,
   seven_carried,
   eight_carried,
+  cycle_exactly,
+  residues_exactly,
+  products_exactly,
 )
 
 pub ruleset orders_end_lemmas = (orders_end, orders_have_at_most, orders_do_not_last)

@@ -1,14 +1,26 @@
 -- Domains with few labels for two to eight processes.
-use Rattle.std.proofs.Common.{ℕ, suc, ◌+◌, ◌*◌, ◌^◌, ◌<◌, List, [], ◌∷◌, ◌∙◌, ap, subst, sym, arith}
-use Rattle.board_text.specs.PlainBoard.{PlainBoard}
-use Rattle.domains.specs.Carried.{SomeCarries}
-use Rattle.domains.specs.Circles.{IsCircle}
+use Rattle.std.proofs.Common.{ℕ, suc, ◌+◌, ◌*◌, ◌^◌, ◌<◌, List, [], ◌∷◌, ◌∙◌, ap, inl, inr, subst, sym, arith}
+use Rattle.std.proofs.lemmas.List.Elements.{All-cons, All-head, All-nil, All-tail}
+use Rattle.std.specs.Prelude.{All}
+use Rattle.board_text.specs.PlainBoard.{PlainBoard, IsAntisymmetric}
+use Rattle.domains.specs.Carried.{CarriesExactly, SomeCarries}
+use Rattle.domains.specs.Circles.{AreResidues, IsCircle}
 use Rattle.domains.specs.Dominated.{AreDominated}
+use Rattle.domains.specs.Products.{IsProductOf}
 use Rattle.domains.proofs.Circles.{cycle_dominated, residues_dominated}
-use Rattle.domains.proofs.ExactCounts.{dominated_exactly, product_carries_exactly}
+use Rattle.domains.proofs.ExactCounts.{dominated_exactly, product_carries_exactly, several_carry_exactly}
 use Rattle.domains.proofs.FewestLabels.{Ahead, circle_board, cycle_one_way, residues_one_way}
 use Rattle.domains.proofs.ProductData.{product_exists}
 use Rattle.domains.proofs.ResiduesModuloNineteen.{nineteen_dominated, nineteen_one_way}
+
+-- a circle whose short lists of labels are dominated
+circle_exactly : (labels count : ℕ) (steps : List ℕ) → 0 < labels → suc labels < 2 ^ suc (suc count)
+    → ((board : PlainBoard) → IsCircle labels steps board → AreDominated board count)
+    → (board : PlainBoard) → IsAntisymmetric board → IsCircle labels steps board → CarriesExactly board (suc count)
+circle_exactly labels count steps some few dominated board one_way circle =
+    let same = circle.labels_are in
+    dominated_exactly board count (subst (λ n. 0 < n) (sym same) some) one_way (dominated board circle)
+    (subst (λ n. suc n < 2 ^ suc (suc count)) (sym same) few)
 
 circle_carries : (labels count : ℕ) (steps : List ℕ) → 0 < labels → suc labels < 2 ^ suc (suc count)
     → ((x y : ℕ) → Ahead labels steps x y → Ahead labels steps y x → ⊥)
@@ -20,8 +32,7 @@ circle_carries labels count steps some few one_way dominated =
       found.0,
       same,
       found.3,
-      dominated_exactly found.0 count (subst (λ n. 0 < n) (sym same) some) found.3.one_way (dominated found.0 found.1)
-          (subst (λ n. suc n < 2 ^ suc (suc count)) (sym same) few),
+      circle_exactly labels count steps some few dominated found.0 found.3.one_way found.1,
     )
 
 product_carries : (labels more count others : ℕ) → 0 < labels → 0 < more → SomeCarries labels (suc count)
@@ -58,3 +69,41 @@ seven_carried = product_carries 7 49 2 4 (omega arith) (omega arith) three_carri
 
 pub eight_carried : SomeCarries 931 8
 eight_carried = product_carries 7 133 2 5 (omega arith) (omega arith) three_carried six_carried
+
+-- ---- which domains they are
+
+pub cycle_exactly : (board : PlainBoard) → IsAntisymmetric board → IsCircle 3 (1 ∷ []) board → CarriesExactly board 2
+cycle_exactly = circle_exactly 3 1 (1 ∷ []) (omega arith) (omega arith) cycle_dominated
+
+pub residues_exactly : (board : PlainBoard) → IsAntisymmetric board → AreResidues board
+    → CarriesExactly board board.pebbles
+residues_exactly board one_way (inl (circle, three)) =
+    subst (CarriesExactly board) (sym three)
+    (circle_exactly 7 2 (1 ∷ 2 ∷ 4 ∷ []) (omega arith) (omega arith) residues_dominated board one_way circle)
+residues_exactly board one_way (inr (circle, four)) =
+    subst (CarriesExactly board) (sym four)
+    (circle_exactly 19 3 (1 ∷ 4 ∷ 5 ∷ 6 ∷ 7 ∷ 9 ∷ 11 ∷ 16 ∷ 17 ∷ []) (omega arith) (omega arith) nineteen_dominated
+    board one_way circle)
+
+some_residues : (board : PlainBoard) → AreResidues board → 0 < board.labels
+some_residues board (inl (circle, three)) = omega (arith, circle.labels_are)
+some_residues board (inr (circle, four)) = omega (arith, circle.labels_are)
+
+abbrev IsFactor : PlainBoard → Type 0
+IsFactor factor = IsAntisymmetric factor × AreResidues factor
+
+abbrev FitsExactly : PlainBoard → Type 0
+FitsExactly factor = IsAntisymmetric factor × (0 < factor.labels) × CarriesExactly factor factor.pebbles
+
+all_fit : (factors : List PlainBoard) → All IsFactor factors → All FitsExactly factors
+all_fit [] all = All-nil FitsExactly
+all_fit (factor ∷ factors) all =
+    let here = All-head IsFactor factor factors all in
+    All-cons FitsExactly factor factors
+    (here.0, some_residues factor here.1, residues_exactly factor here.0 here.1)
+    (all_fit factors (All-tail IsFactor factor factors all))
+
+pub products_exactly : (factors : List PlainBoard) (board : PlainBoard)
+    → All (λ factor. IsAntisymmetric factor × AreResidues factor) factors → IsProductOf factors board
+    → CarriesExactly board board.pebbles
+products_exactly factors board all product = several_carry_exactly factors board product (all_fit factors all)

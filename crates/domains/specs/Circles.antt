@@ -1,5 +1,5 @@
 -- Domains on a circle of numbers.
-use Rattle.std.specs.Prelude.{◌≡◌, ◌↔◌, ℕ, ◌+◌, ◌-◌, ◌%◌, ◌<◌, List, Contains}
+use Rattle.std.specs.Prelude.{◌≡◌, ◌↔◌, ℕ, ◌+◌, ◌-◌, ◌%◌, ◌<◌, ◌⊎◌, List, [], ◌∷◌, Contains}
 use Rattle.board_text.specs.PlainBoard.{PlainBoard, Beats}
 
 -- this many labels, of which one beats another if it is one of these steps ahead of it on a circle
@@ -7,3 +7,9 @@ pub record IsCircle (labels : ℕ) (steps : List ℕ) (board : PlainBoard) : Typ
   pub labels_are : board.labels ≡ labels
   pub beats : (x y : ℕ) → x < labels → y < labels
       → Beats board x y ↔ Contains steps ((x + labels - y) % labels)
+
+-- the residues modulo seven with three processes, or those modulo nineteen with four
+abbrev pub AreResidues : PlainBoard → Type 0
+AreResidues board =
+    (IsCircle 7 (1 ∷ 2 ∷ 4 ∷ []) board × (board.pebbles ≡ 3))
+    ⊎ (IsCircle 19 (1 ∷ 4 ∷ 5 ∷ 6 ∷ 7 ∷ 9 ∷ 11 ∷ 16 ∷ 17 ∷ []) board × (board.pebbles ≡ 4))

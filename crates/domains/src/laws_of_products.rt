@@ -9,7 +9,7 @@ ghost use Rattle.positions.specs.declared.value.Value.{Value as ValueData};
 ghost use Rattle.positions.specs.declared.value.Value.TheVariants.{Finite, Forever};
 ghost use Rattle.player.specs.NestedPlay.{IsNestedPlay};
 ghost use Rattle.domains.specs.Carried.{Carries, CarriesExactly, SomeCarries};
-ghost use Rattle.domains.specs.Circles.{IsCircle};
+ghost use Rattle.domains.specs.Circles.{AreResidues, IsCircle};
 ghost use Rattle.domains.specs.Dominated.{AreDominated, IsHeld};
 ghost use Rattle.domains.specs.Orders.{IsChain};
 ghost use Rattle.domains.specs.Products.{IsProduct, IsProductOf, IsBelowCopy};
@@ -138,8 +138,7 @@ pub fn nested_boards_are_products()
 
 /// The product of the residues modulo seven and themselves carries five processes for ever on 49
 /// labels, and no six; and that of a chain of 200 labels and these residues lasts 199 requests or
-/// more with four processes. Both have more configurations than there may be ranks; the first has
-/// few enough classes for its values to be found by them.
+/// more with four processes.
 pub fn large_products()
     ensures for_ever { (residues : PlainBoard) → (board : PlainBoard)
         → IsCircle 7 (1 ∷ 2 ∷ 4 ∷ []) residues → residues.pebbles ≡ 3
@@ -160,10 +159,11 @@ pub fn large_products()
         × LabellerTree board 199 (replicate board.pebbles 0) }
 {}
 
-/// Few labels carry two to eight processes for ever: the three-cycle two, the residues modulo seven
-/// three, of which each two are dominated by one, the residues modulo nineteen four, of which each
-/// three are, and products of these two five to eight. No more processes last for ever on them.
-/// That no domain has fewer labels isn't said.
+/// Few labels carry two to eight processes for ever, and no more: the three-cycle two, the residues
+/// modulo seven three, of which each two are dominated by one, and those modulo nineteen four, of
+/// which each three are; and some domains of 49, 133, 343 and 931 labels five to eight. Products of
+/// these residues carry as many as their factors together, less one for each factor after the
+/// first. That no domain has fewer labels isn't said.
 #[tactic(auto, using(crate::proofs::LemmasOfLaws::few_labels_carry_many_lemmas))]
 pub fn few_labels_carry_many()
     ensures residues_modulo_seven { (board : PlainBoard) → IsCircle 7 (1 ∷ 2 ∷ 4 ∷ []) board
@@ -177,4 +177,11 @@ pub fn few_labels_carry_many()
     ensures six { SomeCarries 133 6 }
     ensures seven { SomeCarries 343 7 }
     ensures eight { SomeCarries 931 8 }
+    ensures cycle { (board : PlainBoard) → IsAntisymmetric board → IsCircle 3 (1 ∷ []) board
+        → CarriesExactly board 2 }
+    ensures residues { (board : PlainBoard) → IsAntisymmetric board → AreResidues board
+        → CarriesExactly board board.pebbles }
+    ensures products { (factors : List PlainBoard) → (board : PlainBoard)
+        → All (λ factor. IsAntisymmetric factor × AreResidues factor) factors
+        → IsProductOf factors board → CarriesExactly board board.pebbles }
 {}

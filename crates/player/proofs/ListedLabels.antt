@@ -1,6 +1,6 @@
 -- The labels of a property, listed one after the other.
 use Rattle.std.proofs.Common.{◌≡◌, ℕ, ◌+◌, ◌<◌, ◌⊎◌, ◌↔◌, List, [], ◌∷◌, ◌++◌}
-use Rattle.std.proofs.Common.{inl, inr, sym, subst, arith}
+use Rattle.std.proofs.Common.{inl, inr, refl, sym, subst, arith}
 use Rattle.std.proofs.lemmas.Bool.{cases_lt}
 use Rattle.std.proofs.lemmas.List.Elements.{All-nil, All-push, Contains-append_left, Contains-push, Contains-push_cases}
 use Rattle.std.proofs.lemmas.List.Quantifiers.{all_pairs_push}
@@ -8,8 +8,9 @@ use Rattle.std.proofs.lemmas.List.{flat_map_more}
 use Rattle.std.specs.Prelude.{All, AllPairs, Bool, Contains, Option}
 use Rattle.std.specs.Fmt.{decimal}
 use Rattle.board_text.specs.LineForms.{spaced_numbers}
-use Rattle.player.specs.Showing.{IsMore, shown}
-use Rattle.player.proofs.MoreTexts.{then_shown}
+use Rattle.player.specs.Showing.{HasNoControl, IsMore, shown}
+use Rattle.player.proofs.MoreTexts.{then_more}
+use Rattle.player.proofs.ShownTexts.{plain_both}
 
 low_or_last : (bound x : ℕ) → x < bound + 1 → (x < bound) ⊎ (bound ≡ x)
 low_or_last bound x low =
@@ -78,9 +79,16 @@ module _ (Has : ℕ → Type 0) where
 
 -- one more number in a text
 pub told_spaced : {W : Type 0} (known : W → Option (List ℕ)) (failed : W → Bool) (a b c d : W) (xs : List ℕ) (x : ℕ)
-    → IsMore known failed a b (shown (spaced_numbers xs)) → IsMore known failed b c (shown (32 ∷ []))
-    → IsMore known failed c d (shown (decimal x)) → IsMore known failed a d (shown (spaced_numbers (xs ++ x ∷ [])))
+    → IsMore known failed a b (spaced_numbers xs) → IsMore known failed b c (32 ∷ [])
+    → IsMore known failed c d (decimal x) → IsMore known failed a d (spaced_numbers (xs ++ x ∷ []))
 told_spaced known failed a b c d xs x before space digits =
-    subst (λ (l : List ℕ). IsMore known failed a d (shown l)) (flat_map_more (λ n. 32 ∷ decimal n) [] xs x)
-    (then_shown known failed a b d (spaced_numbers xs) (32 ∷ decimal x) before
-    (then_shown known failed b c d (32 ∷ []) (decimal x) space digits))
+    subst (IsMore known failed a d) (flat_map_more (λ n. 32 ∷ decimal n) [] xs x)
+    (then_more known failed a b d (spaced_numbers xs) (32 ∷ decimal x) before
+    (then_more known failed b c d (32 ∷ []) (decimal x) space digits))
+
+pub spaced_plain : (xs : List ℕ) (x : ℕ) → HasNoControl (spaced_numbers xs) → HasNoControl (decimal x)
+    → HasNoControl (spaced_numbers (xs ++ x ∷ []))
+unfolding shown
+spaced_plain xs x before digits =
+    subst HasNoControl (flat_map_more (λ n. 32 ∷ decimal n) [] xs x)
+    (plain_both (spaced_numbers xs) (32 ∷ decimal x) before (plain_both (32 ∷ []) (decimal x) refl digits))

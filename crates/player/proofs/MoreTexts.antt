@@ -1,7 +1,7 @@
 -- Texts that are written one after the other are one text.
 use Rattle.std.proofs.Common.{◌≡◌, ℕ, Bool, not, true, false, List, [], ◌∷◌, ◌++◌}
 use Rattle.std.proofs.Common.{refl, sym, ap, subst, ◌∙◌, inl, inr, arith}
-use Rattle.std.proofs.lemmas.List.{append-nil, length-append, map-append, take-append-le}
+use Rattle.std.proofs.lemmas.List.{append-nil, length-append, take-append-le}
 use Rattle.std.proofs.lemmas.List.Concat.{flat_map-append}
 use Rattle.std.proofs.lemmas.List.Elements.{All-append, All-cons, All-nil}
 use Rattle.std.specs.Prelude.{Option}
@@ -10,8 +10,8 @@ use Rattle.std.specs.List.{flat_map}
 use Rattle.board_text.specs.LineForms.{with_line_feed}
 use Rattle.board_text.specs.Streams.{AppendsPrefix}
 use Rattle.board_text.proofs.Cited.{Appends-trans}
-use Rattle.player.specs.Showing.{AreForPerson, AreLines, HasNoControl, IsMore, IsTaken, shown, shown_byte}
-use Rattle.player.proofs.ShownTexts.{plain_if_shown}
+use Rattle.player.specs.Showing.{AreForPerson, AreLines, HasNoControl, IsMore, IsTaken, shown}
+use Rattle.player.proofs.ShownTexts.{plain_if_shown, shown_front}
 use Rattle.player.proofs.WrittenPlay.{Appends-none, front_behind}
 
 wider : (a b : Option (List ℕ)) (s t : List ℕ) → AppendsPrefix a b s → AppendsPrefix a b (s ++ t)
@@ -70,10 +70,11 @@ module _ {W : Type 0} (known : W → Option (List ℕ)) (failed : W → Bool) wh
 
 -- two texts for a person, one after the other
 pub then_shown : {W : Type 0} (known : W → Option (List ℕ)) (failed : W → Bool) (a b c : W) (s t : List ℕ)
-    → IsMore known failed a b (shown s) → IsMore known failed b c (shown t) → IsMore known failed a c (shown (s ++ t))
-then_shown known failed a b c s t first second =
-    subst (IsMore known failed a c) (sym (map-append shown_byte s t))
-    (then_more known failed a b c (shown s) (shown t) first second)
+    → HasNoControl s → IsMore known failed a b s → IsMore known failed b c (shown t)
+    → IsMore known failed a c (shown (s ++ t))
+then_shown known failed a b c s t plain first second =
+    subst (IsMore known failed a c) (sym (shown_front s t plain))
+    (then_more known failed a b c s (shown t) first second)
 
 -- ---- lines
 

@@ -6,3 +6,4 @@ pub mod Steps
 pub mod Words
 pub mod Faults
 pub mod Prompts
+pub mod Showing

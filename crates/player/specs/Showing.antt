@@ -1,5 +1,5 @@
 -- Texts that a person is shown, by a writer that may fail.
-use Rattle.std.specs.Prelude.{◌≡◌, ℕ, ◌⊎◌, ◌||◌, Bool, true, false, List, [], Option, map}
+use Rattle.std.specs.Prelude.{◌≡◌, ℕ, ◌⊎◌, ◌&&◌, ◌||◌, Bool, true, false, List, [], ◌∷◌, Option}
 use Rattle.std.specs.Prelude.{All, cond, nat_eq, nat_lt}
 use Rattle.std.specs.Io.KnownBytes.{Appends}
 use Rattle.std.specs.List.{flat_map}
@@ -10,16 +10,23 @@ use Rattle.board_text.specs.Streams.{AppendsPrefix}
 abbrev pub is_control : ℕ → Bool
 is_control byte = nat_lt byte 32 || nat_eq byte 127
 
--- no control byte is among the bytes
+-- the two bytes of a control character from U+0080 to U+009F
+abbrev pub are_control : ℕ → ℕ → Bool
+are_control first second = nat_eq first 194 && (nat_lt 127 second && nat_lt second 160)
+
+-- bytes as a person is shown them: a question mark for each control character, and for the first
+-- byte of such two at the end, so that no text after it makes it one
+unfoldable pub shown : List ℕ → List ℕ
+shown [] = []
+shown (byte ∷ []) = cond (is_control byte || nat_eq byte 194) 63 byte ∷ []
+shown (byte ∷ next ∷ rest) = elim (are_control byte next) [
+  | true ↦ 63 ∷ shown rest
+  | false ↦ cond (is_control byte) 63 byte ∷ shown (next ∷ rest)
+]
+
+-- no control character is among the bytes: they are shown as they are
 abbrev pub HasNoControl : List ℕ → Type 0
-HasNoControl bytes = All (λ byte. is_control byte ≡ false) bytes
-
--- bytes as a person is shown them: a question mark for each control byte
-abbrev pub shown_byte : ℕ → ℕ
-shown_byte byte = cond (is_control byte) 63 byte
-
-abbrev pub shown : List ℕ → List ℕ
-shown bytes = map shown_byte bytes
+HasNoControl bytes = shown bytes ≡ bytes
 
 -- lines of this kind, if there is a person to see them; else nothing
 abbrev pub AreLines : (List ℕ → Type 0) → Bool → List ℕ → Type 0
@@ -27,7 +34,7 @@ AreLines IsLine true text =
     (lines : List (List ℕ)) × All IsLine lines × (text ≡ flat_map with_line_feed lines)
 AreLines IsLine false text = text ≡ []
 
--- lines without control bytes, if there is a person to see them; else nothing
+-- lines without control characters, if there is a person to see them; else nothing
 abbrev pub AreForPerson : Bool → List ℕ → Type 0
 AreForPerson shows text = AreLines HasNoControl shows text
 

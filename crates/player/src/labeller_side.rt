@@ -13,7 +13,7 @@ ghost use Rattle.player.specs.Play.{HasEnded, BreaksOff, TellsBothStreams};
 ghost use Rattle.player.specs.Inside.PlayState.{HasAsked, IsRequestAt, IsStandingAfter, IsLegalAt};
 ghost use Rattle.player.specs.Inside.Prompts.{AreLegalAt};
 ghost use Rattle.player.specs.Prompts.{ArePrompts};
-ghost use Rattle.player.specs.Showing.{IsMore, shown};
+ghost use Rattle.player.specs.Showing.{HasNoControl, IsMore};
 ghost use Rattle.player.specs.Transcript.{Standing, IsPlayed, BeginsPlay, PersonAnswers};
 ghost use Rattle.player.specs.Transcript.{AsksAfterLine, no_answer_line};
 ghost use Rattle.player.specs.Inside.Transcript.{standing_of};
@@ -247,8 +247,8 @@ impl<'a> LabellerSide<'a> {
     /// is asked for, each with a space before it.
     fn tell_legal_labels<E: Sink>(&self, errors: &mut E)
         ensures { (labels : List ℕ) × AreLegalAt self.now labels
-            × IsMore E.contents E.has_failed errors.old errors.new
-            (shown (spaced_numbers labels)) }
+            × IsMore E.contents E.has_failed errors.old errors.new (spaced_numbers labels)
+            × HasNoControl (spaced_numbers labels) }
     {
         for label in 0..self.moves.board().labels() {
             if self.is_legal(label) {

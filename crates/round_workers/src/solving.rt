@@ -59,8 +59,7 @@ fn work_round<S: ListStore + Sync, G: Gate, R: Threads + Wait + Sync>(
 /// Each round is shared by all workers: a seat of its own for each, the first on this thread, the
 /// others each on a thread that is started for the round and joined before it ends. One worker
 /// starts no thread. It may wait for its workers. The values are those of the board, whatever the
-/// number of workers, the gate and the schedule are. `Worker` is answered only if a thread's start
-/// was refused, so never with one worker.
+/// number of workers, the gate and the schedule are. `Worker` is never answered with one worker.
 pub fn solve_values<G: Gate, R: Threads + Wait + Sync>(
     rt: &R,
     alloc: Global,
@@ -87,8 +86,8 @@ pub fn solve_values<G: Gate, R: Threads + Wait + Sync>(
 ///
 /// The workers make the graph of the classes in parts, if it has enough of them. A round that
 /// strikes those of at least `MIN_SHARED` classes, and of four fifths of all, is shared by all
-/// workers, as each round of `solve_values` is. A smaller one, and every round of one worker, is
-/// made by this thread alone, with no table and no gate. The values are those of the board,
+/// workers, as each round of `solve_values` is, and a smaller one by none. Of this the clauses say
+/// that `Worker` is answered of no board of fewer classes. The values are those of the board,
 /// whatever the number of workers, the gate and the schedule are.
 pub fn solve_classes<G: Gate, R: Threads + Wait + Sync>(
     rt: &R,

@@ -1,11 +1,11 @@
 -- After the won configurations of a finished round are filed, the stage is ready for the next round.
-use Rattle.std.proofs.Common.{◌≡◌, ℕ, ◌+◌, ◌-◌, ◌<◌, ◌≤◌, inl, inr, true, false, suc, arith, sym, ap, ◌∙◌, subst, List}
-use Rattle.std.proofs.Common.{[], ◌∷◌, ◌++◌, length, take, drop, slice_index, slice_set, get_or, get_or-set_other}
+use Rattle.std.proofs.Common.{◌≡◌, ℕ, ◌+◌, ◌-◌, ◌<◌, ◌≤◌, inl, inr, true, false, suc, arith, refl, sym, ap, ◌∙◌, subst}
+use Rattle.std.proofs.Common.{List, [], ◌∷◌, ◌++◌, length, take, drop, slice_index, slice_set, get_or, get_or-set_other}
 use Rattle.std.proofs.Common.{get_or-set_same}
 use Rattle.std.proofs.lemmas.Bool.{cases_lt}
-use Rattle.std.proofs.lemmas.List.{take_more, take-append-drop}
+use Rattle.std.proofs.lemmas.List.{append_assoc, take_more, take-append-drop}
 use Rattle.index_lists.specs.Lists.{times}
-use Rattle.index_lists.proofs.Cited.{times-append}
+use Rattle.index_lists.proofs.Cited.{cond_other, times-append, times-here}
 use Rattle.positions.specs.Counts.{HasSize}
 use Rattle.classes.specs.declared.counting.TheConstants.{MAX_CLASSES}
 use Rattle.positions.proofs.Cited.{same_size}
@@ -14,12 +14,13 @@ use Rattle.graphs.specs.Numbered.{Numbered, graph_of}
 use Rattle.solver.specs.Ending.{IsRoundEnd}
 use Rattle.solver.specs.Solving.{IsWorth}
 use Rattle.solver.specs.Solving.{AnswerLasts}
-use Rattle.solver.specs.Inside.Stage.{PlainStage, rank_filed, as_solving, IsStriking, IsUnstruck, FilesAll}
+use Rattle.solver.specs.Inside.Stage.{PlainStage, filed_at, rank_filed, as_solving, IsStriking, IsUnstruck, FilesAll}
 use Rattle.solver.specs.Inside.Stage.{TakesCounts}
 use Rattle.solver.specs.Inside.Tables.{is_open, is_unstruck, IsCounted, AreWords}
-use Rattle.graphs.proofs.Cited.{value_of_lasts, lasts_of_value, same_test, true_or_false, same_or_not, lasts-less}
+use Rattle.graphs.proofs.Cited.{value_of_lasts, lasts_of_value, same_test, true_or_false, true_not_false, same_or_not}
+use Rattle.graphs.proofs.Cited.{lasts-less}
 use Rattle.solver.proofs.StruckTables.{IsCounted-same, AreWords-same, same-open}
-use Rattle.solver.proofs.FiledRanks.{listed-away, filed-once}
+use Rattle.solver.proofs.FiledRanks.{listed-away, listed-here, filed-once}
 use Rattle.solver.proofs.ListedWords.{valued_word, times_one, times_none}
 use Rattle.solver.proofs.AnswerSizes.{above-size}
 use Rattle.solver.proofs.StageStrikes.{unstruck-none, filed-counting}
@@ -37,6 +38,7 @@ files-more s ranks rank now few low i still new so_far =
     let open_now : is_open now.values rank ≡ true =
     same-open (slice_index now.values rank) (slice_index s.values rank) (so_far.elsewhere rank new) ∙ still in
     let inside : rank < length now.values = (let size = so_far.filed_are.values_length in omega arith) in
+    let room : now.value < length now.buckets = (let size = so_far.filed_are.lists_length in omega arith) in
     record {
       kept = record {
         game_is = so_far.kept.game_is;
@@ -56,6 +58,10 @@ files-more s ranks rank now few low i still new so_far =
           get_or-set_other now.values rank x now.value 0
           (λ here. absurd (let one = times_one rank in let at = ap (λ y. times y (rank ∷ [])) here in omega arith))
           ∙ so_far.elsewhere x (omega arith);
+      listed = ap (filed_at (rank_filed now rank)) (sym value_is)
+          ∙ listed-here now rank room
+          ∙ ap (λ (l : List ℕ). l ++ rank ∷ []) (ap (filed_at now) value_is ∙ so_far.listed)
+          ∙ append_assoc (filed_at s s.value) ranks (rank ∷ []);
       filed_are = filed-once now rank (record {
         filed_are = so_far.filed_are;
         few = omega (arith, few, same);
@@ -84,6 +90,10 @@ is-next xs i inside once =
     let most = once x in
     record { there = omega arith; new = omega arith; front = front }
 
+none_listed : (xs : List ℕ) → ((x : ℕ) → times x xs ≡ 0) → xs ≡ []
+none_listed [] none = refl
+none_listed (y ∷ ys) none = absurd (omega (arith, none y, times-here y y ys refl))
+
 -- ---- the stage of a finished round
 
 module _ (s : PlainStage) (unstruck : IsUnstruck s) where
@@ -110,6 +120,27 @@ module _ (s : PlainStage) (unstruck : IsUnstruck s) where
   worth-open won counts end x h =
       let worth = (end.next x).0 h in
       (worth.is_rank, unstruck.stage.words_are.opened x worth.is_rank ∙ (worth-lasts x worth).0)
+
+  -- no configuration has the value yet
+  none-valued : (x : ℕ) → x < (graph_of s.game).configurations → slice_index s.values x ≡ s.value → ⊥
+  none-valued x i at =
+      let few = unstruck.small.few in
+      let low = unstruck.small.low in
+      let words = unstruck.stage.words_are in
+      let shut : is_open s.values x ≡ false = valued_word s.values x (λ e. omega arith) in
+      let lasting : lasts a (suc r) x ≡ true =
+      subst (λ k. lasts a k x ≡ true) (at ∙ unstruck.value_is) (words.lasting x i shut) in
+      true_not_false (lasts a (suc r) x) lasting (sym (words.opened x i) ∙ shut)
+
+  none-filed : filed_at s s.value ≡ []
+  none-filed = none_listed (filed_at s s.value) (λ x. elim (cases_lt x (graph_of s.game).configurations) [
+    | inl inside ↦ unstruck.stage.filed_are.once s.value x unstruck.small.low inside
+        ∙ cond_other (slice_index s.values x) s.value 1 0 (none-valued x inside)
+    | inr outside ↦ elim (cases_lt 0 (times x (filed_at s s.value))) [
+      | inl some ↦ absurd (omega (arith, unstruck.stage.filed_are.below s.value x some, outside))
+      | inr none ↦ omega (arith, none)
+    ]
+  ])
 
   module _ (won counts : List ℕ) (end : IsRoundEnd (as_solving s false) won counts)
       (m t : PlainStage) (files : FilesAll s won m) (takes : TakesCounts m counts t) where
@@ -168,6 +199,11 @@ module _ (s : PlainStage) (unstruck : IsUnstruck s) where
           (subst (λ k. HasSize (AnswerLasts s.game g (suc k)) (slice_index counts g)) rounds-is (end.above g i))
           (above-size s.game unstruck.is_board (suc r) g i);
     }
+
+    -- they are filed in the order in which they were won
+    pub end-order : filed_at t t.value ≡ won
+    end-order = subst (λ q. filed_at q q.value ≡ won) (sym takes.rest)
+        (ap (filed_at m) files.kept.value_is ∙ files.listed ∙ ap (λ (l : List ℕ). l ++ won) none-filed)
 
     pub end-struck : IsStriking t []
     end-struck = subst (λ q. IsStriking q []) (sym takes.rest) (record {

@@ -3,7 +3,7 @@
 //! `first_filed`, `next_filed`, `first_source` and `next_source` go through lists one by one, for
 //! callers; no command does.
 
-ghost use Rattle.std.specs.Prelude.{◌≡◌, ℕ, ◌+◌, ◌<◌, ◌≤◌, ◌↔◌, true, false, length, map};
+ghost use Rattle.std.specs.Prelude.{◌≡◌, ℕ, suc, ◌+◌, ◌<◌, ◌≤◌, ◌↔◌, true, false, length, map};
 ghost use Rattle.std.specs.Prelude.{slice_get, IfOk, IfErr, Err, Some, None};
 ghost use Rattle.board_text.specs.PlainBoard.{IsBoard};
 ghost use Rattle.positions.specs.declared.value.Value.TheVariants.{Finite};
@@ -171,8 +171,8 @@ impl<S: ListStore> Solver<S> {
         self.file_next(&ByStrikes)
     }
 
-    /// Files the configurations that the finished round `end` won, and takes over its counts;
-    /// `Done` if it won none.
+    /// Files the configurations that the finished round `end` won, in the order in which it won
+    /// them, and takes over its counts; `Done` if it won none.
     pub fn file_round<E: RoundEnd>(&mut self, end: &E) -> Progress
         requires { IsRoundEnd self.old (E.won_list end.now) (E.counts end.now) }
         ensures game { self.new.game ≡ self.old.game }
@@ -182,6 +182,8 @@ impl<S: ListStore> Solver<S> {
         ensures none { result ≡ Progress.Done → HasFoundNone self.old self.new }
         ensures filed_before { (value : ℕ) → value ≤ self.old.rounds
             → bucket self.new value ≡ bucket self.old value }
+        ensures order { (n : ℕ) → result ≡ Progress.Filed n
+            → bucket self.new (suc self.old.rounds) ≡ E.won_list end.now }
         ensures kept { IsSolving self.new }
     {
         self.file_next(&FromEnd(end))
@@ -197,6 +199,8 @@ impl<S: ListStore> Solver<S> {
         ensures none { result ≡ Progress.Done → HasFoundNone self.old self.new }
         ensures filed_before { (value : ℕ) → value ≤ self.old.rounds
             → bucket self.new value ≡ bucket self.old value }
+        ensures order { (n : ℕ) → result ≡ Progress.Filed n
+            → N.files by.now (bucket self.new (suc self.old.rounds)) }
         ensures kept { IsSolving self.new }
     {
         if self.done {

@@ -140,12 +140,14 @@ pub record IsUnstruck (s : PlainStage) : Type 0 where
   pub small : IsSmall (graph_of s.game) s.value
   pub stage : IsStage (lasts (graph_of s.game) round) s
 
--- these configurations have the value too and are filed at it, and nothing else changes
+-- these configurations have the value too and are filed at it, in this order, and nothing else
+-- changes
 pub record FilesAll (s : PlainStage) (ranks : List ℕ) (s' : PlainStage) : Type 0 where
   pub kept : IsKeptStage s s'
   pub counts_is : s'.counts ≡ s.counts
   pub there : (x : ℕ) → 0 < times x ranks → slice_index s'.values x ≡ s.value
   pub elsewhere : (x : ℕ) → times x ranks ≡ 0 → slice_index s'.values x ≡ slice_index s.values x
+  pub listed : filed_at s' s.value ≡ filed_at s s.value ++ ranks
   pub filed_are : IsFiled s'
 
 -- the gaps have these counts, and nothing else changes

@@ -5,15 +5,16 @@ ghost use Rattle.index_lists.specs.Lists.{times};
 ghost use Rattle.graphs.specs.Numbered.{graph_of};
 ghost use Rattle.solver.specs.Ending.{IsRoundEnd};
 ghost use Rattle.solver.specs.Inside.Tables.{is_open};
-ghost use Rattle.solver.specs.Inside.Stage.{with_counts, as_solving, IsSmall, IsFiled, IsKeptStage};
-ghost use Rattle.solver.specs.Inside.Stage.{IsStriking, IsUnstruck, FilesAll, TakesCounts};
+ghost use Rattle.solver.specs.Inside.Stage.{with_counts, as_solving, filed_at, IsSmall, IsFiled};
+ghost use Rattle.solver.specs.Inside.Stage.{IsKeptStage, IsStriking, IsUnstruck, FilesAll};
+ghost use Rattle.solver.specs.Inside.Stage.{TakesCounts};
 
 use crate::end::RoundEnd;
 use crate::stage::Stage;
 use index_lists::ListStore;
 
 impl<S: ListStore> Stage<S> {
-    /// Files the configurations that the finished round `end` has won,
+    /// Files the configurations that the finished round `end` has won, in their order,
     /// and takes over its counts: all is struck then.
     pub(crate) fn file_end<E: RoundEnd>(&mut self, end: &E)
         requires unstruck { IsUnstruck self.old }
@@ -21,12 +22,14 @@ impl<S: ListStore> Stage<S> {
             (E.counts end.now) }
         ensures struck { IsStriking self.new [] }
         ensures kept { IsKeptStage self.old self.new }
+        ensures order { filed_at self.new self.new.value ≡ E.won_list end.now }
     {
         self.file_all(end.won());
         self.take_counts(end);
     }
 
-    /// Files the open configurations `ranks` at the value, each of which is listed once.
+    /// Files the open configurations `ranks` at the value in their order, each of which is listed
+    /// once.
     fn file_all(&mut self, ranks: &[u32])
         requires small { IsSmall (graph_of self.old.game) self.old.value }
         requires filed { IsFiled self.old }

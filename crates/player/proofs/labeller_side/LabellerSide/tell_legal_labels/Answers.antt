@@ -1,17 +1,23 @@
-use Rattle.std.proofs.Common.{◌∙◌, ◌++◌, ◌∷◌, [], ap, arith, subst, sym}
+use Rattle.std.proofs.Common.{◌∙◌, ◌++◌, ◌∷◌, [], ap, arith, refl, subst, sym}
 use Rattle.board_text.specs.LineForms.{spaced_numbers}
 use Rattle.player.specs.Showing.{IsMore, shown}
 use Rattle.player.specs.Inside.PlayState.{IsLegalAt}
-use Rattle.player.proofs.ListedLabels.{all_listed, none_listed, none_more, one_more, told_spaced}
+use Rattle.player.proofs.ListedLabels.{all_listed, none_listed, none_more, one_more, spaced_plain, told_spaced}
 use Rattle.player.proofs.MoreTexts.{none_more as nothing_more}
 use Rattle.player.proofs.labeller_side.LabellerSide.tell_legal_labels.Goals as goal
 use Rattle.player.proofs.labeller_side.LabellerSide.tell_legal_labels.Goals.{else-is_legal, then-is_legal}
 
 pub loop-label-init : goal.loop-label-init
-loop-label-init g c =
-    ([], none_listed (IsLegalAt c.args.self.now), nothing_more g.E.Sink.contents g.E.Sink.has_failed c.args.errors.now)
+unfolding shown
+loop-label-init g c = (
+  [],
+  none_listed (IsLegalAt c.args.self.now),
+  nothing_more g.E.Sink.contents g.E.Sink.has_failed c.args.errors.now,
+  refl,
+)
 
 pub loop-label-preserved : goal.loop-label-preserved
+unfolding shown
 loop-label-preserved g c =
     let i = c.loop-label.invariant in
     let label = c.loop-label.label in
@@ -22,16 +28,17 @@ loop-label-preserved g c =
       | then-is_legal w ↦ (
         i.0 ++ label ∷ [],
         one_more Has label i.0 i.1 (c.is_legal.ensures.0 w.if-is_legal.true),
-        subst (λ e. IsMore known failed c.args.errors.now e (shown (spaced_numbers (i.0 ++ label ∷ []))))
-            (sym w.errors-is)
+        subst (λ e. IsMore known failed c.args.errors.now e (spaced_numbers (i.0 ++ label ∷ []))) (sym w.errors-is)
             (told_spaced known failed c.args.errors.now c.loop-label.errors w.write_shown.new.errors
             w.write_digits.new.errors
-            i.0 label i.2 w.write_shown.ensures (rw w.from.ensures at w.write_digits.ensures)),
+            i.0 label i.2 w.write_shown.ensures (rw w.from.ensures at w.write_digits.ensures.digits)),
+        spaced_plain i.0 label i.3 (rw w.from.ensures at w.write_digits.ensures.plain),
       )
       | else-is_legal w ↦ (
         i.0,
         none_more Has label i.0 i.1 (λ has. let legal = c.is_legal.ensures.1 has in cc),
-        subst (λ e. IsMore known failed c.args.errors.now e (shown (spaced_numbers i.0))) (sym w.errors-is) i.2,
+        subst (λ e. IsMore known failed c.args.errors.now e (spaced_numbers i.0)) (sym w.errors-is) i.2,
+        i.3,
       )
     ]
 
@@ -52,4 +59,5 @@ returns g c =
             )),
       ),
       i.2,
+      i.3,
     )

@@ -1,10 +1,11 @@
 use Rattle.std.proofs.Common.{ℕ, List}
 use Rattle.board_text.specs.LineForms.{spaced_numbers}
 use Rattle.player.specs.Inside.PlayState.{IsLegalAt}
-use Rattle.player.specs.Showing.{IsMore, shown}
+use Rattle.player.specs.Showing.{HasNoControl, IsMore}
 use Rattle.player.proofs.ListedLabels.{AreListed}
 use Rattle.player.proofs.labeller_side.LabellerSide.tell_legal_labels.Given as goal
 
 abbrev pub invariant-loop-label : goal.invariant-loop-label
 invariant-loop-label g l = (labels : List ℕ) × AreListed (IsLegalAt l.self) l.label labels
-    × IsMore g.E.Sink.contents g.E.Sink.has_failed l.fn.errors l.errors (shown (spaced_numbers labels))
+    × IsMore g.E.Sink.contents g.E.Sink.has_failed l.fn.errors l.errors (spaced_numbers labels)
+    × HasNoControl (spaced_numbers labels)

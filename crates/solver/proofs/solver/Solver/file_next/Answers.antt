@@ -86,6 +86,9 @@ module _ (g : Given.Over) (c : Else-filed-eq0 g) where
   next : suc (c.self.inside.stage.value - 1) ≡ (at_next_value more).value - 1
   next = next-round c.self.inside.stage more _ c.self.invariant.0.value_is c.file.ensures.kept.value_is
 
+  to-value : more.value ≡ suc (c.self.inside.stage.value - 1)
+  to-value = omega (arith, c.self.invariant.0.value_is, c.file.ensures.kept.value_is)
+
   state-next : IsState (at_next_value more) ((at_next_value more).value - 1) false
   state-next = subst (λ n. IsState (at_next_value more) n false) next
       (further-state c.self.inside.stage _ c.self.inside.done c.self.invariant.0 more c.file.ensures.struck
@@ -114,3 +117,9 @@ returns-clause-kept g c =
     let at = (goal.at.returns-clause-kept g c).Else-filed-eq0 in
     rw (c.begin_next_value.ensures, c.if-self.false)
     (solving_of (at_next_value c.file.new.stage) _ false (state-next g at))
+
+pub returns-clause-order : goal.returns-clause-order
+returns-clause-order g c = λ n is.
+    let at = (goal.at.returns-clause-order g c).Else-filed-eq0 in
+    rw (c.begin_next_value.ensures, ← c.self.view_is)
+    (subst (λ v. g.N.NextValue.files c.args.by.now (filed_at c.file.new.stage v)) (to-value g at) c.file.ensures.order)

@@ -1,9 +1,19 @@
-use Rattle.std.proofs.Common.{ℕ, sym, ap, ◌∙◌, subst, arith, List, [], ◌∷◌, ◌++◌, take, get_or}
+use Rattle.std.proofs.Common.{ℕ, refl, sym, ap, ◌∙◌, subst, arith, append-nil, List, [], ◌∷◌, ◌++◌, take, get_or}
 use Rattle.graphs.specs.Numbered.{Numbered, graph_of}
-use Rattle.solver.specs.Inside.Stage.{FilesAll}
+use Rattle.solver.specs.Inside.Stage.{FilesAll, filed_at}
 use Rattle.solver.proofs.StruckTables.{same-open}
 use Rattle.solver.proofs.FiledRounds.{files-more, is-next}
 use Rattle.solver.proofs.stage.Stage.file_all.Goals as goal
+
+pub loop-rank-init : goal.loop-rank-init
+loop-rank-init g c = record {
+  kept = record { game_is = refl; value_is = refl; others = λ v d. refl };
+  counts_is = refl;
+  there = λ x some. absurd (omega (arith, some));
+  elsewhere = λ x none. refl;
+  listed = sym (append-nil (filed_at c.args.self.now c.args.self.now.value));
+  filed_are = c.requires.filed;
+}
 
 pub file-requires-clause-rank_in : goal.file-requires-clause-rank_in
 file-requires-clause-rank_in g c =
