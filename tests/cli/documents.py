@@ -37,8 +37,9 @@ CLAIMS = {
     'product-of-four-cycle-and-cycle': 'forever',
     'product-of-cycle-and-residues-modulo-seven': 'forever',
 }
-# stored boards that are too large to be solved
-BEYOND = ('product-of-residues-modulo-seven-twice', 'product-of-residues-modulo-seven-and-nineteen')
+# stored boards that only `solve --large` takes, which last for ever, and those that are too large to be solved by configurations
+LARGE = ('residues-modulo-forty-seven', 'product-of-residues-modulo-seven-twice')
+BEYOND = (*LARGE, 'product-of-residues-modulo-seven-and-nineteen')
 # stored boards that are products, each with its outer and its inner factor
 PRODUCTS = {
     'nested-of-level-three': ('three-cycle', 'three-cycle'),
@@ -59,16 +60,16 @@ TOO_LARGE = fault(1, 'board too large')
 
 # ---- what a check asks of a board
 
-def is_accepted(path, document, claim):
-    """None where what solve writes of the board claims this, and is accepted."""
+def is_accepted(path, document, claim, words):
+    """None where what solve writes of the board, with these words, claims this, and is accepted."""
     with open(document, 'wb') as file:
-        file.write(run(['solve', path]).output)
+        file.write(run(['solve', *words, path]).output)
     return leaves(Ran(output=f'accepted {claim}\n'.encode()), ['check', path, document])
 
 
-def is_equal_by_sixteen(path):
+def is_equal_by_sixteen(path, words):
     """None where sixteen workers write the same document."""
-    return leaves(Ran(output=run(['solve', path]).output), ['solve', '--workers', '16', path])
+    return leaves(Ran(output=run(['solve', *words, path]).output), ['solve', *words, '--workers', '16', path])
 
 
 def adds_up(path):
@@ -100,10 +101,11 @@ def has_digest(level, digest):
 
 # ---- checks
 
-def solved(work, name, path, claim):
-    """The board's document claims this and is accepted, and is the same by sixteen workers."""
-    yield Check(f'the document of {name}', partial(is_accepted, path, os.path.join(work, f'{name}.document'), claim))
-    yield Check(f'solve {name} with sixteen workers', partial(is_equal_by_sixteen, path))
+def solved(work, name, path, claim, *words):
+    """The document that solve with these words writes of the board claims this and is accepted, and is the same by sixteen workers."""
+    document = os.path.join(work, f'{name}.document')
+    yield Check(' '.join(['the document of', name, *words]), partial(is_accepted, path, document, claim, words))
+    yield Check(' '.join(['solve', *words, name, 'with sixteen workers']), partial(is_equal_by_sixteen, path, words))
 
 
 def counted(name, path):
@@ -163,6 +165,8 @@ def stored_boards(work):
             yield counted(name, board(name))
     for name in BEYOND:
         yield check(f'solve of {name}', TOO_LARGE, ['solve', board(name)])
+    for name in LARGE:
+        yield from solved(work, name, board(name), 'forever', '--large')
 
 
 def made_boards(work):

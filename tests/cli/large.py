@@ -91,7 +91,7 @@ def checks(work):
     wide, wider = (written(work, f'wide-{pebbles}.board', board_texts.empty(256, pebbles)) for pebbles in (3, 4))
     yield check('the report of a wide board, as a large board', Ran(output=WIDE_REPORT), ['report', '--large', wide])
     yield check('the report of a wider board, as a large board', TOO_LARGE, ['report', '--large', wider])
-    yield check(f'the report of {BEYOND[1]}, as a large board', TOO_LARGE, ['report', '--large', board(BEYOND[1])])
+    yield check(f'the report of {BEYOND[-1]}, as a large board', TOO_LARGE, ['report', '--large', board(BEYOND[-1])])
     yield from by_laws(work)
     for name in stored('.board'):
         if name not in BEYOND:

@@ -222,10 +222,10 @@ def of_boards(work):
         yield Mistake(name, ['solve', path], fault(1, f'board fault {line}'), path, says)
     large = written(work, 'mistake-large.board', empty(33))
     yield Mistake('a board that is too large', ['solve', large], fault(1, 'board too large'), large,
-                  '1185921 configurations, and the most is 1048576; with as many pebbles a board has at most 32 labels')
+                  '1185921 configurations, and the most is 1048576; but its 58905 classes are few enough for `--large`')
     few = written(work, 'mistake-few-labels.board', board_text(1, 20, [0] * 5, []))
     yield Mistake('a board that is too large and has few labels', ['solve', few], fault(1, 'board too large'), few,
-                  'at most 16 labels; no start of this board lasts for ever')
+                  'its 42504 classes are few enough for `--large`; no start of this board lasts for ever')
     long_chain = written(work, 'mistake-long-chain.board', chain(17, 5))
     for words in ['report'], ['play', '--side', 'adversary']:
         yield Mistake(f'a board that is too large for {words[0]}', [*words, long_chain], fault(1, 'board too large'), long_chain,
@@ -235,7 +235,7 @@ def of_boards(work):
         yield Mistake(f'a board with too many classes ({" ".join(words)})', [*words, wider], fault(1, 'board too large'), wider,
                       '183181376 classes, each the labels held, whichever pebble holds which, and the most is 16777216, with `--large`')
     blank = written(work, 'mistake-large-blank.board', board_text(2, 32, ['-'] + [0] * 3, []))
-    yield Mistake('a board 2 that is too large', ['solve', blank], fault(1, 'board too large'), blank, 'at most 31 labels')
+    yield Mistake('a board 2 that is too large', ['solve', blank], fault(1, 'board too large'), blank, 'its 58905 classes are few enough for `--large`')
     long = written(work, 'mistake-long.board', b'board 1\n' + b' ' * 1_048_576)
     yield Mistake('a board that is too long', ['solve', long], fault(5, 'input too long'), long, '1048576 bytes')
 
@@ -252,6 +252,7 @@ def of_files(work):
     yield Mistake('no such board of a check', ['check', nowhere, CHAIN_PROOF], unread, nowhere, 'no such file')
     yield Mistake('no such document', ['check', CHAIN, nowhere], unread, nowhere, 'no such file')
     yield Mistake('an empty path', ['solve', ''], unread, 'the empty path', 'no such file')
+    yield Mistake('a path with control characters', ['solve', '\x1b[1m\u009b31m\u0085\n\x7fé'], unread, '?[1m?31m???é', 'no such file')
     yield Mistake('links in a circle', ['solve', circle], unread, circle, 'lead back to themselves')
     yield Mistake('a file as a folder', ['solve', f'{CHAIN}/x.board'], unread, f'{CHAIN}/x.board', 'a file and no folder')
     yield Mistake('a name that is too long', ['solve', 'x' * 300], unread, 'x' * 300, 'longer than the system allows')
@@ -377,13 +378,13 @@ def of_words(work):
     """Words of no command: the message is clap's."""
     wrong = Ran(2, b'', b'error: ..')
     general, path, workers = '`pebbles --help` lists', 'the name of a command comes before a path', '`--workers` comes with a number'
-    options, version, large = 'the only options are', '`--version` stands alone', 'only `report` and `play` have `--large`'
+    options, version, large = 'the only options are', '`--version` stands alone', 'only `solve`, `report` and `play` have `--large`'
     told = [(['--workers', '0'], workers), (['slove', 'board'], general), ([CHAIN], path), (['c.board'], path), (['check', CHAIN], general),
             (['solve', '-w', '4', CHAIN], options), (['solve', '--json', CHAIN], options), (['solve', '-q', CHAIN], options),
             (['solve', '-j', '4', CHAIN], options), (['solve', '--version'], version), (['solve', '--workers', 'x', CHAIN], workers),
             (['solve', '--workers', CHAIN], workers), (['solve', CHAIN, 'extra'], general), (['solve', '--workers', '4', CHAIN, 'extra'], general),
             (['solve', '--workers', '17', CHAIN], workers), (['solve', '--workers'], workers), (['report', '--workers', '4', '-q', CHAIN], options), (['play', 'labeller', CHAIN], general),
-            (['solve', '--large', CHAIN], large), (['check', CHAIN, CHAIN, '--large'], large), (['report', '--large', '--large', CHAIN], general),
+            (['climb', '--large', '3'], large), (['check', CHAIN, CHAIN, '--large'], large), (['solve', '--large', '--large', CHAIN], general),
             (['play', '--large', CHAIN], general), (['play', '--side', 'both', CHAIN], general), (['nested', '7', '3'], general), (['climb', '25'], general), (['help', 'solv'], general)]
     for words, says in told:
         yield Mistake(f'the words {" ".join(os.path.basename(word) for word in words)}', words, wrong, 'pebbles', says)

@@ -82,16 +82,16 @@ def shows(board, proof):
     """Whether the tables of a document show its claim, by what they do and not by their numbers."""
     kind, count = proof.claim
     answers = {row.at: row.answers for row in reversed(proof.labeller)}
-    requests = {row.at: row.pebble for row in reversed(proof.adversary)}
+    requests = {row.at: row.ask for row in reversed(proof.adversary)}
     if kind == 'forever':
         return board.start in answers and is_closed(board, answers)
     return ((kind == 'most' or answers_requests(board, answers, board.start, count))
             and (kind == 'least' or stops_after(board, requests, board.start, count)))
 
 
-def holds(board, claim):
+def holds(board, claim, value):
+    """Whether a claim holds of a configuration with this value."""
     kind, count = claim
-    value = values(board)[board.start]
     return {'forever': value == FOREVER, 'value': value == count, 'least': value >= (count or 0), 'most': value <= (count or 0)}[kind]
 
 

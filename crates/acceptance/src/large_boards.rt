@@ -2,10 +2,13 @@
 
 ghost use Rattle.board_text.specs.Ranges.{InRange};
 
-use crate::outcomes::{NOTHING, PLENTY, outcome_of};
+use crate::assertions::{assert_same, assert_text};
+use crate::outcomes::{
+    NOTHING, Outcome, PLENTY, Writer, assert_answered, assert_outcome, assert_refused, assert_run,
+};
 use board_text::Source;
 use fakes::boards::TOO_MANY_CONFIGURATIONS;
-use fakes::{Drip, Failing, Outcome, Trickle, comes_right};
+use fakes::{Drip, Failing, once_more};
 use graphs::Numbering;
 use player::PlayEnd;
 use positions::Side;
@@ -17,8 +20,6 @@ use runs::{
 use std::alloc::Global;
 use std::sync::Wait;
 use std::thread::Threads;
-
-const ROOM: usize = 200;
 
 /// A board of 183,181,376 classes.
 const TOO_MANY_CLASSES: &str = "board 1\nlabels 256\npebbles 4\nstart 0 0 0 0\nend\n";
@@ -33,42 +34,45 @@ const NOTICE: &[u8] = b"a large board: its 58905 classes are solved, which can t
 /// The play on it of a person who answers.
 const TRANSCRIPT: &[u8] = b"value 0\nat 0 0 0 0\nask 0\nno label for pebble 0 after 0 requests\n";
 
-/// The outcome of a report within this limit, by this number of workers.
+/// What a report within this limit comes to, by this number of workers.
 fn report_outcome(
     rt: &(impl Threads + Wait + Sync),
     alloc: Global,
     limit: Numbering,
     workers: u8,
-    wanted: Result<(), RunFault>,
-    written: &[u8],
-) -> Outcome
+) -> Outcome<()>
     requires { InRange 1 MAX_WORKERS workers }
 {
     let mut reader = Drip::new(TOO_MANY_CONFIGURATIONS.as_bytes(), PLENTY);
-    let mut writer = Trickle::<ROOM>::new(PLENTY, Failing::Refuses);
+    let mut writer = Writer::new(PLENTY, Failing::Refuses);
     let answer = run_report_within(rt, alloc, limit, workers, &mut reader, &mut writer);
-    outcome_of(answer, wanted, reader.failed(), &writer, written, NOTHING)
+    Outcome {
+        answer,
+        read_failed: reader.failed(),
+        writer,
+    }
 }
 
 #[test]
 fn reports(rt: HostRuntime) {
     let alloc = rt.alloc();
-    assert!(rt;
-        comes_right(|| report_outcome(&rt, alloc, Numbering::Classes, 1, Ok(()), REPORT.as_bytes()))
-    );
-    assert!(rt;
-        comes_right(|| report_outcome(&rt, alloc, Numbering::Classes, 2, Ok(()), REPORT.as_bytes()))
-    );
+    let report = REPORT.as_bytes();
+    let classes = Numbering::Classes;
+    let by_one = || report_outcome(&rt, alloc, classes, 1);
+    assert_run(&rt, "classes, one worker", by_one, Ok(()), report, NOTHING);
+    let by_two = || report_outcome(&rt, alloc, classes, 2);
+    assert_run(&rt, "classes, two workers", by_two, Ok(()), report, NOTHING);
+    let by_ranks = || report_outcome(&rt, alloc, Numbering::Ordered, 2);
     let large = Err(RunFault::TooLarge);
-    assert!(rt; comes_right(|| report_outcome(&rt, alloc, Numbering::Ordered, 2, large, NOTHING)));
+    assert_run(&rt, "configurations", by_ranks, large, NOTHING, NOTHING);
 }
 
-/// The outcome of a report by one worker, for a person who is told of the board's size. A run that
-/// is refused memory may have told it before.
-fn notice_outcome(rt: &(impl Threads + Wait + Sync), alloc: Global) -> Outcome {
+/// What a report by one worker comes to, for a person who is told of the board's size, and the
+/// bytes that the person is told.
+fn notice_outcome(rt: &(impl Threads + Wait + Sync), alloc: Global) -> (Outcome<()>, Writer) {
     let mut reader = Drip::new(TOO_MANY_CONFIGURATIONS.as_bytes(), PLENTY);
-    let mut writer = Trickle::<ROOM>::new(PLENTY, Failing::Refuses);
-    let mut errors = Trickle::<ROOM>::new(PLENTY, Failing::Refuses);
+    let mut writer = Writer::new(PLENTY, Failing::Refuses);
+    let mut errors = Writer::new(PLENTY, Failing::Refuses);
     let limit = Numbering::Classes;
     let answer = run_report_with_notice(
         rt,
@@ -80,42 +84,42 @@ fn notice_outcome(rt: &(impl Threads + Wait + Sync), alloc: Global) -> Outcome {
         true,
         &mut errors,
     );
-    let is_refused = answer == Err(RunFault::Memory);
-    let told = errors.taken();
-    Outcome::of(is_refused, told == NOTICE || is_refused && told.is_empty())
+    let outcome = Outcome {
+        answer,
+        read_failed: reader.failed(),
+        writer,
+    };
+    (outcome, errors)
 }
 
 #[test]
 fn a_person_is_told_of_the_size(rt: HostRuntime) {
     let alloc = rt.alloc();
-    assert!(rt; comes_right(|| notice_outcome(&rt, alloc)));
-}
-
-/// The outcome of the report of a text in memory, by two workers.
-fn text_outcome(rt: &(impl Threads + Wait + Sync), alloc: Global) -> Outcome {
-    let text = TOO_MANY_CONFIGURATIONS.as_bytes();
-    match report_text_within(rt, alloc, Numbering::Classes, 2, text) {
-        Ok(report) => Outcome::of(false, report.as_str() == REPORT),
-        Err(fault) => Outcome::of(fault == RunFault::Memory, fault == RunFault::Memory),
+    let (mut outcome, mut errors) = notice_outcome(&rt, alloc);
+    if outcome.answer == Err(RunFault::Memory) {
+        assert_refused(&rt, "a report", &outcome, NOTHING);
+        let told = errors.taken();
+        let wanted = if told.is_empty() { NOTHING } else { NOTICE };
+        assert_text(&rt, "a notice without memory", told, wanted);
+        (outcome, errors) = notice_outcome(&rt, alloc);
     }
+    assert_text(&rt, "a notice", errors.taken(), NOTICE);
+    assert_outcome(&rt, "a report", &outcome, Ok(()), REPORT.as_bytes());
 }
 
 #[test]
 fn a_text_in_memory(rt: HostRuntime) {
     let alloc = rt.alloc();
-    assert!(rt; comes_right(|| text_outcome(&rt, alloc)));
+    let text = TOO_MANY_CONFIGURATIONS.as_bytes();
+    let report = || report_text_within(&rt, alloc, Numbering::Classes, 2, text);
+    assert_answered(&rt, "two workers", report, REPORT.as_bytes());
 }
 
-/// The outcome of a play within this limit, with a person who answers.
-fn play_outcome(
-    alloc: Global,
-    limit: Numbering,
-    wanted: Result<PlayEnd, RunFault>,
-    written: &[u8],
-) -> Outcome {
+/// What a play within this limit comes to, with a person who answers.
+fn play_outcome(alloc: Global, limit: Numbering) -> Outcome<PlayEnd> {
     let mut board = Drip::new(TOO_MANY_CONFIGURATIONS.as_bytes(), PLENTY);
     let mut lines = Drip::new(NOTHING, PLENTY);
-    let mut writer = Trickle::<ROOM>::new(PLENTY, Failing::Refuses);
+    let mut writer = Writer::new(PLENTY, Failing::Refuses);
     let answer = run_play_within(
         alloc,
         limit,
@@ -124,32 +128,33 @@ fn play_outcome(
         &mut lines,
         &mut writer,
     );
-    let read_failed = board.failed() || lines.failed();
-    outcome_of(answer, wanted, read_failed, &writer, written, written)
+    Outcome {
+        answer,
+        read_failed: board.failed() || lines.failed(),
+        writer,
+    }
 }
 
 #[test]
 fn plays(rt: HostRuntime) {
     let alloc = rt.alloc();
+    let by_classes = || play_outcome(alloc, Numbering::Classes);
     let stuck = Ok(PlayEnd::Stuck { requests: 0 });
-    assert!(rt; comes_right(|| play_outcome(alloc, Numbering::Classes, stuck, TRANSCRIPT)));
+    assert_run(&rt, "classes", by_classes, stuck, TRANSCRIPT, TRANSCRIPT);
+    let by_ranks = || play_outcome(alloc, Numbering::Ordered);
     let large = Err(RunFault::TooLarge);
-    assert!(rt; comes_right(|| play_outcome(alloc, Numbering::Ordered, large, NOTHING)));
+    assert_run(&rt, "configurations", by_ranks, large, NOTHING, NOTHING);
 }
 
-/// The outcome of reading a board with too many classes.
-fn board_outcome(alloc: Global) -> Outcome {
-    match board_within(alloc, Numbering::Classes, TOO_MANY_CLASSES.as_bytes()) {
-        Ok(_) => Outcome::of(false, false),
-        Err(fault) => {
-            let is_refused = fault == RunFault::Memory;
-            Outcome::of(is_refused, is_refused || fault == RunFault::TooLarge)
-        }
-    }
+/// The labels of a board with too many classes, or the fault of its text.
+fn labels_within(alloc: Global) -> Result<u16, RunFault> {
+    let board = board_within(alloc, Numbering::Classes, TOO_MANY_CLASSES.as_bytes())?;
+    Ok(board.labels())
 }
 
 #[test]
 fn a_board_with_too_many_classes(rt: HostRuntime) {
     let alloc = rt.alloc();
-    assert!(rt; comes_right(|| board_outcome(alloc)));
+    let found = once_more(RunFault::Memory, || labels_within(alloc));
+    assert_same(&rt, "256 labels", found, Err(RunFault::TooLarge));
 }

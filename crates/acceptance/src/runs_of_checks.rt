@@ -1,11 +1,14 @@
 //! Runs of checks and of nested boards, over readers and writers that are slow, that fail, and that
 //! are refused memory.
 
-use crate::outcomes::{NOTHING, PLENTY, outcome_of};
+use crate::assertions::{assert_same, assert_text};
+use crate::outcomes::{
+    NOTHING, Outcome, PLENTY, Writer, assert_answered, assert_outcome, assert_refused, assert_run,
+};
 use board_text::{BoardFault, BoardKind, Source};
 use fakes::boards::{CHAIN_OF_THREE, CYCLE_WITH_ONE_PEBBLE, TOO_MANY_CONFIGURATIONS};
 use fakes::documents::CHAIN_LEAST_TWO;
-use fakes::{Drip, Failing, Outcome, Trickle, comes_right};
+use fakes::{Drip, Failing, once_more};
 use proof_check::{CheckFault, Shown, Side};
 use proof_text::{Claim, ProofFault, ProofKind};
 use runs::{
@@ -13,9 +16,9 @@ use runs::{
     run_check, run_joined, run_nested, small_board,
 };
 use std::alloc::{AllocError, Global};
+use std::fmt::Debug;
+use std::process::Abort;
 use std::thread::Threads;
-
-const ROOM: usize = 100;
 
 const ACCEPTED: &[u8] = b"accepted least 2\n";
 
@@ -52,53 +55,60 @@ fn joined_text(alloc: Global, board: &str, document: &str) -> Result<String, All
     Ok(text)
 }
 
-/// Whether a run comes to this answer and writes this. It is asked once more if it was refused
-/// memory.
-fn serves(
-    rt: &(impl Threads + Sync),
-    alloc: Global,
-    joined: Joined,
-    wanted: Checked,
-    written: &[u8],
-) -> bool {
-    comes_right(|| joined_outcome(rt, alloc, joined, wanted, written))
-}
-
-/// The outcome of a run that is to come to this answer and to write this. Its ends fail exactly if
-/// the answer says so.
-fn joined_outcome(
-    rt: &(impl Threads + Sync),
-    alloc: Global,
-    joined: Joined,
-    wanted: Checked,
-    written: &[u8],
-) -> Outcome {
+/// What a run on a joined text comes to. Where there is no memory for the text, the run is refused
+/// memory too.
+fn joined_outcome(rt: &(impl Threads + Sync), alloc: Global, joined: Joined) -> Outcome<Verdict> {
+    let mut writer = Writer::new(joined.writes, joined.failing);
     let Ok(text) = joined_text(alloc, joined.board, joined.document) else {
-        return Outcome::Refused;
+        return Outcome {
+            answer: Err(RunFault::Memory),
+            read_failed: false,
+            writer,
+        };
     };
     let mut reader = Drip::new(text.as_bytes(), joined.reads);
-    let mut writer = Trickle::<ROOM>::new(joined.writes, joined.failing);
     let answer = run_joined(rt, alloc, &mut reader, &mut writer);
-    outcome_of(answer, wanted, reader.failed(), &writer, written, NOTHING)
+    Outcome {
+        answer,
+        read_failed: reader.failed(),
+        writer,
+    }
 }
+
+/// Asserts the answer of a run on a joined text and the bytes that it writes.
+fn assert_joined<P: Debug + Copy>(
+    rt: &(impl Abort + Threads + Sync),
+    alloc: Global,
+    place: P,
+    joined: Joined,
+    wanted: Checked,
+    written: &[u8],
+) {
+    let run = || joined_outcome(rt, alloc, joined);
+    assert_run(rt, place, run, wanted, written, NOTHING);
+}
+
+/// Texts, and the number of bytes of each that are the board's.
+const BOARD_LENGTHS: [(&str, usize); 6] = [
+    ("ab\nend\nrest\nend\n", 7),
+    ("end\n", 4),
+    ("end", 3),
+    ("xend\n end\nend \nend", 18),
+    ("xend\nend\n", 9),
+    (CHAIN_OF_THREE, CHAIN_OF_THREE.len()),
+];
 
 #[test]
 fn board_lengths(rt: HostRuntime) {
-    assert_eq!(rt; board_length(b"ab\nend\nrest\nend\n"), 7);
-    assert_eq!(rt; board_length(b"end\n"), 4);
-    assert_eq!(rt; board_length(b"end"), 3);
-    assert_eq!(rt; board_length(b"xend\n end\nend \nend"), 18);
-    assert_eq!(rt; board_length(b"xend\nend\n"), 9);
-    assert_eq!(rt;
-        board_length(CHAIN_OF_THREE.as_bytes()),
-        CHAIN_OF_THREE.len()
-    );
+    for (text, length) in &BOARD_LENGTHS {
+        assert_same(&rt, *text, board_length(text.as_bytes()), *length);
+    }
 }
 
 #[test]
 fn one_byte_a_call(rt: HostRuntime) {
     let alloc = rt.alloc();
-    assert!(rt; serves(&rt, alloc, JOINED, SHOWN, ACCEPTED));
+    assert_joined(&rt, alloc, "accepted", JOINED, SHOWN, ACCEPTED);
     let unlisted = Joined {
         document: "proof 1\nleast 1\nlabeller 0\nend\n",
         ..JOINED
@@ -106,56 +116,46 @@ fn one_byte_a_call(rt: HostRuntime) {
     let missing = Ok(Verdict::Refused(CheckFault::StartMissing {
         side: Side::Labeller,
     }));
-    assert!(rt; serves(&rt, alloc, unlisted, missing, REFUSED));
+    assert_joined(&rt, alloc, "refused", unlisted, missing, REFUSED);
 }
 
-/// Whether a text with this board and no document is refused for the board's fault, with nothing
-/// written.
-fn refuses_board(
-    rt: &(impl Threads + Sync),
-    alloc: Global,
-    board: &'static str,
-    line: u32,
-    kind: BoardKind,
-) -> bool {
-    let joined = Joined {
-        board,
-        document: "",
-        ..JOINED
-    };
-    let fault = Err(RunFault::Board(BoardFault { line, kind }));
-    serves(rt, alloc, joined, fault, NOTHING)
-}
+/// Boards without a document, and the fault of each.
+const FAULTS: [(&str, RunFault); 3] = [
+    (
+        "",
+        RunFault::Board(BoardFault {
+            line: 1,
+            kind: BoardKind::Version,
+        }),
+    ),
+    (
+        CHAIN_OF_THREE,
+        RunFault::Proof(ProofFault {
+            line: 1,
+            kind: ProofKind::Version,
+        }),
+    ),
+    (TOO_MANY_CONFIGURATIONS, RunFault::TooLarge),
+];
 
 #[test]
 fn faults_write_nothing(rt: HostRuntime) {
-    let alloc = rt.alloc();
-    assert!(rt; refuses_board(&rt, alloc, "", 1, BoardKind::Version));
-    let board_alone = Joined {
-        document: "",
-        ..JOINED
-    };
-    let proof = Err(RunFault::Proof(ProofFault {
-        line: 1,
-        kind: ProofKind::Version,
-    }));
-    assert!(rt; serves(&rt, alloc, board_alone, proof, NOTHING));
-    let large = Joined {
-        board: TOO_MANY_CONFIGURATIONS,
-        document: "",
-        ..JOINED
-    };
-    assert!(rt; serves(&rt, alloc, large, Err(RunFault::TooLarge), NOTHING));
+    for (board, fault) in &FAULTS {
+        let joined = Joined {
+            board,
+            document: "",
+            ..JOINED
+        };
+        assert_joined(&rt, rt.alloc(), *board, joined, Err(*fault), NOTHING);
+    }
 }
 
 #[test]
 fn a_read_fails_at_each_call(rt: HostRuntime) {
     for reads in 0..=CHAIN_OF_THREE.len() + CHAIN_LEAST_TWO.len() {
         let joined = Joined { reads, ..JOINED };
-        assert!(rt;
-            serves(&rt, rt.alloc(), joined, Err(RunFault::Read), NOTHING),
-            "at call {reads}"
-        );
+        let fault = Err(RunFault::Read);
+        assert_joined(&rt, rt.alloc(), ("reads", reads), joined, fault, NOTHING);
     }
 }
 
@@ -169,10 +169,8 @@ fn a_write_fails_at_each_call(rt: HostRuntime) {
                 ..JOINED
             };
             let written = ACCEPTED.get(..writes).unwrap_or(NOTHING);
-            assert!(rt;
-                serves(&rt, rt.alloc(), joined, Err(RunFault::Write), written),
-                "at call {writes}"
-            );
+            let fault = Err(RunFault::Write);
+            assert_joined(&rt, rt.alloc(), ("writes", writes), joined, fault, written);
         }
     }
 }
@@ -187,38 +185,47 @@ struct Ends {
     writes: usize,
 }
 
-/// Whether a check of two readers comes to this answer, writes this, and leaves these bytes of the
-/// document. It is asked once more if it was refused memory.
-fn checks(
-    rt: &(impl Threads + Sync),
-    alloc: Global,
-    ends: Ends,
-    wanted: Checked,
-    written: &[u8],
-    left: &[u8],
-) -> bool {
-    comes_right(|| check_outcome(rt, alloc, ends, wanted, written, left))
+/// What a check of two readers comes to, and the bytes of the document that it leaves.
+#[derive(Drop)]
+struct CheckOutcome {
+    outcome: Outcome<Verdict>,
+    left: &'static [u8],
 }
 
-/// The outcome of a check of two readers that is to come to this answer, to write this, and to
-/// leave these bytes of the document. Its ends fail exactly if the answer says so.
-fn check_outcome(
-    rt: &(impl Threads + Sync),
+fn check_outcome(rt: &(impl Threads + Sync), alloc: Global, ends: Ends) -> CheckOutcome {
+    let mut board = Drip::new(ends.board.as_bytes(), ends.board_reads);
+    let mut proof = Drip::new(ends.proof.as_bytes(), ends.proof_reads);
+    let mut writer = Writer::new(ends.writes, Failing::Refuses);
+    let answer = run_check(rt, alloc, &mut board, &mut proof, &mut writer);
+    let outcome = Outcome {
+        answer,
+        read_failed: board.failed() || proof.failed(),
+        writer,
+    };
+    CheckOutcome {
+        outcome,
+        left: proof.rest(),
+    }
+}
+
+/// Asserts the answer of a check of two readers, the bytes that it writes, and those of the
+/// document that it leaves. One that was refused memory is made once more.
+fn assert_check<P: Debug + Copy>(
+    rt: &(impl Abort + Threads + Sync),
     alloc: Global,
+    place: P,
     ends: Ends,
     wanted: Checked,
     written: &[u8],
     left: &[u8],
-) -> Outcome {
-    let mut board = Drip::new(ends.board.as_bytes(), ends.board_reads);
-    let mut proof = Drip::new(ends.proof.as_bytes(), ends.proof_reads);
-    let mut writer = Trickle::<ROOM>::new(ends.writes, Failing::Refuses);
-    let answer = run_check(rt, alloc, &mut board, &mut proof, &mut writer);
-    let read_failed = board.failed() || proof.failed();
-    match outcome_of(answer, wanted, read_failed, &writer, written, NOTHING) {
-        Outcome::Right if proof.rest() != left => Outcome::Wrong,
-        outcome => outcome,
+) {
+    let mut check = check_outcome(rt, alloc, ends);
+    if check.outcome.answer == Err(RunFault::Memory) {
+        assert_refused(rt, place, &check.outcome, NOTHING);
+        check = check_outcome(rt, alloc, ends);
     }
+    assert_outcome(rt, place, &check.outcome, wanted, written);
+    assert_text(rt, (place, "left of the document"), check.left, left);
 }
 
 const READY: Ends = Ends {
@@ -232,8 +239,8 @@ const READY: Ends = Ends {
 #[test]
 fn two_readers(rt: HostRuntime) {
     let alloc = rt.alloc();
-    assert!(rt; checks(&rt, alloc, READY, SHOWN, ACCEPTED, NOTHING));
-    let cut = Ends {
+    assert_check(&rt, alloc, "accepted", READY, SHOWN, ACCEPTED, NOTHING);
+    let document_twice = Ends {
         board: CHAIN_LEAST_TWO,
         ..READY
     };
@@ -241,7 +248,8 @@ fn two_readers(rt: HostRuntime) {
         line: 1,
         kind: BoardKind::Version,
     }));
-    assert!(rt; checks(&rt, alloc, cut, fault, NOTHING, CHAIN_LEAST_TWO.as_bytes()));
+    let left = CHAIN_LEAST_TWO.as_bytes();
+    assert_check(&rt, alloc, "no board", document_twice, fault, NOTHING, left);
     let board_twice = Ends {
         proof: CHAIN_OF_THREE,
         ..READY
@@ -250,90 +258,106 @@ fn two_readers(rt: HostRuntime) {
         line: 1,
         kind: ProofKind::Version,
     }));
-    assert!(rt; checks(&rt, alloc, board_twice, fault, NOTHING, NOTHING));
+    assert_check(
+        &rt,
+        alloc,
+        "no document",
+        board_twice,
+        fault,
+        NOTHING,
+        NOTHING,
+    );
 }
 
 #[test]
 fn two_readers_that_fail_at_each_call(rt: HostRuntime) {
     let alloc = rt.alloc();
+    let document = CHAIN_LEAST_TWO.as_bytes();
     for board_reads in 0..=CHAIN_OF_THREE.len() {
         let ends = Ends {
             board_reads,
             ..READY
         };
-        assert!(rt;
-            checks(
-                &rt,
-                alloc,
-                ends,
-                Err(RunFault::Read),
-                NOTHING,
-                CHAIN_LEAST_TWO.as_bytes()
-            )
+        let place = ("reads of the board", board_reads);
+        assert_check(
+            &rt,
+            alloc,
+            place,
+            ends,
+            Err(RunFault::Read),
+            NOTHING,
+            document,
         );
     }
-    for proof_reads in 0..=CHAIN_LEAST_TWO.len() {
+    for proof_reads in 0..=document.len() {
         let ends = Ends {
             proof_reads,
             ..READY
         };
-        let left = CHAIN_LEAST_TWO
-            .as_bytes()
-            .get(proof_reads..)
-            .unwrap_or(NOTHING);
-        assert!(rt; checks(&rt, alloc, ends, Err(RunFault::Read), NOTHING, left));
+        let place = ("reads of the document", proof_reads);
+        let left = document.get(proof_reads..).unwrap_or(NOTHING);
+        assert_check(&rt, alloc, place, ends, Err(RunFault::Read), NOTHING, left);
     }
     for writes in 0..ACCEPTED.len() {
         let ends = Ends { writes, ..READY };
-        let front = ACCEPTED.get(..writes).unwrap_or(NOTHING);
-        assert!(rt; checks(&rt, alloc, ends, Err(RunFault::Write), front, NOTHING));
+        let place = ("writes", writes);
+        let written = ACCEPTED.get(..writes).unwrap_or(NOTHING);
+        assert_check(
+            &rt,
+            alloc,
+            place,
+            ends,
+            Err(RunFault::Write),
+            written,
+            NOTHING,
+        );
     }
 }
 
-/// The outcome of a run that is to write the nested board, as far as the writer takes it.
-fn nested_outcome(alloc: Global, writes: usize) -> Outcome {
-    let text = CYCLE_WITH_ONE_PEBBLE.as_bytes();
-    let mut writer = Trickle::<ROOM>::new(writes, Failing::Refuses);
+/// What a run of the nested board comes to, with a writer that takes this number of bytes.
+fn nested_outcome(alloc: Global, writes: usize) -> Outcome<()> {
+    let mut writer = Writer::new(writes, Failing::Refuses);
     let answer = run_nested(alloc, 2, 1, &mut writer);
-    let wanted = if writes < text.len() {
-        Err(RunFault::Write)
-    } else {
-        Ok(())
-    };
-    let written = text.get(..writes).unwrap_or(text);
-    outcome_of(answer, wanted, false, &writer, written, NOTHING)
+    Outcome {
+        answer,
+        read_failed: false,
+        writer,
+    }
 }
 
 #[test]
 fn a_nested_board(rt: HostRuntime) {
     let alloc = rt.alloc();
-    for writes in 0..=CYCLE_WITH_ONE_PEBBLE.len() {
-        assert!(rt;
-            comes_right(|| nested_outcome(alloc, writes)),
-            "at call {writes}"
-        );
+    let text = CYCLE_WITH_ONE_PEBBLE.as_bytes();
+    for writes in 0..=text.len() {
+        let wanted = if writes < text.len() {
+            Err(RunFault::Write)
+        } else {
+            Ok(())
+        };
+        let written = text.get(..writes).unwrap_or(text);
+        let run = || nested_outcome(alloc, writes);
+        assert_run(&rt, ("writes", writes), run, wanted, written, NOTHING);
     }
 }
 
-/// The outcome of a call that is to give the text of the nested board.
-fn nested_text_outcome(alloc: Global) -> Outcome {
-    match nested_text(alloc, 2, 1) {
-        Ok(text) => Outcome::of(false, text.as_str() == CYCLE_WITH_ONE_PEBBLE),
-        Err(fault) => Outcome::of(fault == RunFault::Memory, fault == RunFault::Memory),
-    }
-}
-
-/// The outcome of a call that is to give this answer with its line.
-fn answer_outcome(answer: Result<VerdictLine, RunFault>, wanted: Checked, line: &[u8]) -> Outcome {
-    match answer {
+/// Asserts the answer of a check with its line, and a fault without one. A check that was refused
+/// memory is made once more.
+fn assert_verdict<F: Fn() -> Result<VerdictLine, RunFault>>(
+    rt: &impl Abort,
+    place: &str,
+    check: F,
+    wanted: Checked,
+    line: &[u8],
+)
+    requires { F.IsAlwaysCallable check }
+{
+    match once_more(RunFault::Memory, check) {
         Ok(answer) => {
-            let is_right = Ok(answer.verdict) == wanted && answer.line.as_bytes() == line;
-            Outcome::of(false, is_right)
+            assert_same(rt, place, Ok(answer.verdict), wanted);
+            assert_text(rt, place, answer.line.as_bytes(), line);
         }
-        Err(fault) => Outcome::of(
-            fault == RunFault::Memory,
-            fault == RunFault::Memory || Err(fault) == wanted,
-        ),
+        Err(fault) => assert_same(rt, place, Err(fault), wanted),
     }
 }
 
@@ -348,39 +372,35 @@ fn check_both_texts(
     check_text(rt, alloc, &board, proof.as_bytes())
 }
 
-/// The outcome of a call that is to accept the text of the chain with its document.
-fn joined_text_outcome(rt: &(impl Threads + Sync), alloc: Global) -> Outcome {
-    let Ok(text) = joined_text(alloc, CHAIN_OF_THREE, CHAIN_LEAST_TWO) else {
-        return Outcome::Refused;
-    };
-    answer_outcome(
-        check_joined_text(rt, alloc, text.as_bytes()),
-        SHOWN,
-        ACCEPTED,
-    )
+/// The answer to the joined text of a board and a document.
+fn check_one_text(
+    rt: &(impl Threads + Sync),
+    alloc: Global,
+    board: &str,
+    proof: &str,
+) -> Result<VerdictLine, RunFault> {
+    let text = joined_text(alloc, board, proof).map_err(|_| RunFault::Memory)?;
+    check_joined_text(rt, alloc, text.as_bytes())
 }
 
 #[test]
 fn texts_in_memory(rt: HostRuntime) {
     let alloc = rt.alloc();
-    assert!(rt; comes_right(|| nested_text_outcome(alloc)));
-    assert!(rt; comes_right(|| joined_text_outcome(&rt, alloc)));
-    assert!(rt;
-        comes_right(|| answer_outcome(
-            check_both_texts(&rt, alloc, CHAIN_OF_THREE, CHAIN_LEAST_TWO),
-            SHOWN,
-            ACCEPTED
-        ))
+    let nested = || nested_text(alloc, 2, 1);
+    assert_answered(
+        &rt,
+        "a nested board",
+        nested,
+        CYCLE_WITH_ONE_PEBBLE.as_bytes(),
     );
+    let joined = || check_one_text(&rt, alloc, CHAIN_OF_THREE, CHAIN_LEAST_TWO);
+    assert_verdict(&rt, "one text", joined, SHOWN, ACCEPTED);
+    let both = || check_both_texts(&rt, alloc, CHAIN_OF_THREE, CHAIN_LEAST_TWO);
+    assert_verdict(&rt, "two texts", both, SHOWN, ACCEPTED);
     let fault = Err(RunFault::Board(BoardFault {
         line: 1,
         kind: BoardKind::Version,
     }));
-    assert!(rt;
-        comes_right(|| answer_outcome(
-            check_both_texts(&rt, alloc, "", CHAIN_LEAST_TWO),
-            fault,
-            NOTHING
-        ))
-    );
+    let no_board = || check_both_texts(&rt, alloc, "", CHAIN_LEAST_TWO);
+    assert_verdict(&rt, "no board", no_board, fault, NOTHING);
 }

@@ -3,22 +3,28 @@
 
 ghost use Rattle.std.specs.Prelude.{false};
 
-use crate::outcomes::{NOTHING, PLENTY, outcome_of};
+use crate::assertions::{assert_same, assert_text};
+use crate::outcomes::{NOTHING, Outcome, PLENTY, Writer, assert_run};
 use board_text::{BoardFault, BoardKind, Failed, Sink, Source};
 use fakes::boards::{CHAIN_OF_THREE, THREE_CYCLE, TOO_MANY_CONFIGURATIONS};
 use fakes::plays::{ANSWERS, ASKED, NO_STRATEGY, REPLIES, REQUESTS};
-use fakes::{Drip, Failing, Outcome, Trickle, comes_right};
+use fakes::{Drip, Failing};
 use player::PlayEnd;
 use positions::Side;
 use runs::{RunFault, run_play};
 use std::alloc::Global;
 use std::cell::Cell;
+use std::fmt::Debug;
+use std::process::Abort;
 
 const ROOM: usize = 200;
 
 /// The replies to the first three lines, and that the input ended.
 const STOPPED_REPLIES: &[u8] =
     b"value 2\nat 0 0\npebble 1 takes 1\nat 0 1\nnot a request\npebble 0 takes 2\nat 2 1\nstopped after 2 requests\n";
+
+/// The bytes that are written before a line is read.
+const OPENED: &[u8] = b"value 2\nat 0 0\n";
 
 /// A play: the person's side, the texts, and the number of calls of each end that go well.
 #[derive(Clone, Copy)]
@@ -50,54 +56,66 @@ const ANSWERING: Play = Play {
 
 const STUCK: Result<PlayEnd, RunFault> = Ok(PlayEnd::Stuck { requests: 2 });
 
-/// Whether a play comes to this answer and writes this. It is asked once more if it was refused
-/// memory.
-fn serves(alloc: Global, play: Play, wanted: Result<PlayEnd, RunFault>, written: &[u8]) -> bool {
-    comes_right(|| outcome(alloc, play, wanted, written))
+/// What a play comes to.
+fn outcome(alloc: Global, play: Play) -> Outcome<PlayEnd> {
+    let mut board = Drip::new(play.board.as_bytes(), play.board_reads);
+    let mut lines = Drip::new(play.lines, play.line_reads);
+    let mut writer = Writer::new(play.writes, play.failing);
+    let answer = run_play(alloc, play.side, &mut board, &mut lines, &mut writer);
+    Outcome {
+        answer,
+        read_failed: board.failed() || lines.failed(),
+        writer,
+    }
 }
 
-/// The outcome of a play that is to come to this answer and to write this, or a prefix of it if it
-/// is refused memory. Its ends fail exactly if the answer says so.
-fn outcome(
+/// Asserts the answer of a play and the bytes that it writes.
+fn assert_play<P: Debug + Copy>(
+    rt: &impl Abort,
     alloc: Global,
+    place: P,
     play: Play,
     wanted: Result<PlayEnd, RunFault>,
     written: &[u8],
-) -> Outcome {
-    let mut board = Drip::new(play.board.as_bytes(), play.board_reads);
-    let mut lines = Drip::new(play.lines, play.line_reads);
-    let mut writer = Trickle::<ROOM>::new(play.writes, play.failing);
-    let answer = run_play(alloc, play.side, &mut board, &mut lines, &mut writer);
-    let read_failed = board.failed() || lines.failed();
-    outcome_of(answer, wanted, read_failed, &writer, written, written)
+) {
+    assert_run(rt, place, || outcome(alloc, play), wanted, written, written);
 }
 
-/// Whether a play of a person who asks by these lines comes to this answer and writes this.
-fn asks(
+/// Asserts the answer of a play of a person who asks by these lines, and the bytes that it writes.
+fn assert_requests(
+    rt: &impl Abort,
     alloc: Global,
+    place: &str,
     lines: &'static [u8],
     wanted: Result<PlayEnd, RunFault>,
     written: &[u8],
-) -> bool {
-    serves(alloc, Play { lines, ..ASKING }, wanted, written)
+) {
+    assert_play(rt, alloc, place, Play { lines, ..ASKING }, wanted, written);
 }
 
 #[test]
 fn the_person_asks(rt: HostRuntime) {
-    assert!(rt; serves(rt.alloc(), ASKING, STUCK, REPLIES));
+    assert_play(&rt, rt.alloc(), "requests", ASKING, STUCK, REPLIES);
 }
+
+/// The first three lines, for each way in which the input ends after them.
+const ENDINGS: [(&str, &[u8]); 3] = [
+    ("with a line feed", b"1\nx\n0\n"),
+    ("without a line feed", b"1\nx\n0"),
+    ("by quit", b"1\nx\n0\nquit\n1\n"),
+];
 
 #[test]
 fn the_input_ends(rt: HostRuntime) {
     let stopped = Ok(PlayEnd::Stopped { requests: 2 });
-    assert!(rt; asks(rt.alloc(), b"1\nx\n0\n", stopped, STOPPED_REPLIES));
-    assert!(rt; asks(rt.alloc(), b"1\nx\n0", stopped, STOPPED_REPLIES));
-    assert!(rt; asks(rt.alloc(), b"1\nx\n0\nquit\n1\n", stopped, STOPPED_REPLIES));
+    for (ending, lines) in &ENDINGS {
+        assert_requests(&rt, rt.alloc(), ending, lines, stopped, STOPPED_REPLIES);
+    }
 }
 
 #[test]
 fn the_person_answers(rt: HostRuntime) {
-    assert!(rt; serves(rt.alloc(), ANSWERING, STUCK, ASKED));
+    assert_play(&rt, rt.alloc(), "answers", ANSWERING, STUCK, ASKED);
 }
 
 #[test]
@@ -108,7 +126,7 @@ fn a_person_who_answers_stops(rt: HostRuntime) {
         ..ANSWERING
     };
     let written = b"value 2\nat 0 0\nask 0\nat 1 0\nask 1\nstopped after 1 requests\n";
-    assert!(rt; serves(rt.alloc(), play, stopped, written));
+    assert_play(&rt, rt.alloc(), "one answer", play, stopped, written);
 }
 
 #[test]
@@ -118,7 +136,8 @@ fn there_is_no_strategy(rt: HostRuntime) {
         line_reads: 0,
         ..ANSWERING
     };
-    assert!(rt; serves(rt.alloc(), play, Ok(PlayEnd::NoStrategy), NO_STRATEGY));
+    let none = Ok(PlayEnd::NoStrategy);
+    assert_play(&rt, rt.alloc(), "the cycle", play, none, NO_STRATEGY);
 }
 
 #[test]
@@ -126,10 +145,11 @@ fn other_lines_are_no_requests(rt: HostRuntime) {
     let none = Ok(PlayEnd::Stopped { requests: 0 });
     let written =
         b"value 2\nat 0 0\nnot a request\nnot a request\nnot a request\nnot a request\nnot a request\nstopped after 0 requests\n";
-    assert!(rt; asks(rt.alloc(), b"00\n2\n\n 1\n-1\n", none, written));
+    let lines = b"00\n2\n\n 1\n-1\n";
+    assert_requests(&rt, rt.alloc(), "five lines", lines, none, written);
     let one = Ok(PlayEnd::Stopped { requests: 1 });
     let replied = b"value 2\nat 0 0\npebble 1 takes 1\nat 0 1\nstopped after 1 requests\n";
-    assert!(rt; asks(rt.alloc(), b"1", one, replied));
+    assert_requests(&rt, rt.alloc(), "one request", b"1", one, replied);
 }
 
 #[test]
@@ -137,16 +157,10 @@ fn long_lines(rt: HostRuntime) {
     let none = Ok(PlayEnd::Stopped { requests: 0 });
     let longest = b"xxxxxxxxxxxxxxxxxxxxxxxxxxxxxxxxxxxxxxxxxxxxxxxxxxxxxxxxxxxxxxxx\n";
     let refused = b"value 2\nat 0 0\nnot a request\nstopped after 0 requests\n";
-    assert!(rt; asks(rt.alloc(), longest, none, refused));
+    assert_requests(&rt, rt.alloc(), "64 bytes", longest, none, refused);
     let longer = b"xxxxxxxxxxxxxxxxxxxxxxxxxxxxxxxxxxxxxxxxxxxxxxxxxxxxxxxxxxxxxxxxx\n";
-    assert!(rt;
-        asks(
-            rt.alloc(),
-            longer,
-            Err(RunFault::Limit),
-            b"value 2\nat 0 0\n"
-        )
-    );
+    let fault = Err(RunFault::Limit);
+    assert_requests(&rt, rt.alloc(), "65 bytes", longer, fault, OPENED);
 }
 
 #[test]
@@ -157,7 +171,14 @@ fn a_long_line_is_seen_at_its_last_byte(rt: HostRuntime) {
         line_reads: 65,
         ..ASKING
     };
-    assert!(rt; serves(rt.alloc(), play, Err(RunFault::Limit), b"value 2\nat 0 0\n"));
+    assert_play(
+        &rt,
+        rt.alloc(),
+        "65 reads",
+        play,
+        Err(RunFault::Limit),
+        OPENED,
+    );
 }
 
 #[test]
@@ -171,13 +192,20 @@ fn boards_with_faults(rt: HostRuntime) {
         line_reads: 0,
         ..ASKING
     };
-    assert!(rt; serves(rt.alloc(), play, end, NOTHING));
+    assert_play(&rt, rt.alloc(), "a cut board", play, end, NOTHING);
     let large = Play {
         board: TOO_MANY_CONFIGURATIONS,
         line_reads: 0,
         ..ANSWERING
     };
-    assert!(rt; serves(rt.alloc(), large, Err(RunFault::TooLarge), NOTHING));
+    assert_play(
+        &rt,
+        rt.alloc(),
+        "a large board",
+        large,
+        Err(RunFault::TooLarge),
+        NOTHING,
+    );
 }
 
 #[test]
@@ -187,10 +215,8 @@ fn a_read_of_the_board_fails_at_each_call(rt: HostRuntime) {
             board_reads,
             ..ASKING
         };
-        assert!(rt;
-            serves(rt.alloc(), play, Err(RunFault::Read), NOTHING),
-            "at call {board_reads}"
-        );
+        let place = ("reads of the board", board_reads);
+        assert_play(&rt, rt.alloc(), place, play, Err(RunFault::Read), NOTHING);
     }
 }
 
@@ -213,10 +239,8 @@ fn a_read_of_lines_fails_at_each_call(rt: HostRuntime) {
             ..ASKING
         };
         let written = replies_after(line_reads);
-        assert!(rt;
-            serves(rt.alloc(), play, Err(RunFault::Read), written),
-            "at call {line_reads}"
-        );
+        let place = ("reads of lines", line_reads);
+        assert_play(&rt, rt.alloc(), place, play, Err(RunFault::Read), written);
     }
 }
 
@@ -231,10 +255,9 @@ fn a_write_fails_at_each_call(rt: HostRuntime) {
                     ..play
                 };
                 let written = text.get(..writes).unwrap_or(NOTHING);
-                assert!(rt;
-                    serves(rt.alloc(), failing_play, Err(RunFault::Write), written),
-                    "at call {writes}"
-                );
+                let place = (play.side, "writes", writes);
+                let fault = Err(RunFault::Write);
+                assert_play(&rt, rt.alloc(), place, failing_play, fault, written);
             }
         }
     }
@@ -296,7 +319,8 @@ struct Watching<'a> {
     lines: &'a [(usize, &'static [u8])],
     calls: usize,
     noted: &'a Cell<Notes>,
-    is_late: bool,
+    /// The first line that it gave after other bytes: its place, and their number.
+    first_wrong: Option<(usize, usize)>,
     has_ended: bool,
 }
 
@@ -311,8 +335,8 @@ impl Source for Watching<'_> {
             return Ok(0);
         };
         let notes = self.noted.get();
-        if Some(notes.taken()) != self.written.get(..*size) {
-            self.is_late = true;
+        if self.first_wrong.is_none() && Some(notes.taken()) != self.written.get(..*size) {
+            self.first_wrong = Some((self.calls, notes.count));
         }
         self.calls = self.calls.saturating_add(1);
         let size = line.len().min(into.len());
@@ -326,43 +350,74 @@ impl Source for Watching<'_> {
     }
 }
 
-/// The outcome of a play that is to end stuck, with all bytes written. Each line is to be asked for
-/// after the number of written bytes that stands beside it.
-fn watched_outcome(
+/// What a watched play comes to.
+#[derive(Clone, Copy)]
+struct Watched {
+    answer: Result<PlayEnd, RunFault>,
+    notes: Notes,
+    calls: usize,
+    first_wrong: Option<(usize, usize)>,
+}
+
+/// A play in which each line is to be asked for after the number of written bytes that stands
+/// beside it.
+fn watched_play(
     alloc: Global,
     side: Side,
     lines: &[(usize, &'static [u8])],
     written: &[u8],
-) -> Outcome {
+) -> Watched {
     let noted = Cell::new(NO_NOTES);
     let mut watching = Watching {
         written,
         lines,
         calls: 0,
         noted: &noted,
-        is_late: false,
+        first_wrong: None,
         has_ended: false,
     };
     let mut board = Drip::new(CHAIN_OF_THREE.as_bytes(), PLENTY);
     let mut writer = Noting { noted: &noted };
     let answer = run_play(alloc, side, &mut board, &mut watching, &mut writer);
-    let is_refused = answer == Err(RunFault::Memory);
-    let notes = noted.get();
-    let is_right = if is_refused {
-        written.starts_with(notes.taken())
-    } else {
-        answer == STUCK && notes.taken() == written && watching.calls == lines.len()
-    };
-    Outcome::of(is_refused, is_right && !watching.is_late)
+    Watched {
+        answer,
+        notes: noted.get(),
+        calls: watching.calls,
+        first_wrong: watching.first_wrong,
+    }
+}
+
+/// Asserts that a play ends stuck, with all bytes written, and that each line is asked for after
+/// the number of written bytes that stands beside it. A play that was refused memory has written a
+/// prefix, and is played once more.
+fn assert_watched(
+    rt: &impl Abort,
+    alloc: Global,
+    side: Side,
+    lines: &[(usize, &'static [u8])],
+    written: &[u8],
+) {
+    let mut watched = watched_play(alloc, side, lines, written);
+    if watched.answer == Err(RunFault::Memory) {
+        assert_same(rt, (side, "without memory"), watched.first_wrong, None);
+        let found = watched.notes.taken();
+        let prefix = written.get(..found.len()).unwrap_or(written);
+        assert_text(rt, (side, "without memory"), found, prefix);
+        watched = watched_play(alloc, side, lines, written);
+    }
+    assert_same(rt, side, watched.first_wrong, None);
+    assert_same(rt, side, watched.answer, STUCK);
+    assert_text(rt, side, watched.notes.taken(), written);
+    assert_same(rt, (side, "lines"), watched.calls, lines.len());
 }
 
 #[test]
 fn each_answer_is_written_before_the_next_read(rt: HostRuntime) {
     let alloc = rt.alloc();
     let requests: [(usize, &[u8]); 4] = [(15, b"1\n"), (39, b"x\n"), (53, b"0\n"), (77, b"1\n")];
-    assert!(rt; comes_right(|| watched_outcome(alloc, Side::Adversary, &requests, REPLIES)));
+    assert_watched(&rt, alloc, Side::Adversary, &requests, REPLIES);
     let answers: [(usize, &[u8]); 3] = [(21, b"0\n"), (35, b"1\n"), (48, b"2\n")];
-    assert!(rt; comes_right(|| watched_outcome(alloc, Side::Labeller, &answers, ASKED)));
+    assert_watched(&rt, alloc, Side::Labeller, &answers, ASKED);
 }
 
 /// Takes all bytes, and counts them.
@@ -403,23 +458,30 @@ impl Source for Junk {
     }
 }
 
-/// The outcome of a play that is to be broken off after a million lines, each of which was
-/// answered.
-fn million_outcome(alloc: Global) -> Outcome {
+/// The bytes that are written when a million lines were answered: 15 before the first, and 14 for
+/// each.
+const ANSWERED: usize = 15 + 14_000_000;
+
+/// The answer of a play without an end of its lines, and the number of bytes that it writes.
+fn endless_play(alloc: Global) -> (Result<PlayEnd, RunFault>, usize) {
     let mut board = Drip::new(CHAIN_OF_THREE.as_bytes(), PLENTY);
     let mut writer = Counting { count: 0 };
     let answer = run_play(alloc, Side::Adversary, &mut board, &mut Junk, &mut writer);
-    let is_refused = answer == Err(RunFault::Memory);
-    let is_right = if is_refused {
-        writer.count <= 15 + 14_000_000
-    } else {
-        answer == Err(RunFault::Limit) && writer.count == 15 + 14_000_000
-    };
-    Outcome::of(is_refused, is_right)
+    (answer, writer.count)
 }
 
 #[test]
 fn a_million_lines_are_read(rt: HostRuntime) {
     let alloc = rt.alloc();
-    assert!(rt; comes_right(|| million_outcome(alloc)));
+    let (mut answer, mut count) = endless_play(alloc);
+    if answer == Err(RunFault::Memory) {
+        assert_same(&rt, "bytes without memory", count.max(ANSWERED), ANSWERED);
+        (answer, count) = endless_play(alloc);
+    }
+    assert_same(
+        &rt,
+        "a million lines",
+        (answer, count),
+        (Err(RunFault::Limit), ANSWERED),
+    );
 }

@@ -4,17 +4,21 @@ ghost use Rattle.std.specs.Prelude.{◌≡◌, Some, false, codes, if◌then◌e
 ghost use Rattle.std.specs.Str.{bytes_eq};
 ghost use Rattle.serving.specs.Folders.{Closed, Holds};
 
+use crate::assertions::{assert_same, assert_text};
 use crate::outcomes::PLENTY;
 use board_text::{Failed, Source};
 use fakes::boards::{CHAIN_OF_THREE, LONE_LABEL};
 use fakes::documents::{CHAIN_LEAST_TWO, CHAIN_VALUE_TWO};
-use fakes::{Drip, Failing, Outcome, Trickle, comes_right};
+use fakes::{Drip, Failing, Trickle};
 use serving::{Folder, Terminals, Trouble, Words, serve};
 use std::alloc::Global;
+use std::fmt::Debug;
+use std::process::Abort;
 use std::sync::Wait;
 use std::thread::Threads;
 
-const ROOM: usize = 300;
+/// A writer of these tests.
+type Stream = Trickle<300>;
 
 /// The number of configurations of each value of the chain of three labels.
 const CHAIN_REPORT: &str = "report 1\nlabels 3\npebbles 2\nconfigurations 9\nstart value 2\n\
@@ -129,35 +133,49 @@ const NO_INPUT: Terminals = Terminals {
     errors: false,
 };
 
-/// The status, and the texts on standard output and standard error.
+/// The status that is wanted, and the texts on standard output and standard error.
 #[derive(Clone, Copy)]
-struct Served {
+struct Wanted {
     status: u8,
     output: &'static str,
     errors: &'static str,
 }
 
 /// The job is done, and writes this output.
-fn done(output: &'static str) -> Served {
-    Served {
+fn done(output: &'static str) -> Wanted {
+    Wanted {
         status: 0,
         output,
         errors: "",
     }
 }
 
-/// The outcome of words that are to be served so, with this standard input.
-fn outcome(
+/// A file or standard input can't be read.
+const UNREAD: Wanted = Wanted {
+    status: 5,
+    output: "",
+    errors: "read fault\n",
+};
+
+/// The status that words were served with, and what was written.
+#[derive(Drop)]
+struct Served {
+    status: u8,
+    output: Stream,
+    errors: Stream,
+}
+
+/// What the words are served with, with this standard input.
+fn serve_words(
     rt: &(impl Threads + Wait + Sync),
     alloc: Global,
     words: &Words<'_, '_>,
     terminals: Terminals,
     input: &str,
-    wanted: Served,
-) -> Outcome {
+) -> Served {
     let mut input = Drip::new(input.as_bytes(), PLENTY);
-    let mut output = Trickle::<ROOM>::new(PLENTY, Failing::Refuses);
-    let mut errors = Trickle::<ROOM>::new(PLENTY, Failing::Refuses);
+    let mut output = Stream::new(PLENTY, Failing::Refuses);
+    let mut errors = Stream::new(PLENTY, Failing::Refuses);
     let status = serve(
         rt,
         alloc,
@@ -168,143 +186,189 @@ fn outcome(
         &mut output,
         &mut errors,
     );
-    let is_refused = status == 4 && errors.taken().starts_with(OUT_OF_MEMORY.as_bytes());
-    let is_right = status == wanted.status
-        && output.taken() == wanted.output.as_bytes()
-        && errors.taken() == wanted.errors.as_bytes();
-    Outcome::of(is_refused, is_refused || is_right)
+    Served {
+        status,
+        output,
+        errors,
+    }
 }
 
-/// Whether the words are served so, with this standard input and no terminal.
-fn comes_to(
-    rt: &(impl Threads + Wait + Sync),
-    alloc: Global,
-    words: &[&str],
-    input: &str,
-    wanted: Served,
-) -> bool {
-    comes_right(|| outcome(rt, alloc, &Words::Given(words), NO_TERMINALS, input, wanted))
-}
-
-#[test]
-fn checks_of_files_in_memory(rt: HostRuntime) {
-    let alloc = rt.alloc();
-    let accepted = Served {
-        status: 0,
-        output: "accepted least 2\n",
-        errors: "",
-    };
-    let words = ["pebbles", "check", "chain.board", "chain.proof"];
-    assert!(rt; comes_to(&rt, alloc, words.as_slice(), "", accepted));
-    let exchanged = Served {
-        status: 1,
-        output: "",
-        errors: "board fault line 1 Version\n",
-    };
-    let words = ["pebbles", "check", "chain.proof", "chain.board"];
-    assert!(rt; comes_to(&rt, alloc, words.as_slice(), "", exchanged));
-    let missing = Served {
-        status: 5,
-        output: "",
-        errors: "read fault\n",
-    };
-    let words = ["pebbles", "check", "chain.board", "other.proof"];
-    assert!(rt; comes_to(&rt, alloc, words.as_slice(), "", missing));
-}
-
-#[test]
-fn a_play_on_a_file_in_memory(rt: HostRuntime) {
-    let alloc = rt.alloc();
-    let played = Served {
-        status: 0,
-        output: "value 2\nat 0 0\npebble 1 takes 1\nat 0 1\nstopped after 1 requests\n",
-        errors: "",
-    };
-    let words = ["pebbles", "play", "--side", "adversary", "chain.board"];
-    assert!(rt; comes_to(&rt, alloc, words.as_slice(), "1\nquit\n", played));
-}
-
-#[test]
-fn each_other_job(rt: HostRuntime) {
-    let alloc = rt.alloc();
-    let words = ["pebbles", "solve", "chain.board"];
-    assert!(rt; comes_to(&rt, alloc, words.as_slice(), "", done(CHAIN_VALUE_TWO)));
-    let words = ["pebbles", "solve", "--workers", "2", "chain.board"];
-    assert!(rt; comes_to(&rt, alloc, words.as_slice(), "", done(CHAIN_VALUE_TWO)));
-    let words = ["pebbles", "report", "chain.board"];
-    assert!(rt; comes_to(&rt, alloc, words.as_slice(), "", done(CHAIN_REPORT)));
-    let words = ["pebbles", "nested", "1", "1"];
-    assert!(rt; comes_to(&rt, alloc, words.as_slice(), "", done(LONE_LABEL)));
-    let words = ["pebbles", "climb", "1"];
-    assert!(rt; comes_to(&rt, alloc, words.as_slice(), "quit\n", done(CLIMBED)));
-    let words = ["pebbles"];
-    assert!(rt;
-        comes_to(
-            &rt,
-            alloc,
-            words.as_slice(),
-            CHAIN_JOINED,
-            done("accepted least 2\n")
-        )
+/// Asserts the status, and the texts on standard output and standard error.
+fn assert_served<P: Debug + Copy>(rt: &impl Abort, place: P, served: &Served, wanted: Wanted) {
+    assert_text(
+        rt,
+        (place, "errors"),
+        served.errors.taken(),
+        wanted.errors.as_bytes(),
     );
+    assert_same(rt, place, served.status, wanted.status);
+    assert_text(
+        rt,
+        (place, "output"),
+        served.output.taken(),
+        wanted.output.as_bytes(),
+    );
+}
+
+/// Asserts what words are served with. If they are refused memory, they are served once more.
+fn assert_words(
+    rt: &(impl Abort + Threads + Wait + Sync),
+    alloc: Global,
+    place: &str,
+    words: &[&str],
+    terminals: Terminals,
+    input: &str,
+    wanted: Wanted,
+) {
+    let given = Words::Given(words);
+    let mut once = serve_words(rt, alloc, &given, terminals, input);
+    if once.status == 4 && once.errors.taken().starts_with(OUT_OF_MEMORY.as_bytes()) {
+        once = serve_words(rt, alloc, &given, terminals, input);
+    }
+    assert_served(rt, place, &once, wanted);
+}
+
+/// What is asked for, the words, the bytes of standard input, and the output of the job.
+const JOBS: [(&str, &[&str], &str, &str); 8] = [
+    (
+        "a check",
+        &["pebbles", "check", "chain.board", "chain.proof"],
+        "",
+        "accepted least 2\n",
+    ),
+    (
+        "a play",
+        &["pebbles", "play", "--side", "adversary", "chain.board"],
+        "1\nquit\n",
+        "value 2\nat 0 0\npebble 1 takes 1\nat 0 1\nstopped after 1 requests\n",
+    ),
+    (
+        "a document",
+        &["pebbles", "solve", "chain.board"],
+        "",
+        CHAIN_VALUE_TWO,
+    ),
+    (
+        "a document by two workers",
+        &["pebbles", "solve", "--workers", "2", "chain.board"],
+        "",
+        CHAIN_VALUE_TWO,
+    ),
+    (
+        "a report",
+        &["pebbles", "report", "chain.board"],
+        "",
+        CHAIN_REPORT,
+    ),
+    (
+        "a nested board",
+        &["pebbles", "nested", "1", "1"],
+        "",
+        LONE_LABEL,
+    ),
+    ("a climb", &["pebbles", "climb", "1"], "quit\n", CLIMBED),
+    (
+        "a joined text",
+        &["pebbles"],
+        CHAIN_JOINED,
+        "accepted least 2\n",
+    ),
+];
+
+#[test]
+fn each_job(rt: HostRuntime) {
+    for (job, words, input, output) in &JOBS {
+        assert_words(
+            &rt,
+            rt.alloc(),
+            job,
+            words,
+            NO_TERMINALS,
+            input,
+            done(output),
+        );
+    }
+}
+
+/// What is wrong with the words of a check, the words, and what is wanted of them.
+const FAULTS: [(&str, &[&str], Wanted); 2] = [
+    (
+        "exchanged files",
+        &["pebbles", "check", "chain.proof", "chain.board"],
+        Wanted {
+            status: 1,
+            output: "",
+            errors: "board fault line 1 Version\n",
+        },
+    ),
+    (
+        "a missing file",
+        &["pebbles", "check", "chain.board", "other.proof"],
+        UNREAD,
+    ),
+];
+
+#[test]
+fn checks_with_faults(rt: HostRuntime) {
+    for (fault, words, wanted) in &FAULTS {
+        assert_words(&rt, rt.alloc(), fault, words, NO_TERMINALS, "", *wanted);
+    }
 }
 
 #[test]
 fn no_words(rt: HostRuntime) {
     let alloc = rt.alloc();
-    let no_text = Served {
+    let no_text = Wanted {
         status: 2,
         output: "",
         errors: "error: a word on the command line is not text\n",
     };
-    let comes = comes_right(|| outcome(&rt, alloc, &Words::NotText, NO_TERMINALS, "", no_text));
-    assert!(rt; comes);
-    let no_memory = Served {
+    let mut once = serve_words(&rt, alloc, &Words::NotText, NO_TERMINALS, "");
+    if once.status == 4 && once.errors.taken().starts_with(OUT_OF_MEMORY.as_bytes()) {
+        once = serve_words(&rt, alloc, &Words::NotText, NO_TERMINALS, "");
+    }
+    assert_served(&rt, "no text", &once, no_text);
+    let no_memory = Wanted {
         status: 4,
         output: "",
         errors: OUT_OF_MEMORY,
     };
-    assert!(rt;
-        outcome(&rt, alloc, &Words::OutOfMemory, NO_TERMINALS, "", no_memory) == Outcome::Refused
-    );
+    let once = serve_words(&rt, alloc, &Words::OutOfMemory, NO_TERMINALS, "");
+    assert_served(&rt, "out of memory", &once, no_memory);
 }
 
 #[test]
 fn a_closed_standard_input(rt: HostRuntime) {
     let alloc = rt.alloc();
-    let unread = Served {
-        status: 5,
-        output: "",
-        errors: "read fault\n",
-    };
     let words = ["pebbles", "play", "--side", "adversary", "chain.board"];
-    let words = Words::Given(words.as_slice());
-    let comes = comes_right(|| outcome(&rt, alloc, &words, NO_INPUT, "quit\n", unread));
-    assert!(rt; comes);
+    assert_words(&rt, alloc, "a play", &words, NO_INPUT, "quit\n", UNREAD);
     let words = ["pebbles", "nested", "1", "1"];
-    let words = Words::Given(words.as_slice());
-    let comes = comes_right(|| outcome(&rt, alloc, &words, NO_INPUT, "", done(LONE_LABEL)));
-    assert!(rt; comes);
+    assert_words(
+        &rt,
+        alloc,
+        "a nested board",
+        &words,
+        NO_INPUT,
+        "",
+        done(LONE_LABEL),
+    );
 }
 
 #[test]
 fn a_missing_file_at_a_terminal(rt: HostRuntime) {
-    let alloc = rt.alloc();
-    let missing = Served {
+    let missing = Wanted {
         status: 5,
         output: "",
         errors: "read fault\nother.board: there is no such file; look for its spelling and its folder\n",
     };
     let words = ["pebbles", "solve", "other.board"];
-    let comes = comes_right(|| {
-        outcome(
-            &rt,
-            alloc,
-            &Words::Given(words.as_slice()),
-            TERMINALS,
-            "",
-            missing,
-        )
-    });
-    assert!(rt; comes);
+    assert_words(
+        &rt,
+        rt.alloc(),
+        "a document",
+        &words,
+        TERMINALS,
+        "",
+        missing,
+    );
 }

@@ -173,10 +173,16 @@ command_read s words is pass =
 solve_row : IsCommand rows.solve
 solve_row = record {
   plain = refl;
-  good = ((refl, inl (refl, omega arith)), ((refl, inl (refl, omega arith)), ((refl, inr (inr refl)), tt)));
+  good = (
+    (refl, inl (refl, omega arith)),
+    (
+      (refl, inr (inl (refl, omega arith))),
+      ((refl, inl (refl, omega arith)), ((refl, inr (inr refl)), tt)),
+    ),
+  );
   arguments = (
     (inr (omega arith), refl, inl (refl, inr (inl (MAX_WORKERS, refl)))),
-    ((inl refl, refl, inl (refl, inl refl)), tt),
+    ((inr (omega arith), refl, inr (refl, refl)), ((inl refl, refl, inl (refl, inl refl)), tt)),
   );
 }
 

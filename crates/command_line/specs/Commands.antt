@@ -38,7 +38,7 @@ abbrev pub command : Text → List Rule → Shape
 command name rules = record (new_shape name) { rules = rules }
 
 abbrev pub solve : Shape
-solve = command (codes "solve") (workers ∷ path (codes "board") ∷ [])
+solve = command (codes "solve") (workers ∷ large ∷ path (codes "board") ∷ [])
 
 abbrev pub check : Shape
 check = command (codes "check") (path (codes "board") ∷ path (codes "proof") ∷ [])

@@ -49,8 +49,9 @@ AsksFor name rows (jobs.Check board proof) = (name ≡ codes "check")
 AsksFor name rows (jobs.Nested levels pebbles) = (name ≡ codes "nested")
     × HasNumber rows (codes "levels") MAX_BOARD_LEVELS levels
     × HasNumber rows (codes "pebbles") MAX_PEBBLES pebbles
-AsksFor name rows (jobs.Solve workers board) = (name ≡ codes "solve")
+AsksFor name rows (jobs.Solve workers large board) = (name ≡ codes "solve")
     × HasNumber rows (codes "workers") MAX_WORKERS workers
+    × HasFlag rows (codes "large") large
     × (first_of (codes "board") rows ≡ Some board.now)
 AsksFor name rows (jobs.Report workers large board) = (name ≡ codes "report")
     × HasNumber rows (codes "workers") MAX_WORKERS workers
@@ -75,7 +76,7 @@ IsInRange jobs.Joined = Unit {0}
 IsInRange (jobs.Check board proof) = Unit {0}
 IsInRange (jobs.Nested levels pebbles) =
     (1 ≤ levels) × (levels ≤ MAX_BOARD_LEVELS) × (1 ≤ pebbles) × (pebbles ≤ MAX_PEBBLES)
-IsInRange (jobs.Solve workers board) = (1 ≤ workers) × (workers ≤ MAX_WORKERS)
+IsInRange (jobs.Solve workers large board) = (1 ≤ workers) × (workers ≤ MAX_WORKERS)
 IsInRange (jobs.Report workers large board) = (1 ≤ workers) × (workers ≤ MAX_WORKERS)
 IsInRange (jobs.Play side large board) = Unit {0}
 IsInRange (jobs.Climb levels) = (1 ≤ levels) × (levels ≤ MAX_LEVELS)
@@ -99,7 +100,7 @@ has_topic words = false
 abbrev pub version_text : List ℕ
 version_text = with_line_feed (codes "pebbles 1.1.0")
     ++ with_line_feed
-    (codes "reads `board 1`, `board 2` and `proof 1`, writes these and `report 1`")
+    (codes "reads `board 1`, `board 2`, `proof 1` and `proof 2`, writes these and `report 1`")
 
 -- the name stands in the text
 abbrev pub Names : List ℕ → Text → Type 0

@@ -25,8 +25,11 @@ pub enum Job<'a> {
         pebbles: u8,
     },
     /// Solve the board, a path, with 1 to `MAX_WORKERS` workers, and write its strategy document.
+    /// For a `large` board, which is limited by its classes and not by its configurations, that is
+    /// the document by classes.
     Solve {
         workers: u8,
+        large: bool,
         board: &'a str,
     },
     /// Solve the board, a path, with 1 to `MAX_WORKERS` workers, and write the number of

@@ -16,7 +16,7 @@ use std::alloc::{AllocError, Global};
 /// The program's version, and the first lines of the texts that it reads and writes. `clap` takes
 /// the option from it, and `words` shows it.
 pub(crate) const VERSION: &str =
-    "pebbles 1.1.0\nreads `board 1`, `board 2` and `proof 1`, writes these and `report 1`\n";
+    "pebbles 1.1.0\nreads `board 1`, `board 2`, `proof 1` and `proof 2`, writes these and `report 1`\n";
 
 /// The command may be left out.
 const USAGE: &str = "pebbles [COMMAND]";
@@ -30,7 +30,7 @@ const ABOUT: &str =
 /// The meaning of the exit statuses, with an example.
 const AFTER_HELP: &str = "Exit statuses:\n  \
     0  done, or help or the version was asked for\n  \
-    1  a fault in the text of a board or a document, or a board that is too large\n  \
+    1  a fault in the text of a board or a document, or one of them that is too large\n  \
     2  wrong words on the command line\n  \
     3  the document was refused\n  \
     4  out of memory, or a worker that was not started\n  \
@@ -46,14 +46,16 @@ const _: () = prove!(MAX_CONFIGURATIONS == 1_048_576);
 /// The help of `solve`.
 const ABOUT_SOLVING: &str =
     "Writes the strategy document of the board, which `check` accepts. It is the same for every \
-    number of workers. Documents list configurations, so `solve` has no --large, as `report` and \
-    `play` have.\n\n\
+    number of workers. With --large it is the document by classes, whose rows say nothing of \
+    which pebble holds which label.\n\n\
     Common faults:\n  \
     board fault line 1 Version  not a board: Windows line ends, or a strategy document\n  \
     board fault line 4 Start    as many labels as pebbles are wanted, each below the number of labels\n  \
     board fault line N Beats    line N is not `beats` and two labels, with one space between them\n  \
     board fault line N Order    the pairs are not sorted as numbers, or one is there twice\n  \
-    board too large             more than 1048576 configurations: labels to the power of pebbles\n\n\
+    board too large             more than 1048576 configurations: labels to the power of \
+    pebbles; --large takes more\n  \
+    document too large          more than 134217728 bytes, which `check` would not read\n\n\
     Example:\n  \
     pebbles solve chain.board > chain.proof";
 
@@ -74,7 +76,8 @@ const ABOUT_REPORTING: &str = "The report is the same for every number of worker
 /// The help of `check`.
 const ABOUT_CHECKING: &str =
     "Writes one line: `accepted` and the claim, or `refused` and the first rule of checking that \
-    the document breaks.\n\n\
+    the document breaks. The rows of a document are for configurations, or if its first line is \
+    `proof 2` for classes; then the board may be of any size.\n\n\
     Common faults:\n  \
     board fault line 1 Version  BOARD is not a board; perhaps the two paths are exchanged\n  \
     proof fault line 1 Version  PROOF is not a strategy document\n  \
@@ -160,6 +163,7 @@ fn solve<'a>(alloc: Global) -> Result<Command<'a>, AllocError>
         .about("Reads a board, and writes the value of its start and the strategies that show it")
         .after_help(ABOUT_SOLVING)
         .arg(workers(alloc))?
+        .arg(large(alloc))?
         .arg(board)
 }
 

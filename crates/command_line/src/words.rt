@@ -199,8 +199,13 @@ fn solve_job<'a>(values: &ArgMatches<'a>) -> Option<Job<'a>>
     ensures numbers { IfSome result IsInRange }
 {
     let workers = number(values, "workers", MAX_WORKERS)?;
+    let large = flag(values, "large")?;
     let board = text(values, "board")?;
-    Some(Job::Solve { workers, board })
+    Some(Job::Solve {
+        workers,
+        large,
+        board,
+    })
 }
 
 fn check_job<'a>(values: &ArgMatches<'a>) -> Option<Job<'a>>

@@ -15,25 +15,29 @@ pub(crate) fn job_of<'a>(alloc: Global, words: &'a [&'a str]) -> Result<Job<'a>,
 
 /// Asserts that the words ask for this job.
 fn assert_asks(rt: &impl Abort, alloc: Global, words: &[&str], wanted: Job<'_>) {
-    match job_of(alloc, words) {
-        Ok(job) => assert_eq!(rt; job, wanted),
-        Err(_) => panic!(rt; "the words are none of the program's"),
+    match job_of(alloc, &*words) {
+        Ok(job) => assert_eq!(rt; job, wanted, "at {words:?}"),
+        Err(fault) => panic!(rt; "at {words:?}: {fault:?}"),
     }
 }
 
 /// Asserts that the words ask for nothing that can be done.
 fn assert_usage(rt: &impl Abort, alloc: Global, words: &[&str]) {
-    match job_of(alloc, words) {
-        Err(JobFault::Usage { text }) => assert!(rt; text.starts_with("error: ")),
-        _ => panic!(rt; "the words are taken"),
+    match job_of(alloc, &*words) {
+        Err(JobFault::Usage { text }) => {
+            assert!(rt; text.starts_with("error: "), "at {words:?}: {text}");
+        }
+        answer => panic!(rt; "at {words:?}: {answer:?}"),
     }
 }
 
 /// Asserts that the words ask for help or for the version, in whose text the other word stands.
 fn assert_help(rt: &impl Abort, alloc: Global, words: &[&str], within: &str) {
-    match job_of(alloc, words) {
-        Err(JobFault::Help { text }) => assert!(rt; text.contains(within)),
-        _ => panic!(rt; "no text is given"),
+    match job_of(alloc, &*words) {
+        Err(JobFault::Help { text }) => {
+            assert!(rt; text.contains(within), "no {within} in {text}");
+        }
+        answer => panic!(rt; "at {words:?}: {answer:?}"),
     }
 }
 
@@ -73,24 +77,51 @@ fn nested_boards(rt: HostRuntime) {
 
 #[test]
 fn solving(rt: HostRuntime) {
-    for (words, workers) in [
-        (["pebbles", "solve", "a"].as_slice(), 1),
-        (["pebbles", "solve", "--workers", "2", "a"].as_slice(), 2),
-        (["pebbles", "solve", "a", "--workers=16"].as_slice(), 16),
+    for (words, workers, large, board) in [
+        (["pebbles", "solve", "a"].as_slice(), 1, false, "a"),
+        (
+            ["pebbles", "solve", "--workers", "2", "a"].as_slice(),
+            2,
+            false,
+            "a",
+        ),
+        (
+            ["pebbles", "solve", "a", "--workers=16"].as_slice(),
+            16,
+            false,
+            "a",
+        ),
         (
             ["pebbles", "solve", "--workers", "1", "--", "a"].as_slice(),
             1,
+            false,
+            "a",
+        ),
+        (
+            ["pebbles", "solve", "--large", "b"].as_slice(),
+            1,
+            true,
+            "b",
+        ),
+        (
+            ["pebbles", "solve", "b", "--workers=3", "--large"].as_slice(),
+            3,
+            true,
+            "b",
+        ),
+        (
+            ["pebbles", "solve", "--", "--large"].as_slice(),
+            1,
+            false,
+            "--large",
         ),
     ] {
-        assert_asks(
-            &rt,
-            rt.alloc(),
-            words,
-            Job::Solve {
-                workers,
-                board: "a",
-            },
-        );
+        let wanted = Job::Solve {
+            workers,
+            large,
+            board,
+        };
+        assert_asks(&rt, rt.alloc(), words, wanted);
     }
 }
 
@@ -215,7 +246,7 @@ fn wrong_words_of_solving_and_reports(rt: HostRuntime) {
         ["pebbles", "solve", "--workers=17", "a"].as_slice(),
         ["pebbles", "solve", "--workers=", "a"].as_slice(),
         ["pebbles", "solve", "--workers=2", "--workers=2", "a"].as_slice(),
-        ["pebbles", "solve", "--large", "a"].as_slice(),
+        ["pebbles", "solve", "--large", "--large", "a"].as_slice(),
         ["pebbles", "report"].as_slice(),
         ["pebbles", "report", "--large"].as_slice(),
         ["pebbles", "report", "--large=true", "a"].as_slice(),

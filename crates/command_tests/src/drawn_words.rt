@@ -47,8 +47,7 @@ impl Form {
     fn of(command: &str) -> Option<Form> {
         match command {
             "check" => Some(Form::new("none", false, 2, 0)),
-            "solve" => Some(Form::new("--workers", false, 1, 0)),
-            "report" => Some(Form::new("--workers", true, 1, 0)),
+            "solve" | "report" => Some(Form::new("--workers", true, 1, 0)),
             "nested" => Some(Form::new("none", false, 2, 6)),
             "play" => Some(Form::new("--side", true, 1, 0)),
             "climb" => Some(Form::new("none", false, 1, 24)),
@@ -176,6 +175,6 @@ fn thousands_of_lines(rt: HostRuntime) {
         }
         let line = &line[..=draws.below(5) as usize];
         let wanted = Some(asked(&line[1..]));
-        assert!(rt; answered(rt.alloc(), line) == wanted, "{line:?}");
+        assert_eq!(rt; answered(rt.alloc(), line), wanted, "at {line:?}");
     }
 }

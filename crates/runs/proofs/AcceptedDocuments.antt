@@ -1,5 +1,6 @@
 -- A check accepts the document that was printed for a board.
 use Rattle.std.proofs.Common.{◌≡◌, ◌≤◌, ◌++◌, ◌∙◌, ℕ, List, [], Option, Some, None, append-nil, ap, refl, subst, sym}
+use Rattle.std.proofs.Common.{inl, inr}
 use Rattle.board_text.specs.Streams.{GaveAll}
 use Rattle.board_text.specs.PlainBoard.{PlainBoard, IsBoard}
 use Rattle.board_text.specs.BoardText.{board_text}
@@ -16,24 +17,28 @@ use Rattle.proof_text.proofs.Cited.{one_document, no_fault as faultless_document
 use Rattle.positions.specs.Claim.{claim_of}
 use Rattle.strategies.proofs.Cited.{is_formed, breaks_no_rule}
 use Rattle.runs.specs.CheckRun.{RanCheck}
-use Rattle.runs.specs.Verdicts.{IsChecked, IsVerdict}
+use Rattle.runs.specs.Verdicts.{IsChecked, IsProofOf, IsVerdict, IsVerdictOf, text_of_proof}
 use Rattle.runs.specs.Run.{Bytes, Ran}
 use Rattle.runs.specs.SolveRun.{IsSolution, IsSolved}
-use Rattle.runs.specs.Texts.{HasNoBoard, HasNoProof, IsBoardWithin, IsMemory, IsSmallBoard, IsWrongWithin}
+use Rattle.runs.specs.Texts.{HasNoBoard, HasNoProof, IsBoardAmong, IsBoardWithin, IsByClasses, IsMemory, IsSmallBoard}
+use Rattle.runs.specs.Texts.{IsWrongAmong, IsWrongWithin, OfAnySize}
 use Rattle.graphs.specs.Numbered.{IsFewBy}
 use Rattle.graphs.specs.declared.graph.Numbering.{Numbering}
-use Rattle.graphs.specs.declared.graph.Numbering.TheVariants.{Ordered}
+use Rattle.graphs.specs.declared.graph.Numbering.TheVariants.{Ordered, Classes}
 use Rattle.runs.proofs.BoardLimits.{few_configurations}
+use Rattle.runs.proofs.DocumentKinds.{by_classes, by_ranks}
 use Rattle.runs.specs.declared.fault.RunFault.{RunFault}
 use Rattle.runs.specs.declared.fault.RunFault.TheVariants.{Board, TooLarge, Proof, Memory, Worker, Read, Write, Limit}
+use Rattle.runs.specs.declared.fault.RunFault.TheVariants.{DocumentTooLarge}
 use Rattle.runs.specs.declared.verdicts.Verdict.{Verdict}
-use Rattle.runs.specs.declared.verdicts.Verdict.TheVariants.{Accepted, Refused}
+use Rattle.runs.specs.declared.verdicts.Verdict.TheVariants.{Accepted, Refused, RefusedByClasses}
 
 -- the verdict on a document that breaks no rule
 verdict_of : (board : PlainBoard) (proof : PlainProof) (value : Value) (verdict : Verdict) → BreaksNoRule board proof
     → proof.claim ≡ claim_of value → IsVerdict board proof verdict
     → verdict ≡ Accepted (record { claim = claim_of value })
 verdict_of board proof value (Accepted shown) rules claim is = ap (λ c. Accepted (record { claim = c })) (is.0 ∙ claim)
+verdict_of board proof value (RefusedByClasses fault) rules claim is = absurd is
 verdict_of board proof value (Refused fault) rules claim is = absurd (is.1 (only_memory board proof fault rules is.0))
 
 module _ (board : PlainBoard) (value : Value) (text : List ℕ) (is_board : IsBoard board)
@@ -55,21 +60,27 @@ module _ (board : PlainBoard) (value : Value) (text : List ℕ) (is_board : IsBo
       ap (λ (p : PlainProof). p.claim) (sym same) ∙ found.claim ∙ ap claim_of same_worth in
       verdict_of board proof value verdict rules claim is
 
--- the text of a board within the limit isn't wrong
+-- the text of a board that is small enough isn't wrong
+pub not_wrong_among : (IsSmall : PlainBoard → Type 0) (text : List ℕ) (board : PlainBoard)
+    → IsBoardAmong IsSmall text board → (fault : RunFault) → IsWrongAmong IsSmall text fault → ⊥
+not_wrong_among IsSmall text board small (Board fault) wrong =
+    wrong.1 (faultless_board text fault.line fault.kind board small.is_board small.spelled wrong.0)
+not_wrong_among IsSmall text board small TooLarge (other, is, spelled, many) =
+    let same : board ≡ other = one_board board other small.is_board is (sym small.spelled ∙ spelled) in
+    many (subst IsSmall same small.few)
+not_wrong_among IsSmall text board small Memory wrong = wrong
+not_wrong_among IsSmall text board small (Proof fault) wrong = wrong
+not_wrong_among IsSmall text board small Worker wrong = wrong
+not_wrong_among IsSmall text board small Read wrong = wrong
+not_wrong_among IsSmall text board small Write wrong = wrong
+not_wrong_among IsSmall text board small DocumentTooLarge wrong = wrong
+not_wrong_among IsSmall text board small Limit wrong = wrong
+
+-- nor is that of a board within the limit
 pub not_wrong : (limit : Numbering) (text : List ℕ) (board : PlainBoard) → IsBoardWithin limit text board
     → (fault : RunFault)
     → IsWrongWithin limit text fault → ⊥
-not_wrong limit text board small (Board fault) wrong =
-    wrong.1 (faultless_board text fault.line fault.kind board small.is_board small.spelled wrong.0)
-not_wrong limit text board small TooLarge (other, is, spelled, many) =
-    let same : board ≡ other = one_board board other small.is_board is (sym small.spelled ∙ spelled) in
-    many (subst (IsFewBy limit) same small.few)
-not_wrong limit text board small Memory wrong = wrong
-not_wrong limit text board small (Proof fault) wrong = wrong
-not_wrong limit text board small Worker wrong = wrong
-not_wrong limit text board small Read wrong = wrong
-not_wrong limit text board small Write wrong = wrong
-not_wrong limit text board small Limit wrong = wrong
+not_wrong limit = not_wrong_among (IsFewBy limit)
 
 module _ (text written : List ℕ) (value : Value) (solution : IsSolution text value written) where
   -- the text is that of one board
@@ -84,35 +95,55 @@ module _ (text written : List ℕ) (value : Value) (solution : IsSolution text v
   no_fault_of_board Worker wrong = absurd wrong
   no_fault_of_board Read wrong = absurd wrong
   no_fault_of_board Write wrong = absurd wrong
+  no_fault_of_board DocumentTooLarge wrong = absurd wrong
   no_fault_of_board Limit wrong = absurd wrong
 
   module _ (board : PlainBoard) (small : IsSmallBoard text board) where
     solved : IsSolved board value written
     solved = subst (λ b. IsSolved b value written) (same_board board small.is_board small.spelled) solution.2
 
+    -- it is one by configurations
+    ranked : IsByClasses written → ⊥
+    ranked = by_ranks written board solved.document solved.text_is
+
+    accepts_of : (kind : Numbering) (proof : PlainProof) (verdict : Verdict) → IsProofOf kind board proof
+        → written ≡ text_of_proof kind board proof → IsVerdictOf kind board proof verdict
+        → verdict ≡ Accepted (record { claim = claim_of value })
+    accepts_of Ordered proof verdict (few, is_proof) spelled is =
+        accepts board value written small.is_board
+        (few_configurations board small.few) solved proof verdict is_proof spelled is
+    accepts_of Classes proof verdict is_proof spelled is = absurd (ranked (by_classes written board proof spelled))
+
     pub accepts_text : (verdict : Verdict) (line : List ℕ) → IsChecked board written verdict line
         → verdict ≡ Accepted (record { claim = claim_of value })
-    accepts_text verdict line is =
-        accepts board value written small.is_board
-        (few_configurations board small.few) solved is.proof verdict is.is_proof is.text_is is.verdict_is
+    accepts_text verdict line is = accepts_of is.kind is.proof verdict is.is_proof is.text_is is.verdict_is
 
     pub no_fault_of_document : (fault : RunFault) → HasNoProof board written fault → IsMemory fault
-    no_fault_of_document (Proof fault) wrong =
-        absurd (wrong.1 (faultless_document board written fault.line fault.kind solved.document small.is_board
+    no_fault_of_document (Proof fault) (inl (begins, has), not) = absurd (ranked begins)
+    no_fault_of_document (Proof fault) (inr (begins, few, has), not) =
+        absurd (not (faultless_document board written fault.line fault.kind solved.document small.is_board
         (is_formed board solved.document small.is_board.start (few_configurations board small.few) solved.is_document)
-        solved.text_is wrong.0))
+        solved.text_is has))
     no_fault_of_document Memory wrong = refl
+    no_fault_of_document TooLarge (begins, large) = absurd (large small.few)
     no_fault_of_document (Board fault) wrong = absurd wrong
-    no_fault_of_document TooLarge wrong = absurd wrong
     no_fault_of_document Worker wrong = absurd wrong
     no_fault_of_document Read wrong = absurd wrong
     no_fault_of_document Write wrong = absurd wrong
+    no_fault_of_document DocumentTooLarge wrong = absurd wrong
     no_fault_of_document Limit wrong = absurd wrong
 
 -- bytes that were all given are the text
 known_all : (bytes text : List ℕ) (left : Option (List ℕ)) → GaveAll (Some bytes) left text → bytes ≡ text
 known_all bytes text None gave = absurd gave.0
 known_all bytes text (Some rest) gave = gave.0 ∙ ap (λ r. text ++ r) gave.1 ∙ append-nil text
+
+-- a small board with a text is the board of any size that has it
+as_small : (text : List ℕ) (one other : PlainBoard) → IsSmallBoard text one → IsBoardAmong OfAnySize text other
+    → IsSmallBoard text other
+as_small text one other small is =
+    let same : one ≡ other = one_board one other small.is_board is.is_board (sym small.spelled ∙ is.spelled) in
+    record { is_board = is.is_board; few = subst (IsFewBy Ordered) same small.few; spelled = is.spelled }
 
 pub runs_agree : (limit board_limit proof_limit : ℕ) (bytes text : List ℕ)
     (solve_left board_left proof_left : Option (List ℕ)) (written : Bytes) (value : Value) (verdict : Verdict)
@@ -123,9 +154,10 @@ pub runs_agree : (limit board_limit proof_limit : ℕ) (bytes text : List ℕ)
     → verdict ≡ Accepted (record { claim = claim_of value })
 runs_agree limit board_limit proof_limit bytes text solve_left board_left proof_left written value verdict
     (read, gave, (printed, solution, wrote))
-    (board, (other, gave_too, small), (read_proof, gave_proof, (line, checked, wrote_line))) =
+    (board, (other, gave_too, is), (read_proof, gave_proof, (line, checked, wrote_line))) =
     let same : other ≡ read = sym (known_all bytes other board_left gave_too.0)
     ∙ known_all bytes read solve_left gave.0 in
     let spelled : read_proof ≡ printed = sym (known_all text read_proof proof_left gave_proof.0) ∙ wrote in
-    accepts_text read printed value solution board (subst (λ t. IsSmallBoard t board) same small) verdict line
+    accepts_text read printed value solution board
+    (as_small read solution.0 board solution.1 (subst (λ t. IsBoardAmong OfAnySize t board) same is)) verdict line
     (subst (λ t. IsChecked board t verdict line) spelled checked)

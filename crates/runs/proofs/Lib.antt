@@ -4,6 +4,8 @@ pub mod SolverFaults
 pub mod WrittenWords
 pub mod FailedRuns
 pub mod WrongTexts
+pub mod DocumentKinds
+pub mod OneVerdict
 pub mod AcceptedLines
 pub mod Headlines
 pub mod ReportCounts
@@ -11,6 +13,7 @@ pub mod CountSums
 pub mod AcceptedDocuments
 pub mod Solutions
 pub mod OneOutcome
+pub mod ClassSolutions
 pub mod ToldNotices
 pub mod PlayFaults
 pub mod Cited

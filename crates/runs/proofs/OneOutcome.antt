@@ -16,11 +16,13 @@ use Rattle.solver.specs.Sizes.{HasCount}
 use Rattle.strategies.proofs.Cited.{one_document}
 use Rattle.runs.specs.Report.{Report, AreCounts, IsReport, IsReportOf, report_text_alone, IsReportOfText}
 use Rattle.runs.specs.SolveRun.{IsSolution, IsSolved}
-use Rattle.runs.specs.Texts.{IsBoardWithin, IsWrongWithin}
+use Rattle.graphs.specs.Numbered.{IsFewBy}
+use Rattle.runs.specs.Texts.{IsBoardWithin, IsWrongAmong, IsWrongWithin}
 use Rattle.graphs.specs.declared.graph.Numbering.{Numbering}
 use Rattle.graphs.specs.declared.graph.Numbering.TheVariants.{Ordered}
 use Rattle.runs.specs.declared.fault.RunFault.{RunFault}
 use Rattle.runs.specs.declared.fault.RunFault.TheVariants.{Board, TooLarge, Proof, Memory, Worker, Read, Write, Limit}
+use Rattle.runs.specs.declared.fault.RunFault.TheVariants.{DocumentTooLarge}
 
 -- two bounds with the same numbers below them are equal
 same_bound : (P : ℕ → Type 0) (first second : ℕ) → ((number : ℕ) → number < first ↔ P number)
@@ -90,11 +92,11 @@ module _ (text : List ℕ) where
         one.2.text_is ∙ ap (proof_text board) document ∙ sym solved.text_is,
       )
 
-module _ (limit : Numbering) (text : List ℕ) where
+module _ (IsSmall : PlainBoard → Type 0) (text : List ℕ) where
   -- a fault of a text is one of the board's text, or that the board is too large
-  wrong_is : (fault : RunFault) → IsWrongWithin limit text fault
-      → ((told : BoardFault) × (fault ≡ Board told) × IsWrongWithin limit text (Board told)) ⊎
-      ((fault ≡ TooLarge) × IsWrongWithin limit text TooLarge)
+  wrong_is : (fault : RunFault) → IsWrongAmong IsSmall text fault
+      → ((told : BoardFault) × (fault ≡ Board told) × IsWrongAmong IsSmall text (Board told)) ⊎
+      ((fault ≡ TooLarge) × IsWrongAmong IsSmall text TooLarge)
   wrong_is (Board told) wrong = inl (told, refl, wrong)
   wrong_is TooLarge wrong = inr (refl, wrong)
   wrong_is Memory wrong = absurd wrong
@@ -102,23 +104,25 @@ module _ (limit : Numbering) (text : List ℕ) where
   wrong_is Worker wrong = absurd wrong
   wrong_is Read wrong = absurd wrong
   wrong_is Write wrong = absurd wrong
+  wrong_is DocumentTooLarge wrong = absurd wrong
   wrong_is Limit wrong = absurd wrong
 
-  faulty_or_large : (told : BoardFault) → IsWrongWithin limit text (Board told) → IsWrongWithin limit text TooLarge → ⊥
+  faulty_or_large : (told : BoardFault) → IsWrongAmong IsSmall text (Board told) → IsWrongAmong IsSmall text TooLarge
+      → ⊥
   faulty_or_large told wrong (board, is_board, spelled, many) =
       not_both text told.line told.kind board is_board spelled wrong.1 wrong.0
 
-  same_told : (first second : BoardFault) → IsWrongWithin limit text (Board first)
-      → IsWrongWithin limit text (Board second) → first ≡ second
+  same_told : (first second : BoardFault) → IsWrongAmong IsSmall text (Board first)
+      → IsWrongAmong IsSmall text (Board second) → first ≡ second
   same_told first second wrong also =
       let same = one_fault text first.line second.line first.kind second.kind wrong.1 also.1 wrong.0 also.0 in
       let told : ◌≡◌ {A = BoardFault} (record { line = first.line; kind = first.kind }) second =
       rw (same.0, same.1) refl in
       told
 
-  pub one_wrong : (fault other : RunFault) → IsWrongWithin limit text fault → IsWrongWithin limit text other
+  pub one_wrong_among : (fault other : RunFault) → IsWrongAmong IsSmall text fault → IsWrongAmong IsSmall text other
       → fault ≡ other
-  one_wrong fault other wrong also = elim (wrong_is fault wrong) [
+  one_wrong_among fault other wrong also = elim (wrong_is fault wrong) [
     | inl (told, is, faulty) ↦ elim (wrong_is other also) [
       | inl (too, is_too, faulty_too) ↦ is ∙ ap Board (same_told told too faulty faulty_too) ∙ sym is_too
       | inr (is_large, large) ↦ absurd (faulty_or_large told faulty large)
@@ -128,3 +132,7 @@ module _ (limit : Numbering) (text : List ℕ) where
       | inr (is_too, large_too) ↦ is_large ∙ sym is_too
     ]
   ]
+
+pub one_wrong : (limit : Numbering) (text : List ℕ) (fault other : RunFault) → IsWrongWithin limit text fault
+    → IsWrongWithin limit text other → fault ≡ other
+one_wrong limit = one_wrong_among (IsFewBy limit)

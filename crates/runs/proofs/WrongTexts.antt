@@ -2,12 +2,12 @@
 use Rattle.std.proofs.Common.{◌≡◌, ℕ, List, ◌++◌, take, drop, sym, ap, ◌∙◌, take-append-drop}
 use Rattle.board_text.specs.PlainBoard.{PlainBoard, IsBoard}
 use Rattle.board_text.specs.BoardText.{board_text}
-use Rattle.runs.proofs.BoardLimits.{few_configurations, many_configurations}
 use Rattle.runs.specs.Verdicts.{CannotAnswer, BeginsWithBoard}
 use Rattle.runs.specs.Joined.{IsBoardLength}
-use Rattle.runs.specs.Texts.{HasNoBoard, HasNoProof, IsSmallBoard}
+use Rattle.runs.specs.Texts.{HasNoneAmong, HasNoProof, IsBoardAmong, OfAnySize}
 use Rattle.runs.specs.declared.fault.RunFault.{RunFault}
 use Rattle.runs.specs.declared.fault.RunFault.TheVariants.{Board, TooLarge, Proof, Memory, Worker, Read, Write, Limit}
+use Rattle.runs.specs.declared.fault.RunFault.TheVariants.{DocumentTooLarge}
 
 pub begins_with : (text front rest : List ℕ) (board : PlainBoard) → IsBoard board → text ≡ front ++ rest
     → front ≡ board_text board
@@ -17,36 +17,32 @@ begins_with text front rest board is whole spelled =
 
 pub no_board : (text front rest : List ℕ) (size : ℕ) (fault : RunFault) → IsBoardLength text size
     → front ≡ take size text
-    → text ≡ front ++ rest → HasNoBoard front fault → CannotAnswer text fault
+    → text ≡ front ++ rest → HasNoneAmong OfAnySize front fault → CannotAnswer text fault
 no_board text front rest size (Board fault) first is whole (has, no_memory) = (size, first, rw (← is) has, no_memory)
 no_board text front rest size Memory first is whole h = tt
-no_board text front rest size TooLarge first is whole (board, is_board, spelled, many) =
-    (board, rest, begins_with text front rest board is_board whole spelled, many_configurations board many)
+no_board text front rest size TooLarge first is whole (board, is_board, spelled, many) = absurd (many tt)
 no_board text front rest size (Proof fault) first is whole h = absurd h
 no_board text front rest size Worker first is whole h = absurd h
 no_board text front rest size Read first is whole h = absurd h
 no_board text front rest size Write first is whole h = absurd h
+no_board text front rest size DocumentTooLarge first is whole h = absurd h
 no_board text front rest size Limit first is whole h = absurd h
 
-pub no_proof : (text front rest : List ℕ) (board : PlainBoard) (fault : RunFault) → IsSmallBoard front board
+pub no_proof : (text front rest : List ℕ) (board : PlainBoard) (fault : RunFault)
+    → IsBoardAmong OfAnySize front board
     → text ≡ front ++ rest
     → HasNoProof board rest fault → CannotAnswer text fault
-no_proof text front rest board (Proof fault) small whole (has, no_memory) = (
-  board,
-  rest,
-  begins_with text front rest board small.is_board whole small.spelled,
-  few_configurations board
-      small.few,
-  has,
-  no_memory,
-)
-no_proof text front rest board Memory small whole h = tt
-no_proof text front rest board TooLarge small whole h = absurd h
-no_proof text front rest board (Board fault) small whole h = absurd h
-no_proof text front rest board Worker small whole h = absurd h
-no_proof text front rest board Read small whole h = absurd h
-no_proof text front rest board Write small whole h = absurd h
-no_proof text front rest board Limit small whole h = absurd h
+no_proof text front rest board (Proof fault) is whole h =
+    (board, rest, begins_with text front rest board is.is_board whole is.spelled, h)
+no_proof text front rest board TooLarge is whole h =
+    (board, rest, begins_with text front rest board is.is_board whole is.spelled, h)
+no_proof text front rest board Memory is whole h = tt
+no_proof text front rest board (Board fault) is whole h = absurd h
+no_proof text front rest board Worker is whole h = absurd h
+no_proof text front rest board Read is whole h = absurd h
+no_proof text front rest board Write is whole h = absurd h
+no_proof text front rest board DocumentTooLarge is whole h = absurd h
+no_proof text front rest board Limit is whole h = absurd h
 
 pub two_parts : (text front rest : List ℕ) (size : ℕ) → front ≡ take size text → rest ≡ drop size text
     → text ≡ front ++ rest

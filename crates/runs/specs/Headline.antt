@@ -7,7 +7,6 @@ use Rattle.proof_text.specs.Proof.{PlainProof, IsProof}
 use Rattle.proof_text.specs.ProofText.{proof_text}
 use Rattle.proof_text.specs.Rules.{BreaksNoRule}
 use Rattle.strategies.specs.Meaning.{Means}
-use Rattle.runs.specs.SolveRun.{IsSolution}
 
 -- the text is this board's, and the bytes written are the text of this document, which means the
 -- value
@@ -19,21 +18,9 @@ pub record ShowsValue (text : List ℕ) (value : Value) (written : List ℕ) : T
   pub written_is : written ≡ proof_text board document
   pub means : Means board document value
 
--- the same, of a document that is as the format has it and breaks no rule, so that a check accepts
+-- the same, and the document is as the format has it and breaks no rule, so that a check accepts
 -- its text
 pub record IsAccepted (text : List ℕ) (value : Value) (written : List ℕ) : Type 0 where
-  pub board : PlainBoard
-  pub document : PlainProof
-  pub is_board : IsBoard board
-  pub is_proof : IsProof board document
-  pub text_is : text ≡ board_text board
-  pub written_is : written ≡ proof_text board document
-  pub rules : BreaksNoRule board document
-  pub means : Means board document value
-
--- the bytes written for a board's text: those of its document, which shows the value and which a
--- check accepts
-pub record Solution (text : List ℕ) (value : Value) (written : List ℕ) : Type 0 where
-  pub solution : IsSolution text value written
   pub shows : ShowsValue text value written
-  pub accepted : IsAccepted text value written
+  pub is_proof : IsProof shows.board shows.document
+  pub rules : BreaksNoRule shows.board shows.document

@@ -9,6 +9,7 @@ pub mod BoardRun
 pub mod CheckRun
 pub mod NestedText
 pub mod SolveRun
+pub mod ClassSolveRun
 pub mod Headline
 pub mod Report
 pub mod Notices

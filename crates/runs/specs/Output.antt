@@ -4,6 +4,9 @@ use Rattle.std.specs.Fmt.{decimal}
 use Rattle.board_text.specs.LineForms.{with_line_feed}
 use Rattle.board_text.specs.PlaceForms.{spaced_places}
 use Rattle.board_text.specs.PlainBoard.{PlainBoard}
+use Rattle.class_documents.specs.Arranged.{arranged_at}
+use Rattle.class_documents.specs.declared.fault.ClassFault.{ClassFault}
+use Rattle.class_documents.specs.declared.fault.ClassFault.TheVariants as class_faults
 use Rattle.command_line.specs.Reading.{side_word}
 use Rattle.positions.specs.Ranks.{configuration_at}
 use Rattle.proof_text.specs.ProofText.{claim_words}
@@ -12,7 +15,7 @@ use Rattle.positions.specs.declared.side.Side.TheVariants.{Labeller, Adversary}
 use Rattle.proof_check.specs.declared.fault.CheckFault.{CheckFault}
 use Rattle.proof_check.specs.declared.fault.CheckFault.TheVariants as faults
 use Rattle.runs.specs.declared.verdicts.Verdict.{Verdict}
-use Rattle.runs.specs.declared.verdicts.Verdict.TheVariants.{Accepted, Refused}
+use Rattle.runs.specs.declared.verdicts.Verdict.TheVariants.{Accepted, Refused, RefusedByClasses}
 
 -- the word for a row's turns: a labeller's row has an answer for
 -- each pebble, an adversary's leads on by labels
@@ -41,7 +44,35 @@ fault_words board (faults.TooLarge at label) =
     row_words board Adversary at label ++ codes " too large"
 fault_words board faults.Memory = []
 
+-- the word for the turns of a row by classes: a labeller's row has an answer for each place
+abbrev pub class_turn_word : Side → List ℕ
+class_turn_word Labeller = codes " place "
+class_turn_word Adversary = codes " label "
+
+-- a side's row of the class that has this number, given by its places, and the turn
+abbrev pub class_row_words : PlainBoard → Side → ℕ → ℕ → List ℕ
+class_row_words board side at turn =
+    side_word side ++ codes " row" ++ spaced_places board.labels (arranged_at board at)
+    ++ class_turn_word side ++ decimal turn
+
+-- the words for a fault of a check by classes
+abbrev pub class_fault_words : PlainBoard → ClassFault → List ℕ
+class_fault_words board (class_faults.StartMissing side) = side_word side ++ codes " start missing"
+class_fault_words board (class_faults.StartNumber side) = side_word side ++ codes " start number"
+class_fault_words board (class_faults.IllegalAnswer at place) =
+    class_row_words board Labeller at place ++ codes " illegal answer"
+class_fault_words board (class_faults.Unlisted side at turn) =
+    class_row_words board side at turn ++ codes " unlisted"
+class_fault_words board (class_faults.TooSmall at place) =
+    class_row_words board Labeller at place ++ codes " too small"
+class_fault_words board (class_faults.NotStuck at label) =
+    class_row_words board Adversary at label ++ codes " not stuck"
+class_fault_words board (class_faults.TooLarge at label) =
+    class_row_words board Adversary at label ++ codes " too large"
+
 -- the line of a verdict
 abbrev pub line_of : PlainBoard → Verdict → List ℕ
 line_of board (Accepted shown) = with_line_feed (codes "accepted " ++ claim_words shown.claim)
 line_of board (Refused fault) = with_line_feed (codes "refused " ++ fault_words board fault)
+line_of board (RefusedByClasses fault) =
+    with_line_feed (codes "refused " ++ class_fault_words board fault)

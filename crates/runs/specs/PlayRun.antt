@@ -1,6 +1,7 @@
 -- Runs of plays: the bytes read, the answer, and the bytes written.
 use Rattle.std.specs.Prelude.{◌≡◌, ℕ, ◌⊎◌, Bool, List, [], ◌++◌, Result, Ok, Err}
 use Rattle.board_text.specs.PlainBoard.{PlainBoard}
+use Rattle.graphs.specs.Numbered.{IsFewBy}
 use Rattle.graphs.specs.declared.graph.Numbering.{Numbering}
 use Rattle.player.specs.Prompts.{ArePrompts}
 use Rattle.player.specs.Transcript.{Game, PersonAsks, PersonAnswers, IsPlayed}
@@ -36,13 +37,12 @@ IsBrokenOff game lines written fault =
 -- a board within the limit was read, and the play on it is over
 abbrev pub RanPlay : Numbering → Side → ℕ → Bytes → Bytes → Bytes → PlayEnd → Type 0
 RanPlay limit side most_bytes board lines written end =
-    RanOn limit most_bytes board (λ b. IsOver (game_played side b) lines written end)
+    RanOn (IsFewBy limit) most_bytes board (λ b. IsOver (game_played side b) lines written end)
 
--- the faults of a play: there is no board, or no memory for its values, and nothing else is
--- touched; or the play was broken off
+-- the faults of a play: there is no board, and nothing else is touched; or the play was broken off
 abbrev pub PlayFails : Numbering → Side → ℕ → Type 0 → Bytes → Bytes → Bytes → RunFault → Type 0
 PlayFails limit side most_bytes IsUntouched board lines written fault =
-    FailsOn limit most_bytes board IsUntouched
+    FailsOn (IsFewBy limit) most_bytes board IsUntouched
     (λ b. IsBrokenOff (game_played side b) lines written) fault
 
 -- the end of a play as that of a run
@@ -51,15 +51,17 @@ run_of_play (Ok end) = Ok end
 run_of_play (Err fault) = Err (fault_of_play fault)
 
 -- what a person is told in the run of a play: nothing, if there was no board; else the notice of
--- the board, and then the prompts of the play on it, or none, if memory for its values was refused
-abbrev pub IsToldInRun : Numbering → Side → ℕ → Bytes → Bytes → Bytes → Bool → Bool
+-- the board, and then the prompts of the play on it, or none, if memory for its values was refused.
+-- Without a board or its values nothing else is touched
+abbrev pub IsToldInRun : Numbering → Side → ℕ → Type 0 → Bytes → Bytes → Bytes → Bool → Bool
     → Result PlayEnd RunFault → List ℕ → Type 0
-IsToldInRun limit side most_bytes board lines written sees_size sees_choices result told =
+IsToldInRun limit side most_bytes IsUntouched board lines written sees_size sees_choices result
+    told =
     ((fault : RunFault) × (result ≡ Err fault) × GaveNoBoard limit most_bytes board fault
-    × (told ≡ []))
+    × IsUntouched × (told ≡ []))
     ⊎ ((b : PlainBoard) × GaveBoard limit most_bytes board b
     × (prompts : List ℕ) × (told ≡ notice_for sees_size b ++ prompts)
-    × (((result ≡ Err Memory) × (prompts ≡ []))
+    × (((result ≡ Err Memory) × IsUntouched × (prompts ≡ []))
     ⊎ ((played : Result PlayEnd PlayFault) × (result ≡ run_of_play played)
     × ArePrompts sees_choices (game_played side b) lines.old lines.new written.old written.new
     played

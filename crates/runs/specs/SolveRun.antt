@@ -1,11 +1,13 @@
 -- Solutions of texts, and the faults of texts without one.
-use Rattle.std.specs.Prelude.{◌≡◌, ℕ, ◌<◌, List}
+use Rattle.std.specs.Prelude.{◌≡◌, ℕ, ◌<◌, ◌≤◌, List}
 use Rattle.board_text.specs.PlainBoard.{PlainBoard}
+use Rattle.classes.specs.Numbers.{class_count}
 use Rattle.graphs.specs.declared.graph.Numbering.{Numbering}
 use Rattle.positions.specs.declared.value.Value.{Value}
 use Rattle.positions.specs.Value.{HasValue}
 use Rattle.proof_text.specs.Proof.{PlainProof}
 use Rattle.proof_text.specs.ProofText.{proof_text}
+use Rattle.round_workers.specs.declared.solving.TheConstants.{MIN_SHARED}
 use Rattle.strategies.specs.Document.{IsDocumentOf}
 use Rattle.runs.specs.Texts.{IsBoardWithin, IsSmallBoard, IsWrongWithin}
 use Rattle.runs.specs.declared.fault.RunFault.{RunFault}
@@ -25,9 +27,11 @@ IsSolution text value written =
     (board : PlainBoard) × IsSmallBoard text board × IsSolved board value written
 
 -- the faults of a text that isn't solved: out of memory; or it is a board's within the limit, and a
--- thread wasn't started, which several workers alone can have; or it isn't such a board's
+-- thread wasn't started, which several workers alone can have, and with enough classes alone; or it
+-- isn't such a board's
 abbrev pub CannotSolve : Numbering → ℕ → List ℕ → RunFault → Type 0
 CannotSolve limit workers text Memory = Unit {0}
 CannotSolve limit workers text Worker =
-    (1 < workers) × ((board : PlainBoard) × IsBoardWithin limit text board)
+    (1 < workers) × ((board : PlainBoard) × IsBoardWithin limit text board
+    × (MIN_SHARED ≤ class_count board))
 CannotSolve limit workers text fault = IsWrongWithin limit text fault

@@ -1,9 +1,10 @@
 -- Texts of boards and of documents in memory, and their faults.
-use Rattle.std.specs.Prelude.{◌≡◌, ◌≢◌, ℕ, List}
+use Rattle.std.specs.Prelude.{◌≡◌, ◌≢◌, ℕ, ◌⊎◌, List, take, codes}
 use Rattle.board_text.specs.PlainBoard.{PlainBoard, IsBoard}
 use Rattle.board_text.specs.BoardText.{board_text}
 use Rattle.board_text.specs.BoardFaults as board_faults
 use Rattle.board_text.specs.declared.fault.BoardKind.TheVariants as board_kinds
+use Rattle.class_texts.specs.ClassTextFaults.{HasClassTextFault}
 use Rattle.graphs.specs.Numbered.{IsFewBy}
 use Rattle.graphs.specs.declared.graph.Numbering.{Numbering}
 use Rattle.graphs.specs.declared.graph.Numbering.TheVariants.{Ordered}
@@ -12,11 +13,35 @@ use Rattle.proof_text.specs.declared.fault.ProofKind.TheVariants as proof_kinds
 use Rattle.runs.specs.declared.fault.RunFault.{RunFault}
 use Rattle.runs.specs.declared.fault.RunFault.TheVariants.{Board, TooLarge, Proof, Memory}
 
--- the text is this board's, which has few enough configurations, or classes
-pub record IsBoardWithin (limit : Numbering) (text : List ℕ) (board : PlainBoard) : Type 0 where
+-- ---- boards
+
+-- the text is this board's, which is small enough
+pub record IsBoardAmong (IsSmall : PlainBoard → Type 0) (text : List ℕ)
+    (board : PlainBoard) : Type 0 where
   pub is_board : IsBoard board
-  pub few : IsFewBy limit board
+  pub few : IsSmall board
   pub spelled : text ≡ board_text board
+
+-- the fault of a text that is no such board's
+abbrev pub IsWrongAmong : (PlainBoard → Type 0) → List ℕ → RunFault → Type 0
+IsWrongAmong IsSmall text (Board fault) =
+    board_faults.HasBoardFault text fault.line fault.kind × (fault.kind ≢ board_kinds.Memory)
+IsWrongAmong IsSmall text TooLarge =
+    (board : PlainBoard) × IsBoard board × (text ≡ board_text board) × (IsSmall board → ⊥)
+IsWrongAmong IsSmall text fault = ⊥
+
+-- the fault of a text that is no such board's, or out of memory
+abbrev pub HasNoneAmong : (PlainBoard → Type 0) → List ℕ → RunFault → Type 0
+HasNoneAmong IsSmall text Memory = Unit {0}
+HasNoneAmong IsSmall text fault = IsWrongAmong IsSmall text fault
+
+-- a board of any size
+abbrev pub OfAnySize : PlainBoard → Type 0
+OfAnySize board = Unit {0}
+
+-- the text is this board's, which has few enough configurations, or classes
+abbrev pub IsBoardWithin : Numbering → List ℕ → PlainBoard → Type 0
+IsBoardWithin limit = IsBoardAmong (IsFewBy limit)
 
 -- the same, with few enough configurations
 abbrev pub IsSmallBoard : List ℕ → PlainBoard → Type 0
@@ -24,30 +49,36 @@ IsSmallBoard = IsBoardWithin Ordered
 
 -- the fault of a text that is no such board's
 abbrev pub IsWrongWithin : Numbering → List ℕ → RunFault → Type 0
-IsWrongWithin limit text (Board fault) =
-    board_faults.HasBoardFault text fault.line fault.kind × (fault.kind ≢ board_kinds.Memory)
-IsWrongWithin limit text TooLarge = (board : PlainBoard) × IsBoard board × (text ≡ board_text board)
-    × (IsFewBy limit board → ⊥)
-IsWrongWithin limit text fault = ⊥
+IsWrongWithin limit = IsWrongAmong (IsFewBy limit)
 
 -- of a text that is no small board's
 abbrev pub IsWrongBoard : List ℕ → RunFault → Type 0
 IsWrongBoard = IsWrongWithin Ordered
 
--- the fault of a text that is no document's for the board
-abbrev pub IsWrongProof : PlainBoard → List ℕ → RunFault → Type 0
-IsWrongProof board text (Proof fault) =
-    proof_faults.HasProofFault board text fault.line fault.kind × (fault.kind ≢ proof_kinds.Memory)
-IsWrongProof board text fault = ⊥
-
 -- the fault of a text that is no board's within the limit, or out of memory
 abbrev pub HasNoneWithin : Numbering → List ℕ → RunFault → Type 0
-HasNoneWithin limit text Memory = Unit {0}
-HasNoneWithin limit text fault = IsWrongWithin limit text fault
+HasNoneWithin limit = HasNoneAmong (IsFewBy limit)
 
 -- of a text that is no small board's
 abbrev pub HasNoBoard : List ℕ → RunFault → Type 0
 HasNoBoard = HasNoneWithin Ordered
+
+-- ---- documents
+
+-- the text begins as that of a document by classes
+abbrev pub IsByClasses : List ℕ → Type 0
+IsByClasses text = take 8 text ≡ codes "proof 2\n"
+
+-- the fault of a text that is no document's for the board: of one by classes, if it begins so; else
+-- of one by configurations, which only a board of few enough has
+abbrev pub IsWrongProof : PlainBoard → List ℕ → RunFault → Type 0
+IsWrongProof board text (Proof fault) =
+    ((IsByClasses text × HasClassTextFault board text fault.line fault.kind)
+    ⊎ ((IsByClasses text → ⊥) × IsFewBy Ordered board
+    × proof_faults.HasProofFault board text fault.line fault.kind))
+    × (fault.kind ≢ proof_kinds.Memory)
+IsWrongProof board text TooLarge = (IsByClasses text → ⊥) × (IsFewBy Ordered board → ⊥)
+IsWrongProof board text fault = ⊥
 
 -- the fault of a text that is no document's, or out of memory
 abbrev pub HasNoProof : PlainBoard → List ℕ → RunFault → Type 0

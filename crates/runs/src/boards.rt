@@ -1,9 +1,10 @@
-//! The board that a text is, within one of two limits.
+//! The board that a text is: of any size, or within one of two limits.
 
 ghost use Rattle.std.specs.Prelude.{◌≤◌, IfOk, IfErr};
 ghost use Rattle.classes.specs.Numbers.{class_count};
 ghost use Rattle.positions.specs.Ranks.{configurations};
-ghost use Rattle.runs.specs.Texts.{HasNoBoard, HasNoneWithin, IsBoardWithin, IsSmallBoard};
+ghost use Rattle.runs.specs.Texts.{HasNoBoard, HasNoneAmong, HasNoneWithin, IsBoardAmong};
+ghost use Rattle.runs.specs.Texts.{IsBoardWithin, IsSmallBoard, OfAnySize};
 
 use crate::fault::RunFault;
 use board_text::{Board, parse};
@@ -11,6 +12,14 @@ use classes::MAX_CLASSES;
 use graphs::{Numbering, has_few};
 use positions::MAX_CONFIGURATIONS;
 use std::alloc::Global;
+
+/// The board whose text is `text`, with any number of configurations.
+pub(crate) fn any_board(alloc: Global, text: &[u8]) -> Result<Board, RunFault>
+    ensures found { IfOk result (IsBoardAmong OfAnySize text.now) }
+    ensures fault { IfErr result (HasNoneAmong OfAnySize text.now) }
+{
+    Ok(parse(alloc, text)?)
+}
 
 /// The board whose text is `text`. It has at most `MAX_CONFIGURATIONS` configurations.
 pub fn small_board(alloc: Global, text: &[u8]) -> Result<Board, RunFault>

@@ -2,17 +2,16 @@
 
 ghost use Rattle.std.specs.Prelude.{◌≡◌, ◌⊎◌, true, false, IfOk, IfErr};
 ghost use Rattle.runs.specs.Verdicts.{CannotAnswer, IsAnswered};
-ghost use Rattle.runs.specs.CheckRun.{RanCheck, CheckFails};
+ghost use Rattle.runs.specs.CheckRun.{CheckFails, KeepsText, RanCheck};
 ghost use Rattle.runs.specs.Run.{Ran, Fails, TellsStreams, Wrote, WrotePrefix, bytes_of, stream_of};
 ghost use Rattle.runs.specs.declared.fault.RunFault.TheVariants.{Write};
 ghost use Rattle.runs.specs.declared.verdicts.Verdict.{Verdict as VerdictData};
 
 use crate::fault::RunFault;
-use crate::reading::{MAX_BOARD_BYTES, read_board, read_text};
+use crate::reading::{MAX_BOARD_BYTES, read_any_board, read_text};
 use crate::verdicts::{Verdict, check_joined_text, check_text};
 use crate::writing::write_text;
 use board_text::{Sink, Source};
-use graphs::Numbering;
 use std::alloc::Global;
 use std::thread::Threads;
 
@@ -70,6 +69,8 @@ pub fn run_keeping_text<R: Source, W: Sink>(
         (bytes_of R.remaining reader.old reader.new) (bytes_of W.contents writer.old writer.new)) }
     ensures streams { TellsStreams result.result (R.has_failed reader.new ≡ true)
         (stream_of W.contents W.has_failed writer.old writer.new) }
+    ensures text { KeepsText MAX_JOINED_BYTES (bytes_of R.remaining reader.old reader.new)
+        result.result result.text.items }
 {
     match read_text(alloc, reader, MAX_JOINED_BYTES) {
         Ok(text) => {
@@ -106,7 +107,8 @@ fn answer_joined<W: Sink>(
 
 /// Reads a board and then a strategy document for it, checks the document and writes one line.
 ///
-/// The board is read, parsed and measured before anything of the document is read.
+/// The board is read and parsed before anything of the document is read. One whose document is by
+/// classes may have any number of configurations, any other at most `MAX_CONFIGURATIONS`.
 /// No reader or writer must have failed before, nor a reader have reported its end. After a fault
 /// nothing was written, but for `Write`, after which a prefix of the line was.
 pub fn run_check<B: Source, P: Source, W: Sink>(
@@ -131,7 +133,7 @@ pub fn run_check<B: Source, P: Source, W: Sink>(
         ((B.has_failed board.new ≡ true) ⊎ (P.has_failed proof.new ≡ true))
         (stream_of W.contents W.has_failed writer.old writer.new) }
 {
-    let board = read_board(alloc, Numbering::Ordered, board)?;
+    let board = read_any_board(alloc, board)?;
     let text = read_text(alloc, proof, MAX_PROOF_BYTES)?;
     let answer = check_text(rt, alloc, &board, text.as_slice())?;
     write_text(writer, &answer.line)?;

@@ -20,6 +20,8 @@ pub enum RunFault {
     Board(BoardFault),
     /// The board has more than `MAX_CONFIGURATIONS` configurations.
     TooLarge,
+    /// The document by classes of the board has more than `MAX_PROOF_BYTES` bytes.
+    DocumentTooLarge,
     /// The text of the document has a fault.
     Proof(ProofFault),
     /// A growth of memory was refused.

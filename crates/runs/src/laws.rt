@@ -9,7 +9,7 @@ ghost use Rattle.proof_text.specs.Proof.{PlainProof, IsProof};
 ghost use Rattle.proof_text.specs.ProofText.{proof_text};
 ghost use Rattle.proof_check.specs.declared.checking.Shown.{Shown as ShownClaim};
 ghost use Rattle.positions.specs.declared.value.Value.{Value as ValueData};
-ghost use Rattle.runs.specs.Verdicts.{IsChecked, IsVerdict};
+ghost use Rattle.runs.specs.Verdicts.{IsChecked, IsClassVerdict, IsVerdict};
 ghost use Rattle.runs.specs.Headline.{ShowsValue, IsAccepted};
 ghost use Rattle.strategies.specs.Meaning.{Means};
 ghost use Rattle.runs.specs.Report.{Report as CountReport, IsReport, IsReportOf, IsReportOfText};
@@ -18,7 +18,8 @@ ghost use Rattle.runs.specs.SolveRun.{IsSolution, IsSolved};
 ghost use Rattle.graphs.specs.declared.graph.Numbering.{Numbering as Limit};
 ghost use Rattle.graphs.specs.declared.graph.Numbering.TheVariants.{Ordered, Classes};
 ghost use Rattle.runs.specs.Texts.{HasNoBoard, HasNoProof, IsMemory, IsSmallBoard, IsWrongBoard};
-ghost use Rattle.runs.specs.Texts.{IsWrongWithin};
+ghost use Rattle.runs.specs.Texts.{IsBoardAmong, IsWrongWithin, OfAnySize};
+ghost use Rattle.runs.specs.ClassSolveRun.{IsClassSolution, IsUnsolvedByClasses};
 ghost use Rattle.runs.specs.CheckRun.{RanCheck};
 ghost use Rattle.runs.specs.Meaning.{AcceptsLeast, CanAnswer};
 ghost use Rattle.runs.specs.declared.fault.RunFault.{RunFault as Fault};
@@ -67,14 +68,16 @@ pub fn report_or_fault()
 {}
 
 /// If a text was answered with `accepted least k`, the labeller can answer k requests from the
-/// start of its board, whichever they are. If a document is accepted,
-/// its claim holds of the start's value.
+/// start of its board, whichever they are. If a document of either kind is accepted, its claim
+/// holds of the start's value.
 pub fn accepted_claims_hold()
     ensures least { (text : List ℕ) → (number : ℕ) → AcceptsLeast text number
         → CanAnswer text number }
     ensures holds { (board : PlainBoard) → (proof : PlainProof) → (shown : ShownClaim)
         → IsBoard board
         → IsVerdict board proof (Accepted shown) → Holds board shown.claim }
+    ensures by_classes { (board : PlainBoard) → (proof : PlainProof) → (shown : ShownClaim)
+        → IsClassVerdict board proof (Accepted shown) → Holds board shown.claim }
 {}
 
 /// The value that a solved board is given is the greatest number of requests that a labeller can
@@ -131,6 +134,27 @@ pub fn printed_documents_are_accepted()
         → RanCheck board_limit proof_limit (record { old = Some bytes; new = board_left })
         (record { old = Some text; new = proof_left }) written verdict
         → verdict ≡ Accepted (record { claim = claim_of value }) }
+{}
+
+/// What is written for a board that is solved by classes claims the value of its start, and a check
+/// of the same board accepts it, or runs out of memory: neither of the two texts has a fault. A
+/// text has one such solution, or one fault.
+pub fn class_solutions_are_accepted()
+    ensures verdict { (text : List ℕ) → (written : List ℕ) → (value : ValueData)
+        → IsClassSolution text value written → (board : PlainBoard)
+        → IsBoardAmong OfAnySize text board
+        → (verdict : VerdictData) → (line : List ℕ) → IsChecked board written verdict line
+        → verdict ≡ Accepted (record { claim = claim_of value }) }
+    ensures faultless_document { (text : List ℕ) → (written : List ℕ) → (value : ValueData)
+        → IsClassSolution text value written → (board : PlainBoard)
+        → IsBoardAmong OfAnySize text board
+        → (fault : Fault) → HasNoProof board written fault → IsMemory fault }
+    ensures one { (text : List ℕ) → (value : ValueData) → (worth : ValueData) → (written : List ℕ)
+        → (other : List ℕ)
+        → IsClassSolution text value written → IsClassSolution text worth other
+        → (value ≡ worth) × (written ≡ other) }
+    ensures not_both { (text : List ℕ) → (value : ValueData) → (written : List ℕ) → (fault : Fault)
+        → IsClassSolution text value written → IsUnsolvedByClasses text fault → ⊥ }
 {}
 
 /// The counts of a report add up to the number of configurations.

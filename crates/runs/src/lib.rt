@@ -4,6 +4,7 @@
 
 mod boards;
 mod checking;
+mod class_solving;
 mod fault;
 mod joined;
 mod laws;
@@ -21,11 +22,13 @@ pub use boards::{board_within, small_board};
 pub use checking::{
     JoinedRun, MAX_JOINED_BYTES, MAX_PROOF_BYTES, run_check, run_joined, run_keeping_text,
 };
+pub use class_solving::run_solve_by_classes;
 pub use fault::RunFault;
 pub use joined::{board_length, one_board_length};
 pub use laws::{
-    accepted_claims_hold, limits, printed_documents_are_accepted, report_or_fault, reports_add_up,
-    solution_or_fault, solved_boards_show_their_value, written_documents_mean_the_value,
+    accepted_claims_hold, class_solutions_are_accepted, limits, printed_documents_are_accepted,
+    report_or_fault, reports_add_up, solution_or_fault, solved_boards_show_their_value,
+    written_documents_mean_the_value,
 };
 pub use nesting::{nested_text, run_nested};
 pub use playing::{

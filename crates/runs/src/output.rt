@@ -1,14 +1,18 @@
 //! The one line that a check writes.
 
 ghost use Rattle.std.specs.Prelude.{◌≡◌, ◌<◌, ◌++◌, IfOk, OnOk, string_bytes};
+ghost use Rattle.class_documents.specs.ClassFaults.{IsOrderNumber, NamesClass};
 ghost use Rattle.positions.specs.Ranks.{configurations};
 ghost use Rattle.proof_check.specs.CheckFaults.{NamesRanks};
 ghost use Rattle.command_line.specs.Reading.{side_word as word_of_side};
 ghost use Rattle.runs.specs.Output.{line_of, turn_word as word_of_turn, row_words, fault_words};
-ghost use Rattle.runs.specs.Inside.Verdicts.{NamesRanksOf};
+ghost use Rattle.runs.specs.Output.{class_turn_word as word_of_class_turn, class_row_words};
+ghost use Rattle.runs.specs.Output.{class_fault_words};
+ghost use Rattle.runs.specs.Inside.Verdicts.{NamesRows};
 
 use crate::verdicts::Verdict;
-use board_text::Memory;
+use board_text::{Board, Memory};
+use class_documents::{ClassFault, write_class};
 use positions::{Space, write_labels};
 use proof_check::{CheckFault, Side};
 use proof_text::write_claim;
@@ -16,9 +20,9 @@ use std::alloc::{AllocError, Global};
 use std::fmt::Write;
 
 /// The line of a verdict, built before anything is written.
-pub(crate) fn line(alloc: Global, space: &Space, verdict: Verdict) -> Result<String, Memory>
-    requires { NamesRanksOf space.now verdict }
-    ensures { IfOk result (λ text. string_bytes text ≡ line_of space.now verdict) }
+pub(crate) fn line(alloc: Global, board: &Board, verdict: Verdict) -> Result<String, Memory>
+    requires { NamesRows board.now verdict }
+    ensures { IfOk result (λ text. string_bytes text ≡ line_of board.now verdict) }
 {
     let mut text = String::new(alloc);
     match verdict {
@@ -28,7 +32,11 @@ pub(crate) fn line(alloc: Global, space: &Space, verdict: Verdict) -> Result<Str
         }
         Verdict::Refused(fault) => {
             text.push_str("refused ")?;
-            write_fault(&mut text, space, fault)?;
+            write_fault(&mut text, &Space::new(board), fault)?;
+        }
+        Verdict::RefusedByClasses(fault) => {
+            text.push_str("refused ")?;
+            write_class_fault(&mut text, board, fault)?;
         }
     }
     text.push_str("\n")?;
@@ -92,6 +100,62 @@ fn write_row(
     write!(text, "{turn}")
 }
 
+fn write_class_fault(text: &mut String, board: &Board, fault: ClassFault) -> Result<(), AllocError>
+    requires { NamesClass board.now fault }
+    ensures { OnOk result (string_bytes text.new ≡ string_bytes text.old
+        ++ class_fault_words board.now fault) }
+{
+    match fault {
+        ClassFault::StartMissing { side } => {
+            text.push_str(side_word(side))?;
+            text.push_str(" start missing")
+        }
+        ClassFault::StartNumber { side } => {
+            text.push_str(side_word(side))?;
+            text.push_str(" start number")
+        }
+        ClassFault::IllegalAnswer { at, pebble } => {
+            write_class_row(text, board, Side::Labeller, at, pebble as u16)?;
+            text.push_str(" illegal answer")
+        }
+        ClassFault::Unlisted { side, at, turn } => {
+            write_class_row(text, board, side, at, turn)?;
+            text.push_str(" unlisted")
+        }
+        ClassFault::TooSmall { at, pebble } => {
+            write_class_row(text, board, Side::Labeller, at, pebble as u16)?;
+            text.push_str(" too small")
+        }
+        ClassFault::NotStuck { at, label } => {
+            write_class_row(text, board, Side::Adversary, at, label)?;
+            text.push_str(" not stuck")
+        }
+        ClassFault::TooLarge { at, label } => {
+            write_class_row(text, board, Side::Adversary, at, label)?;
+            text.push_str(" too large")
+        }
+    }
+}
+
+/// Writes which row of a document by classes and which of its turns is faulty.
+fn write_class_row(
+    text: &mut String,
+    board: &Board,
+    side: Side,
+    at: u64,
+    turn: u16,
+) -> Result<(), AllocError>
+    requires { IsOrderNumber board.now at }
+    ensures { OnOk result (string_bytes text.new ≡ string_bytes text.old
+        ++ class_row_words board.now side at turn) }
+{
+    text.push_str(side_word(side))?;
+    text.push_str(" row")?;
+    write_class(text, board, at)?;
+    text.push_str(class_turn_word(side))?;
+    write!(text, "{turn}")
+}
+
 fn side_word(side: Side) -> &'static str
     ensures { result.now ≡ word_of_side side }
 {
@@ -106,6 +170,15 @@ fn turn_word(side: Side) -> &'static str
 {
     match side {
         Side::Labeller => " pebble ",
+        Side::Adversary => " label ",
+    }
+}
+
+fn class_turn_word(side: Side) -> &'static str
+    ensures { result.now ≡ word_of_class_turn side }
+{
+    match side {
+        Side::Labeller => " place ",
         Side::Adversary => " label ",
     }
 }

@@ -152,6 +152,7 @@ pub fn run_play_with_prompts<B: Source, L: Source, W: Sink, E: Sink>(
         ((B.has_failed board.new ≡ true) ⊎ (L.has_failed lines.new ≡ true))
         (stream_of W.contents W.has_failed writer.old writer.new) }
     ensures prompts { (told : List ℕ) × IsToldInRun limit side MAX_BOARD_BYTES
+        ((lines.new ≡ lines.old) × (writer.new ≡ writer.old))
         (bytes_of B.remaining board.old board.new) (bytes_of L.remaining lines.old lines.new)
         (bytes_of W.contents writer.old writer.new) telling.size telling.choices result told
         × IsMore E.contents E.has_failed errors.old errors.new told }

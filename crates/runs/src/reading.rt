@@ -1,11 +1,12 @@
 //! Reading a text to its end, and the board that it is.
 
 ghost use Rattle.std.specs.Prelude.{◌≡◌, ◌≢◌, ◌<◌, ◌↔◌, true, false, Err, IfOk, IfErr};
-ghost use Rattle.runs.specs.BoardRun.{GaveBoard, GaveNoBoard};
+ghost use Rattle.runs.specs.BoardRun.{GaveBoard, GaveBoardAmong, GaveNoBoard, GaveNoneAmong};
 ghost use Rattle.runs.specs.Run.{Gave, IsUnread, bytes_of};
+ghost use Rattle.runs.specs.Texts.{OfAnySize};
 ghost use Rattle.runs.specs.declared.fault.RunFault.TheVariants.{Read, Write};
 
-use crate::boards::board_within;
+use crate::boards::{any_board, board_within};
 use crate::fault::RunFault;
 use board_text::{Board, Source, read_all};
 use graphs::Numbering;
@@ -48,4 +49,19 @@ pub(crate) fn read_board<R: Source>(
 {
     let text = read_text(alloc, reader, MAX_BOARD_BYTES)?;
     board_within(alloc, limit, text.as_slice())
+}
+
+/// The board, of any size, whose text the reader gives.
+pub(crate) fn read_any_board<R: Source>(alloc: Global, reader: &mut R) -> Result<Board, RunFault>
+    requires ready { R.has_failed reader.old ≡ false }
+    requires unended { R.has_ended reader.old ≡ false }
+    ensures found { IfOk result (GaveBoardAmong OfAnySize MAX_BOARD_BYTES
+        (bytes_of R.remaining reader.old reader.new)) }
+    ensures fault { IfErr result (GaveNoneAmong OfAnySize MAX_BOARD_BYTES
+        (bytes_of R.remaining reader.old reader.new)) }
+    ensures read { (R.has_failed reader.new ≡ true) ↔ (result ≡ Err Read) }
+    ensures unwritten { result ≢ Err Write }
+{
+    let text = read_text(alloc, reader, MAX_BOARD_BYTES)?;
+    any_board(alloc, text.as_slice())
 }

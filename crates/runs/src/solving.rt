@@ -6,9 +6,8 @@ ghost use Rattle.classes.specs.Numbers.{class_count};
 ghost use Rattle.graphs.specs.Numbered.{numbered};
 ghost use Rattle.positions.specs.Ranks.{configurations};
 ghost use Rattle.positions.specs.Value.{HasValue};
-ghost use Rattle.runs.specs.Headline.{Solution};
 ghost use Rattle.runs.specs.Run.{Ran, Fails, TellsStreams, bytes_of, stream_of};
-ghost use Rattle.runs.specs.SolveRun.{CannotSolve, IsSolved};
+ghost use Rattle.runs.specs.SolveRun.{CannotSolve, IsSolution, IsSolved};
 ghost use Rattle.runs.specs.Inside.SolveRun.{IsRefused};
 ghost use Rattle.runs.specs.Texts.{HasNoBoard, IsMemory};
 
@@ -43,9 +42,9 @@ pub fn run_solve_alone<R: Source, W: Sink>(
     requires reader_ready { R.has_failed reader.old ≡ false }
     requires reader_unended { R.has_ended reader.old ≡ false }
     requires writer_ready { W.has_failed writer.old ≡ false }
-    ensures ok { IfOk result (Ran Solution MAX_BOARD_BYTES
+    ensures ok { IfOk result (Ran IsSolution MAX_BOARD_BYTES
         (bytes_of R.remaining reader.old reader.new) (bytes_of W.contents writer.old writer.new)) }
-    ensures fault { IfErr result (Fails Solution HasNoBoard MAX_BOARD_BYTES
+    ensures fault { IfErr result (Fails IsSolution HasNoBoard MAX_BOARD_BYTES
         (bytes_of R.remaining reader.old reader.new) (bytes_of W.contents writer.old writer.new)) }
     ensures streams { TellsStreams result (R.has_failed reader.new ≡ true)
         (stream_of W.contents W.has_failed writer.old writer.new) }
@@ -72,9 +71,9 @@ pub fn run_solve<R: Source, W: Sink>(
     requires reader_ready { R.has_failed reader.old ≡ false }
     requires reader_unended { R.has_ended reader.old ≡ false }
     requires writer_ready { W.has_failed writer.old ≡ false }
-    ensures ok { IfOk result (Ran Solution MAX_BOARD_BYTES
+    ensures ok { IfOk result (Ran IsSolution MAX_BOARD_BYTES
         (bytes_of R.remaining reader.old reader.new) (bytes_of W.contents writer.old writer.new)) }
-    ensures fault { IfErr result (Fails Solution
+    ensures fault { IfErr result (Fails IsSolution
         (CannotSolve Numbering.Ordered workers) MAX_BOARD_BYTES
         (bytes_of R.remaining reader.old reader.new) (bytes_of W.contents writer.old writer.new)) }
     ensures streams { TellsStreams result (R.has_failed reader.new ≡ true)
@@ -96,7 +95,8 @@ pub struct Solved {
 /// The value of the start of the board whose text is `text`, and the text of its document, which
 /// shows that value. It is found on this thread.
 pub fn solve_text_alone(alloc: Global, text: &[u8]) -> Result<Solved, RunFault>
-    ensures ok { IfOk result (λ solved. Solution text.now solved.value (string_bytes solved.text)) }
+    ensures ok { IfOk result (λ solved.
+        IsSolution text.now solved.value (string_bytes solved.text)) }
     ensures fault { IfErr result (HasNoBoard text.now) }
 {
     let board = small_board(alloc, text)?;
@@ -113,7 +113,8 @@ pub fn solve_text(
     text: &[u8],
 ) -> Result<Solved, RunFault>
     requires workers { InRange 1 MAX_WORKERS workers }
-    ensures ok { IfOk result (λ solved. Solution text.now solved.value (string_bytes solved.text)) }
+    ensures ok { IfOk result (λ solved.
+        IsSolution text.now solved.value (string_bytes solved.text)) }
     ensures fault { IfErr result (CannotSolve Numbering.Ordered workers text.now) }
 {
     if workers == 1 {
@@ -168,7 +169,7 @@ fn values_by(
     requires few { configurations board.now ≤ MAX_CONFIGURATIONS }
     requires workers { InRange 1 MAX_WORKERS workers }
     ensures values { IfOk result (λ values. values ≡ board.now) }
-    ensures refused { IfErr result (IsRefused workers) }
+    ensures refused { IfErr result (IsRefused workers board.now) }
 {
     let values = solve_classes(rt, alloc, board, workers as u32, &NoGate)?;
     Ok(Values::new(values, board))
@@ -193,7 +194,7 @@ pub(crate) fn numbered_by(
     requires few { class_count board.now ≤ MAX_CLASSES }
     requires workers { InRange 1 MAX_WORKERS workers }
     ensures values { IfOk result (λ values. values ≡ numbered board.now Numbering.Classes) }
-    ensures refused { IfErr result (IsRefused workers) }
+    ensures refused { IfErr result (IsRefused workers board.now) }
 {
     if workers == 1 {
         return numbered_of(alloc, board);

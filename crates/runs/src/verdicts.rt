@@ -1,17 +1,23 @@
 //! The answer to a text: its verdict and its line.
 
-ghost use Rattle.std.specs.Prelude.{◌≤◌, IfOk, IfErr, string_bytes};
+ghost use Rattle.std.specs.Prelude.{◌≡◌, ◌≤◌, IfOk, IfErr, string_bytes};
+ghost use Rattle.class_documents.specs.ClassProof.{IsClassDocument, plain_class_proof};
+ghost use Rattle.graphs.specs.Numbered.{IsFewBy};
 ghost use Rattle.proof_text.specs.Proof.{IsDocument, plain_proof};
 ghost use Rattle.positions.specs.Ranks.{configurations};
-ghost use Rattle.runs.specs.Verdicts.{IsAnswered, IsChecked, IsVerdict, CannotAnswer};
-ghost use Rattle.runs.specs.Inside.Verdicts.{NamesRanksOf};
-ghost use Rattle.runs.specs.Texts.{HasNoProof, IsMemory};
+ghost use Rattle.runs.specs.Verdicts.{CannotAnswer, IsAnswered, IsChecked, IsClassVerdict};
+ghost use Rattle.runs.specs.Verdicts.{IsVerdict};
+ghost use Rattle.runs.specs.Inside.Verdicts.{NamesRows};
+ghost use Rattle.runs.specs.Texts.{HasNoProof, IsByClasses, IsMemory};
 
-use crate::boards::small_board;
+use crate::boards::any_board;
 use crate::fault::RunFault;
 use crate::joined::board_length;
 use crate::output::line;
 use board_text::Board;
+use class_documents::{ClassFault, ClassProof, check_classes};
+use class_texts::parse_classes;
+use graphs::{Numbering, has_few};
 use positions::{MAX_CONFIGURATIONS, Space};
 use proof_check::{CheckFault, Shown, check};
 use proof_text::{Proof, parse};
@@ -25,6 +31,8 @@ pub enum Verdict {
     Accepted(Shown),
     /// The document breaks a rule; the first fault. It is never out of memory.
     Refused(CheckFault),
+    /// The document by classes breaks a rule; the first fault.
+    RefusedByClasses(ClassFault),
 }
 
 /// A verdict, and the line that says it.
@@ -45,20 +53,72 @@ pub fn check_joined_text(
     ensures fault { IfErr result (CannotAnswer text.now) }
 {
     let (board_bytes, rest) = text.split_at(board_length(text));
-    let board = small_board(alloc, board_bytes)?;
+    let board = any_board(alloc, board_bytes)?;
     check_text(rt, alloc, &board, rest)
 }
 
 /// The verdict on the document for `board` whose text is `text`, and its line.
 ///
-/// The board has at most `MAX_CONFIGURATIONS` configurations, as one that `small_board` gives.
+/// A document by classes may be for a board of any size, any other for one of at most
+/// `MAX_CONFIGURATIONS` configurations.
 pub fn check_text(
     rt: &(impl Threads + Sync),
     alloc: Global,
     board: &Board,
     text: &[u8],
 ) -> Result<VerdictLine, RunFault>
-    requires few { configurations board.now ≤ MAX_CONFIGURATIONS }
+    ensures checked { IfOk result (λ answer. IsChecked board.now text.now answer.verdict
+        (string_bytes answer.line)) }
+    ensures fault { IfErr result (HasNoProof board.now text.now) }
+{
+    if text.starts_with(b"proof 2\n") {
+        return check_by_classes(rt, alloc, board, text);
+    }
+    if !has_few(board, Numbering::Ordered) {
+        return Err(RunFault::TooLarge);
+    }
+    check_by_ranks(rt, alloc, board, text)
+}
+
+/// The verdict on the document by classes whose text is `text`, and its line.
+fn check_by_classes(
+    rt: &(impl Threads + Sync),
+    alloc: Global,
+    board: &Board,
+    text: &[u8],
+) -> Result<VerdictLine, RunFault>
+    requires begins { IsByClasses text.now }
+    ensures checked { IfOk result (λ answer. IsChecked board.now text.now answer.verdict
+        (string_bytes answer.line)) }
+    ensures fault { IfErr result (HasNoProof board.now text.now) }
+{
+    let proof = parse_classes(alloc, board, text)?;
+    let verdict = class_verdict_on(rt, board, &proof);
+    let line = line(alloc, board, verdict)?;
+    Ok(VerdictLine { verdict, line })
+}
+
+/// The verdict on the document by classes.
+fn class_verdict_on(rt: &(impl Threads + Sync), board: &Board, proof: &ClassProof) -> Verdict
+    requires document { IsClassDocument board.now proof.now }
+    ensures verdict { IsClassVerdict board.now (plain_class_proof board.now proof.now) result }
+    ensures named { NamesRows board.now result }
+{
+    match check_classes(rt, board, proof) {
+        Ok(()) => Verdict::Accepted(Shown { claim: proof.claim }),
+        Err(fault) => Verdict::RefusedByClasses(fault),
+    }
+}
+
+/// The verdict on the document by configurations whose text is `text`, and its line.
+fn check_by_ranks(
+    rt: &(impl Threads + Sync),
+    alloc: Global,
+    board: &Board,
+    text: &[u8],
+) -> Result<VerdictLine, RunFault>
+    requires few { IsFewBy Numbering.Ordered board.now }
+    requires begins { IsByClasses text.now → ⊥ }
     ensures checked { IfOk result (λ answer. IsChecked board.now text.now answer.verdict
         (string_bytes answer.line)) }
     ensures fault { IfErr result (HasNoProof board.now text.now) }
@@ -66,7 +126,7 @@ pub fn check_text(
     let space = Space::new(board);
     let proof = parse(alloc, &space, text)?;
     let verdict = verdict_on(rt, alloc, board, &proof)?;
-    let line = line(alloc, &space, verdict)?;
+    let line = line(alloc, board, verdict)?;
     Ok(VerdictLine { verdict, line })
 }
 
@@ -80,7 +140,7 @@ fn verdict_on(
     requires few { configurations board.now ≤ MAX_CONFIGURATIONS }
     requires document { IsDocument board.now proof.now }
     ensures verdict { IfOk result (IsVerdict board.now (plain_proof board.now proof.now)) }
-    ensures named { IfOk result (NamesRanksOf board.now) }
+    ensures named { IfOk result (NamesRows board.now) }
     ensures memory { IfErr result IsMemory }
 {
     match check(rt, alloc, board, proof) {

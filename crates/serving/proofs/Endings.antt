@@ -10,8 +10,6 @@ use Rattle.serving.specs.Jobs.{Checks, Opening, Plays, WritesWhole, limit_of}
 use Rattle.serving.specs.Outcomes.{EndsAs, outcome_of_check, outcome_of_run}
 use Rattle.runs.specs.PlayRun.{PlayFails, RanPlay}
 use Rattle.runs.specs.Run.{Bytes, Fails, Ran, Stream}
-use Rattle.runs.specs.SolveRun.{CannotSolve}
-use Rattle.graphs.specs.declared.graph.Numbering.{Numbering}
 use Rattle.runs.specs.declared.checking.TheConstants.{MAX_PROOF_BYTES}
 use Rattle.runs.specs.declared.reading.TheConstants.{MAX_BOARD_BYTES}
 use Rattle.runs.specs.declared.fault.RunFault.{RunFault}
@@ -20,11 +18,13 @@ use Rattle.serving.specs.declared.outcome.Outcome.{Outcome}
 use Rattle.serving.specs.declared.outcome.Outcome.TheVariants.{Broken}
 use Rattle.runs.specs.declared.verdicts.Verdict.{Verdict}
 use Rattle.runs.specs.declared.verdicts.Verdict.TheVariants.{Accepted as AcceptedAs, Refused as RefusedFor}
+use Rattle.runs.specs.declared.verdicts.Verdict.TheVariants.{RefusedByClasses}
 
 -- a check whose outcome is broken gave this fault
 pub broken_check : (r : Result Verdict RunFault) (fault : RunFault) → outcome_of_check r ≡ Broken fault → r ≡ Err fault
 broken_check (Ok (AcceptedAs shown)) fault is = cc
 broken_check (Ok (RefusedFor why)) fault is = cc
+broken_check (Ok (RefusedByClasses why)) fault is = cc
 broken_check (Err why) fault is = let same : why ≡ fault = cc in ap (λ f. Err f) same
 
 -- a run whose outcome is broken gave this fault
@@ -62,21 +62,21 @@ check_untouched board_limit proof_limit Old New to board proof written fault (in
 
 -- ---- jobs over files that were opened
 
-module _ {A : Type 0} (P : List ℕ → A → List ℕ → Type 0) (limit : Numbering) (workers : ℕ)
+module _ {A : Type 0} (P : List ℕ → A → List ℕ → Type 0) (Cannot : List ℕ → RunFault → Type 0)
     (file : File) (read : Bytes) (opens : OpensWith file read.old) (output : Stream)
     (r : Result A RunFault) (outcome : Outcome) (is : outcome ≡ outcome_of_run r) where
   pub opened_board : IfOk r (Ran P MAX_BOARD_BYTES read output.bytes)
-      → IfErr r (Fails P (CannotSolve limit workers) MAX_BOARD_BYTES read output.bytes)
+      → IfErr r (Fails P Cannot MAX_BOARD_BYTES read output.bytes)
       → IfErr r (λ fault. fault ≢ Write → output.IsKept)
       → Opening file output.IsKept (λ bytes. EndsAs outcome_of_run (Ran P MAX_BOARD_BYTES bytes output.bytes)
-      (Fails P (CannotSolve limit workers) MAX_BOARD_BYTES bytes output.bytes)) outcome
+      (Fails P Cannot MAX_BOARD_BYTES bytes output.bytes)) outcome
       × WritesWhole output outcome
   opened_board ok fault unwritten = (
     inr (
       read,
       opens,
       ends outcome_of_run r (Ran P MAX_BOARD_BYTES read output.bytes)
-          (Fails P (CannotSolve limit workers) MAX_BOARD_BYTES read output.bytes)
+          (Fails P Cannot MAX_BOARD_BYTES read output.bytes)
           outcome is ok fault,
     ),
     whole outcome_of_run broken_run r outcome is output.IsKept unwritten,

@@ -1,18 +1,17 @@
 -- The text that a serving writes on standard error.
 use Rattle.std.proofs.Common.{◌≡◌, ℕ, Bool, ◌&&◌, ◌||◌, true, false, List, [], ◌∷◌, ◌++◌, inl, inr, refl, sym, ap}
 use Rattle.std.proofs.Common.{subst, ◌∙◌, append-nil, append_assoc}
-use Rattle.std.proofs.lemmas.List.Elements.{All-append, All-cons, All-nil}
 use Rattle.std.specs.Prelude.{Err, Option, Result, ◌⊎◌}
 use Rattle.board_text.specs.LineForms.{with_line_feed}
 use Rattle.board_text.specs.PlainBoard.{PlainBoard}
 use Rattle.command_line.specs.declared.asked.Job.{Job}
 use Rattle.graphs.specs.declared.graph.Numbering.{Numbering}
 use Rattle.player.specs.Prompts.{ArePrompts}
-use Rattle.player.specs.Showing.{AreForPerson, HasNoControl, IsMore, is_control, shown}
+use Rattle.player.specs.Showing.{AreForPerson, HasNoControl, IsMore, shown}
 use Rattle.player.specs.declared.end.PlayEnd.{PlayEnd}
 use Rattle.player.specs.declared.end.PlayFault.{PlayFault}
-use Rattle.player.proofs.Cited.{none_more, nothing_for_person, plain_if_shown, prompts_for_person, then_lines}
-use Rattle.player.proofs.Cited.{then_more}
+use Rattle.player.proofs.Cited.{none_more, nothing_for_person, plain_both, plain_if_shown, prompts_for_person}
+use Rattle.player.proofs.Cited.{then_lines, then_more}
 use Rattle.positions.specs.declared.side.Side.{Side}
 use Rattle.runs.specs.Notices.{IsNoticed, notice_for}
 use Rattle.runs.specs.PlayRun.{IsToldInRun, game_played, run_of_play}
@@ -64,9 +63,6 @@ module _ {W : Type 0} (known : W → Option (List ℕ)) (failed : W → Bool) wh
 
 -- ---- an explanation in parts
 
-abbrev IsPlain : ℕ → Type 0
-IsPlain byte = is_control byte ≡ false
-
 -- a line that was written in parts
 pub line_of_parts : (about colon words : List ℕ)
     → about ++ (colon ++ (words ++ with_line_feed [])) ≡ with_line_feed (about ++ (colon ++ words))
@@ -75,15 +71,15 @@ line_of_parts about colon words = sym (
     ∙ ap (λ (l : List ℕ). about ++ l) (append_assoc colon words (with_line_feed []))
     )
 
--- it has no control bytes
-pub plain_line : (about colon words : List ℕ) → HasNoControl colon
-    → HasNoControl (shown about ++ (colon ++ shown words))
-plain_line about colon words plain =
-    All-append IsPlain (shown about) (colon ++ shown words) (plain_if_shown about)
-    (All-append IsPlain colon (shown words) plain (plain_if_shown words))
+-- it has no control characters
+pub plain_line : (about colon words : List ℕ) → HasNoControl colon → HasNoControl words
+    → HasNoControl (shown about ++ (colon ++ words))
+plain_line about colon words plain plain_too =
+    plain_both (shown about) (colon ++ words) (plain_if_shown about) (plain_both colon words plain plain_too)
 
 pub colon_is_plain : HasNoControl (58 ∷ 32 ∷ [])
-colon_is_plain = All-cons IsPlain 58 (32 ∷ []) refl (All-cons IsPlain 32 [] refl (All-nil IsPlain))
+unfolding shown
+colon_is_plain = refl
 
 -- ---- prompts
 
@@ -107,23 +103,24 @@ notice_for_person IsGiven IsMissing shows result told (inr (fault, broke, missin
     subst (AreForPerson shows) (sym none) (nothing_for_person shows)
 
 -- and so is all that is told in a play
-pub told_in_run : (limit : Numbering) (side : Side) (most_bytes : ℕ) (board lines written : Bytes) (size choices : Bool)
-    (result : Result PlayEnd RunFault) (told : List ℕ)
-    → IsToldInRun limit side most_bytes board lines written size choices result told
+pub told_in_run : (limit : Numbering) (side : Side) (most_bytes : ℕ) (Untouched : Type 0) (board lines written : Bytes)
+    (size choices : Bool) (result : Result PlayEnd RunFault) (told : List ℕ)
+    → IsToldInRun limit side most_bytes Untouched board lines written size choices result told
     → AreForPerson (choices || size) told
-told_in_run limit side most_bytes board lines written size choices result told (inl (fault, broke, missing, none)) =
-    subst (AreForPerson (choices || size)) (sym none) (nothing_for_person (choices || size))
-told_in_run limit side most_bytes board lines written size choices result told (inr (b, gave, prompts, is, how)) =
+told_in_run limit side most_bytes Untouched board lines written size choices result told (inl none) =
+    subst (AreForPerson (choices || size)) (sym none.4) (nothing_for_person (choices || size))
+told_in_run limit side most_bytes Untouched board lines written size choices result told
+    (inr (b, gave, prompts, is, how)) =
     subst (AreForPerson (choices || size)) (sym is)
     (then_lines HasNoControl (choices || size) (notice_for size b) prompts
     (or_second choices size (notice_for size b) (noticed size b))
     (or_first choices size prompts (by how)))
   where
-    by : ((result ≡ Err Memory) × (prompts ≡ []))
+    by : ((result ≡ Err Memory) × Untouched × (prompts ≡ []))
         ⊎ ((played : Result PlayEnd PlayFault) × (result ≡ run_of_play played)
         × ArePrompts choices (game_played side b) lines.old lines.new written.old written.new played prompts)
         → AreForPerson choices prompts
-    by (inl (refused, none)) = subst (AreForPerson choices) (sym none) (nothing_for_person choices)
+    by (inl (refused, kept, none)) = subst (AreForPerson choices) (sym none) (nothing_for_person choices)
     by (inr (played, same, are)) =
         prompts_for_person choices (game_played side b) prompts lines.old lines.new written.old written.new played are
 

@@ -15,11 +15,10 @@ use Rattle.board_text.specs.LineForms.{with_line_feed}
 use Rattle.board_text.proofs.Cited.{no_fault as faultless_board, one_board, one_fault as one_board_fault}
 use Rattle.board_text.specs.BoardFaults.{HasBoardFault}
 use Rattle.board_text.specs.declared.fault.BoardFault.{BoardFault}
-use Rattle.positions.specs.Ranks.{configurations}
-use Rattle.positions.specs.declared.space.TheConstants.{MAX_CONFIGURATIONS}
-use Rattle.proof_text.specs.ProofFaults.{HasProofFault}
-use Rattle.proof_text.specs.ProofText.{proof_text}
-use Rattle.runs.proofs.Cited.{is_small, not_wrong, one_length, one_report, one_solution, one_wrong}
+use Rattle.runs.proofs.Cited.{not_wrong, not_wrong_among, one_length, one_report, one_solution, one_verdict, one_wrong}
+use Rattle.runs.proofs.Cited.{class_solution_or_fault, one_class_solution, one_unsolved, one_wrong_among}
+use Rattle.runs.proofs.Cited.{one_wrong_proof, verdict_or_fault}
+use Rattle.runs.specs.ClassSolveRun.{CannotSolveByClasses, IsClassSolution, IsUnsolvedByClasses}
 use Rattle.std.proofs.Common.{take}
 use Rattle.command_line.specs.Commands.{program}
 use Rattle.command_line.specs.Reading.{AsksFor, AsksForVersion, HasFlag, HasNumber, IsReadAs, ShowsWords, side_word}
@@ -29,12 +28,6 @@ use Rattle.command_line.specs.declared.asked.JobFault.{JobFault}
 use Rattle.command_line.specs.declared.asked.JobFault.TheVariants.{Help, Usage, Memory as NoMemory}
 use Rattle.command_line.proofs.OneKind.{no_answer_and_misuse, no_help_and_version}
 use Rattle.nested_cycles.proofs.NestedBoards.{one_nested_board}
-use Rattle.proof_check.proofs.Cited.{only_memory}
-use Rattle.proof_check.proofs.DocumentFaults as document_faults
-use Rattle.proof_text.specs.Proof.{PlainProof}
-use Rattle.proof_text.proofs.Cited.{one_document, no_fault as faultless_document}
-use Rattle.proof_text.proofs.OneDocument.{one_fault as one_proof_fault}
-use Rattle.proof_text.specs.declared.fault.ProofFault.{ProofFault}
 use Rattle.positions.specs.declared.value.Value.{Value}
 use Rattle.positions.specs.declared.side.Side.{Side}
 use Rattle.positions.specs.declared.side.Side.TheVariants.{Labeller, Adversary}
@@ -48,16 +41,14 @@ use Rattle.player.specs.declared.end.PlayFault.TheVariants as play_faults
 use Rattle.runs.specs.Faults.{fault_of_play}
 use Rattle.runs.specs.PlayRun.{IsBrokenOff, IsOver, PlayFails, RanPlay, game_played}
 use Rattle.board_text.specs.BoardText.{board_text}
-use Rattle.runs.specs.BoardRun.{GaveBoard, GaveNoBoard}
+use Rattle.runs.specs.BoardRun.{GaveBoard, GaveBoardAmong, GaveNoBoard, GaveNoneAmong}
 use Rattle.runs.specs.CheckRun.{CheckFails, RanCheck}
 use Rattle.serving.specs.Folders.{CanFail, Closed, File, Holds, Unknown}
 use Rattle.serving.specs.FaultLines.{line_of_fault}
-use Rattle.runs.specs.Headline.{Solution}
 use Rattle.serving.specs.Jobs.{Checks, ChecksJoined, Climbs, Counts, IsDone, Opening, Plays, Solves}
 use Rattle.serving.specs.Jobs.{WritesNested, WritesWhole, limit_of}
 use Rattle.runs.specs.NestedText.{IsNestedText}
 use Rattle.serving.specs.Outcomes.{EndsAs, outcome_of_check, outcome_of_run, status_of}
-use Rattle.runs.specs.Output.{line_of}
 use Rattle.runs.specs.Report.{Reports}
 use Rattle.runs.specs.Run.{Bytes, Fails, Ran, Stream}
 use Rattle.player.specs.Showing.{AreForPerson}
@@ -65,23 +56,24 @@ use Rattle.serving.specs.Serving.{AnswersWords, WordsAskFor, EndsWith, HasNoMemo
 use Rattle.serving.specs.Serving.{IsPrompted, IsRefusedWith, IsWritten}
 use Rattle.serving.specs.Serving.{ServesAnyWords, ServesWords, is_large, is_typed, lacks_input}
 use Rattle.serving.specs.Servings.{AreKnown, HaveOwnText}
-use Rattle.runs.specs.SolveRun.{CannotSolve}
-use Rattle.runs.specs.Texts.{HasNoneWithin, HasNoProof, IsBoardWithin, IsSmallBoard, IsWrongBoard, IsWrongProof}
-use Rattle.runs.specs.Texts.{IsWrongWithin}
+use Rattle.runs.specs.SolveRun.{CannotSolve, IsSolution}
+use Rattle.runs.specs.Texts.{HasNoneAmong, HasNoProof, IsBoardAmong, IsBoardWithin, IsWrongAmong, IsWrongBoard}
+use Rattle.runs.specs.Texts.{IsWrongProof, IsWrongWithin, OfAnySize}
+use Rattle.graphs.specs.Numbered.{IsFewBy}
 use Rattle.graphs.specs.declared.graph.Numbering.{Numbering}
 use Rattle.graphs.specs.declared.graph.Numbering.TheVariants.{Ordered}
-use Rattle.runs.specs.Verdicts.{BeginsWithBoard, CannotAnswer, IsAnswered, IsChecked, IsVerdict, IsWrongText}
+use Rattle.runs.specs.Verdicts.{BeginsWithBoard, CannotAnswer, IsAnswered, IsChecked, IsWrongText}
 use Rattle.runs.specs.declared.checking.TheConstants.{MAX_JOINED_BYTES, MAX_PROOF_BYTES}
 use Rattle.runs.specs.declared.reading.TheConstants.{MAX_BOARD_BYTES}
 use Rattle.runs.specs.declared.fault.RunFault.{RunFault}
 use Rattle.runs.specs.declared.fault.RunFault.TheVariants.{Board, TooLarge, Proof, Memory, Worker, Read, Write, Limit}
+use Rattle.runs.specs.declared.fault.RunFault.TheVariants.{DocumentTooLarge}
 use Rattle.serving.specs.declared.outcome.Outcome.{Outcome}
 use Rattle.serving.specs.declared.outcome.Outcome.TheVariants.{Broken, Done, Refused}
 use Rattle.serving.specs.declared.serving.Terminals.{Terminals}
 use Rattle.serving.specs.declared.serving.Words.{Words}
 use Rattle.serving.specs.declared.serving.Words.TheVariants.{Given, NotText, OutOfMemory}
 use Rattle.runs.specs.declared.verdicts.Verdict.{Verdict}
-use Rattle.runs.specs.declared.verdicts.Verdict.TheVariants.{Accepted, Refused as RefusedFor}
 use Rattle.serving.proofs.KnownRuns.{Ends, Had, IsPlain, ends, gave_all, one_end, stayed, took, unread_is}
 use Rattle.serving.proofs.BoardEnds.{board_is_front, one_front}
 use Rattle.serving.proofs.KnownPlays.{Cuts, HasEndedBy, HasStoppedAt, Leaves, cuts, ended_or_stopped, too_long_is}
@@ -105,82 +97,51 @@ wrong_solving limit workers text TooLarge h = inr (inr h)
 wrong_solving limit workers text (Proof fault) h = absurd h
 wrong_solving limit workers text Read h = absurd h
 wrong_solving limit workers text Write h = absurd h
+wrong_solving limit workers text DocumentTooLarge h = absurd h
 wrong_solving limit workers text Limit h = absurd h
 
-wrong_board : (limit : Numbering) (text : List ℕ) (fault : RunFault) → HasNoneWithin limit text fault
-    → (fault ≡ Memory) ⊎ IsWrongWithin limit text fault
-wrong_board limit text Memory h = inl refl
-wrong_board limit text (Board fault) h = inr h
-wrong_board limit text TooLarge h = inr h
-wrong_board limit text (Proof fault) h = absurd h
-wrong_board limit text Worker h = absurd h
-wrong_board limit text Read h = absurd h
-wrong_board limit text Write h = absurd h
-wrong_board limit text Limit h = absurd h
+wrong_class_solving : (workers : ℕ) (text : List ℕ) (fault : RunFault) → CannotSolveByClasses workers text fault
+    → (fault ≡ Memory) ⊎ (fault ≡ Worker) ⊎ IsUnsolvedByClasses text fault
+wrong_class_solving workers text Memory h = inl refl
+wrong_class_solving workers text Worker h = inr (inl refl)
+wrong_class_solving workers text (Board fault) h = inr (inr h)
+wrong_class_solving workers text TooLarge h = inr (inr h)
+wrong_class_solving workers text DocumentTooLarge h = inr (inr h)
+wrong_class_solving workers text (Proof fault) h = absurd h
+wrong_class_solving workers text Read h = absurd h
+wrong_class_solving workers text Write h = absurd h
+wrong_class_solving workers text Limit h = absurd h
+
+wrong_board : (IsSmall : PlainBoard → Type 0) (text : List ℕ) (fault : RunFault) → HasNoneAmong IsSmall text fault
+    → (fault ≡ Memory) ⊎ IsWrongAmong IsSmall text fault
+wrong_board IsSmall text Memory h = inl refl
+wrong_board IsSmall text (Board fault) h = inr h
+wrong_board IsSmall text TooLarge h = inr h
+wrong_board IsSmall text (Proof fault) h = absurd h
+wrong_board IsSmall text Worker h = absurd h
+wrong_board IsSmall text Read h = absurd h
+wrong_board IsSmall text Write h = absurd h
+wrong_board IsSmall text DocumentTooLarge h = absurd h
+wrong_board IsSmall text Limit h = absurd h
 
 wrong_proof : (board : PlainBoard) (text : List ℕ) (fault : RunFault) → HasNoProof board text fault
     → (fault ≡ Memory) ⊎ (fault ≡ Worker) ⊎ IsWrongProof board text fault
 wrong_proof board text Memory h = inl refl
 wrong_proof board text (Proof fault) h = inr (inr h)
 wrong_proof board text (Board fault) h = absurd h
-wrong_proof board text TooLarge h = absurd h
+wrong_proof board text TooLarge h = inr (inr h)
 wrong_proof board text Worker h = absurd h
 wrong_proof board text Read h = absurd h
 wrong_proof board text Write h = absurd h
+wrong_proof board text DocumentTooLarge h = absurd h
 wrong_proof board text Limit h = absurd h
 
--- a fault of a document is one of the kinds of faults of documents
-proof_fault_is : (board : PlainBoard) (text : List ℕ) (fault : RunFault) → IsWrongProof board text fault
-    → (told : ProofFault) × (fault ≡ Proof told) × IsWrongProof board text (Proof told)
-proof_fault_is board text (Proof told) h = (told, refl, h)
-proof_fault_is board text (Board told) h = absurd h
-proof_fault_is board text TooLarge h = absurd h
-proof_fault_is board text Memory h = absurd h
-proof_fault_is board text Worker h = absurd h
-proof_fault_is board text Read h = absurd h
-proof_fault_is board text Write h = absurd h
-proof_fault_is board text Limit h = absurd h
-
-module _ (board : PlainBoard) (text : List ℕ) (small : (t : List ℕ) × IsSmallBoard t board) where
-  one_wrong_proof : (fault other : RunFault) → IsWrongProof board text fault → IsWrongProof board text other
-      → fault ≡ other
-  one_wrong_proof fault other wrong also =
-      let one = proof_fault_is board text fault wrong in
-      let two = proof_fault_is board text other also in
-      let same = one_proof_fault board text one.0.line two.0.line one.0.kind two.0.kind small.1.is_board one.2.1
-      two.2.1 one.2.0 two.2.0 in
-      let told : ◌≡◌ {A = ProofFault} (record { line = one.0.line; kind = one.0.kind }) two.0 =
-      rw (same.0, same.1) refl in
-      one.1 ∙ ap Proof told ∙ sym two.1
-
-  same_verdict : (proof : PlainProof) (verdict other : Verdict) → IsVerdict board proof verdict
-      → IsVerdict board proof other → verdict ≡ other
-  same_verdict proof (Accepted shown) (Accepted other) is also =
-      ap (λ c. Accepted (record { claim = c })) (is.0 ∙ sym also.0)
-  same_verdict proof (Accepted shown) (RefusedFor fault) is also =
-      absurd (also.1 (only_memory board proof fault is.1 also.0))
-  same_verdict proof (RefusedFor fault) (Accepted shown) is also =
-      absurd (is.1 (only_memory board proof fault also.1 is.0))
-  same_verdict proof (RefusedFor fault) (RefusedFor other) is also =
-      ap RefusedFor (document_faults.one_fault board proof fault other is.1 also.1 is.0 also.0)
-
-  one_check : (verdict other : Verdict) (line more : List ℕ) → IsChecked board text verdict line
-      → IsChecked board text other more
-      → (outcome_of_check (Ok verdict) ≡ outcome_of_check (Ok other)) × (line ≡ more)
-  one_check verdict other line more is also =
-      let same : is.proof ≡ also.proof =
-      one_document board is.proof also.proof small.1.is_board is.is_proof also.is_proof
-      (sym is.text_is ∙ also.text_is) in
-      let told : verdict ≡ other = same_verdict also.proof verdict other
-      (subst (λ p. IsVerdict board p verdict) same is.verdict_is) also.verdict_is in
-      (ap (λ v. outcome_of_check (Ok v)) told, is.line_is ∙ ap (line_of board) told ∙ sym also.line_is)
-
-  checked_apart : (verdict : Verdict) (line : List ℕ) (fault : RunFault) → IsChecked board text verdict line
-      → IsWrongProof board text fault → ⊥
-  checked_apart verdict line fault is wrong =
-      let one = proof_fault_is board text fault wrong in
-      one.2.1 (faultless_document board text one.0.line one.0.kind is.proof small.1.is_board is.is_proof is.text_is
-      one.2.0)
+one_check : (board : PlainBoard) (text : List ℕ) → IsBoard board → (verdict other : Verdict) (line more : List ℕ)
+    → IsChecked board text verdict line → IsChecked board text other more
+    → (outcome_of_check (Ok verdict) ≡ outcome_of_check (Ok other)) × (line ≡ more)
+one_check board text is_board verdict other line more is also =
+    let same = one_verdict board text is_board verdict other line more is also in
+    (ap (λ v. outcome_of_check (Ok v)) same.0, same.1)
 
 -- ---- files
 
@@ -228,25 +189,27 @@ one_pair E one Unknown second outcome other text line is also = absurd is
 one_pair E one (Holds bytes) second outcome other text line is also =
     one_file (E bytes) (one bytes) second outcome other text line is also
 
-module _ {Answer : Type 0} (Says : List ℕ → Answer → List ℕ → Type 0) (limit : Numbering) (workers : ℕ)
+module _ {Answer : Type 0} (Says : List ℕ → Answer → List ℕ → Type 0) (Cannot IsWrong : List ℕ → RunFault → Type 0)
+    (wrong : (text : List ℕ) (fault : RunFault) → Cannot text fault → (fault ≡ Memory) ⊎ (fault ≡ Worker)
+    ⊎ IsWrong text fault)
     (output : Stream)
     (taken : List ℕ)
     (had : Had output taken)
     (outcome : Outcome) (fair : IsFair outcome) (whole : WritesWhole output outcome) where
   abbrev Ended : File → Type 0
-  Ended file = EndsBy output taken (FileEnds (Ends outcome_of_run Says (IsWrongWithin limit) MAX_BOARD_BYTES) file)
+  Ended file = EndsBy output taken (FileEnds (Ends outcome_of_run Says IsWrong MAX_BOARD_BYTES) file)
       outcome
 
   opened : (file : File) → file ≢ Unknown → (outcome ≡ Broken Read → CanFail file)
       → Opening file output.IsKept (λ read. EndsAs outcome_of_run (Ran Says MAX_BOARD_BYTES read output.bytes)
-      (Fails Says (CannotSolve limit workers) MAX_BOARD_BYTES read output.bytes)) outcome → Ended file
+      (Fails Says Cannot MAX_BOARD_BYTES read output.bytes)) outcome → Ended file
   opened Unknown known unread opens = absurd (known refl)
   opened Closed known unread (inl (can, kept, same)) = ([], stayed output taken had kept, (same, refl))
   opened Closed known unread (inr (read, opens, then)) = absurd opens
   opened (Holds bytes) known unread (inl (can, kept, same)) = absurd can
   opened (Holds bytes) known unread (inr (read, opens, then)) =
-      ends outcome_of_run (run_breaks Answer) Says (CannotSolve limit workers) (IsWrongWithin limit)
-      (wrong_solving limit workers) MAX_BOARD_BYTES read bytes opens output
+      ends outcome_of_run (run_breaks Answer) Says Cannot IsWrong
+      wrong MAX_BOARD_BYTES read bytes opens output
       taken had outcome (plain_of outcome fair unread) whole then
 
 -- ---- a check of two files
@@ -255,9 +218,9 @@ module _ {Answer : Type 0} (Says : List ℕ → Answer → List ℕ → Type 0) 
 abbrev CheckEnds : List ℕ → List ℕ → Outcome → List ℕ → Type 0
 CheckEnds board_bytes proof_bytes outcome text =
     ((MAX_BOARD_BYTES < length board_bytes) × (outcome ≡ Broken Limit) × (text ≡ []))
-    ⊎ ((length board_bytes ≤ MAX_BOARD_BYTES) × (fault : RunFault) × IsWrongBoard board_bytes fault ×
+    ⊎ ((length board_bytes ≤ MAX_BOARD_BYTES) × (fault : RunFault) × IsWrongAmong OfAnySize board_bytes fault ×
     (outcome ≡ Broken fault) × (text ≡ []))
-    ⊎ ((length board_bytes ≤ MAX_BOARD_BYTES) × (board : PlainBoard) × IsSmallBoard board_bytes board
+    ⊎ ((length board_bytes ≤ MAX_BOARD_BYTES) × (board : PlainBoard) × IsBoardAmong OfAnySize board_bytes board
     × Ends outcome_of_check (IsChecked board) (IsWrongProof board) MAX_PROOF_BYTES proof_bytes outcome text)
 
 one_check_end : (board_bytes proof_bytes : List ℕ) → IsOne (CheckEnds board_bytes proof_bytes)
@@ -266,20 +229,20 @@ one_check_end b p outcome other text line (inl one) (inr (inl two)) = absurd (om
 one_check_end b p outcome other text line (inl one) (inr (inr two)) = absurd (omega (arith, one.0, two.0))
 one_check_end b p outcome other text line (inr (inl one)) (inl two) = absurd (omega (arith, one.0, two.0))
 one_check_end b p outcome other text line (inr (inl one)) (inr (inl two)) =
-    (one.3 ∙ ap Broken (one_wrong Ordered b one.1 two.1 one.2 two.2) ∙ sym two.3, one.4 ∙ sym two.4)
+    (one.3 ∙ ap Broken (one_wrong_among OfAnySize b one.1 two.1 one.2 two.2) ∙ sym two.3, one.4 ∙ sym two.4)
 one_check_end b p outcome other text line (inr (inl one)) (inr (inr two)) =
-    absurd (not_wrong Ordered b two.1 two.2 one.1 one.2)
+    absurd (not_wrong_among OfAnySize b two.1 two.2 one.1 one.2)
 one_check_end b p outcome other text line (inr (inr one)) (inl two) = absurd (omega (arith, one.0, two.0))
 one_check_end b p outcome other text line (inr (inr one)) (inr (inl two)) =
-    absurd (not_wrong Ordered b one.1 one.2 two.1 two.2)
+    absurd (not_wrong_among OfAnySize b one.1 one.2 two.1 two.2)
 one_check_end b p outcome other text line (inr (inr one)) (inr (inr (inside, board, small, two))) =
     let same : one.1 ≡ board = one_board one.1 board one.2.is_board small.is_board
     (sym one.2.spelled ∙ small.spelled) in
     let first : Ends outcome_of_check (IsChecked board) (IsWrongProof board) MAX_PROOF_BYTES p outcome text =
     subst (λ (d : PlainBoard). Ends outcome_of_check (IsChecked d)
     (IsWrongProof d) MAX_PROOF_BYTES p outcome text) same one.3 in
-    one_end outcome_of_check (IsChecked board) (IsWrongProof board) MAX_PROOF_BYTES p (one_check board p (b, small))
-    (one_wrong_proof board p (b, small)) (checked_apart board p (b, small)) outcome other text line first two
+    one_end outcome_of_check (IsChecked board) (IsWrongProof board) MAX_PROOF_BYTES p (one_check board p small.is_board)
+    (one_wrong_proof board p small.is_board) (verdict_or_fault board p small.is_board) outcome other text line first two
 
 module _ (output : Stream) (taken : List ℕ) (had : Had output taken) (outcome : Outcome) (fair : IsFair outcome)
     (whole : WritesWhole output outcome) where
@@ -292,7 +255,7 @@ module _ (output : Stream) (taken : List ℕ) (had : Had output taken) (outcome 
     abbrev Checked : Type 0
     Checked = EndsBy output taken (CheckEnds board_bytes proof_bytes) outcome
 
-    with_board : (board : PlainBoard) → GaveBoard Ordered MAX_BOARD_BYTES b board
+    with_board : (board : PlainBoard) → GaveBoardAmong OfAnySize MAX_BOARD_BYTES b board
         → EndsAs outcome_of_check (Ran (IsChecked board) MAX_PROOF_BYTES p output.bytes)
         (Fails (IsChecked board) (HasNoProof board) MAX_PROOF_BYTES p output.bytes) outcome → Checked
     with_board board (text, gave, small) run =
@@ -306,16 +269,17 @@ module _ (output : Stream) (taken : List ℕ) (had : Had output taken) (outcome 
             subst (λ t. length t ≤ MAX_BOARD_BYTES) all gave.1,
             board,
             subst
-                (λ t. IsSmallBoard t board) all small,
+                (λ t. IsBoardAmong OfAnySize t board) all small,
             end.2,
           )),
         )
 
-    without_board : (fault : RunFault) → outcome ≡ Broken fault → GaveNoBoard Ordered MAX_BOARD_BYTES b fault → Checked
+    without_board : (fault : RunFault) → outcome ≡ Broken fault → GaveNoneAmong OfAnySize MAX_BOARD_BYTES b fault
+        → Checked
     without_board fault same (inl unread) =
         let over = unread_is MAX_BOARD_BYTES b board_bytes fault outcome old (plain_of outcome fair read) same unread in
         ([], kept_by Limit (λ e. cc) over.1, inl (over.0, over.1, refl))
-    without_board fault same (inr (text, gave, none)) = elim (wrong_board Ordered text fault none) [
+    without_board fault same (inr (text, gave, none)) = elim (wrong_board OfAnySize text fault none) [
       | inl memory ↦ absurd (fair.memory (same ∙ ap Broken memory))
       | inr bad ↦
           let all : text ≡ board_bytes = gave_all b board_bytes text old gave.0 in (
@@ -325,7 +289,7 @@ module _ (output : Stream) (taken : List ℕ) (had : Had output taken) (outcome 
               subst (λ t. length t ≤ MAX_BOARD_BYTES) all gave.1,
               fault,
               subst
-                  (λ t. IsWrongBoard t fault) all bad,
+                  (λ t. IsWrongAmong OfAnySize t fault) all bad,
               same,
               refl,
             )),
@@ -385,45 +349,17 @@ nested levels pebbles output taken outcome had fair ((Err fault, inr (write, cut
 
 -- a board and a document after it, as a check reads them
 module _ (text : List ℕ) where
-  as_checked : (verdict : Verdict) (line : List ℕ) (is : IsAnswered text verdict line)
-      → IsChecked is.board (proof_text is.board is.proof) verdict line
-  as_checked verdict line is =
-      record {
-        proof = is.proof;
-        is_proof = is.is_proof;
-        text_is = refl;
-        verdict_is = is.verdict_is;
-        line_is =
-            is.line_is;
-      }
-
-  small_front : (verdict : Verdict) (line : List ℕ) (is : IsAnswered text verdict line) → IsSmallBoard
-      (board_text is.board) is.board
-  small_front verdict line is = record { is_board = is.is_board; few = is_small is.board is.few; spelled = refl }
-
-  one_joined : (verdict other : Verdict) (line more : List ℕ) → IsAnswered text verdict line
-      → IsAnswered text other more
-      → (outcome_of_check (Ok verdict) ≡ outcome_of_check (Ok other)) × (line ≡ more)
-  one_joined verdict other line more is also =
-      let same = one_front is.board also.board text (proof_text is.board is.proof)
-      (proof_text also.board also.proof) is.is_board also.is_board
-      is.text_is also.text_is in
-      one_check also.board (proof_text also.board also.proof)
-      (board_text also.board, small_front other more also) verdict other line more
-      (subst (λ t. IsChecked also.board t verdict line) same.1
-      (subst (λ b. IsChecked b (proof_text is.board is.proof) verdict line) same.0 (as_checked verdict line is)))
-      (as_checked other more also)
-
   wrong_joined : (fault : RunFault) → CannotAnswer text fault → (fault ≡ Memory) ⊎ (fault ≡ Worker)
       ⊎ IsWrongText text fault
   wrong_joined Memory h = inl refl
   wrong_joined (Board fault) h = inr (inr h)
   wrong_joined TooLarge h = inr (inr h)
   wrong_joined (Proof fault) h = inr (inr h)
-  wrong_joined Worker h = absurd h
-  wrong_joined Read h = absurd h
-  wrong_joined Write h = absurd h
-  wrong_joined Limit h = absurd h
+  wrong_joined Worker h = inr (inr h)
+  wrong_joined Read h = inr (inr h)
+  wrong_joined Write h = inr (inr h)
+  wrong_joined DocumentTooLarge h = inr (inr h)
+  wrong_joined Limit h = inr (inr h)
 
   -- a text that begins with a board's has no fault of a board's text
   no_board_fault : (board : PlainBoard) (rest : List ℕ) (fault : BoardFault) → IsBoard board
@@ -440,91 +376,65 @@ module _ (text : List ℕ) where
   one_begin board other rest more is also =
       one_front board other text rest more is.is_board also.is_board is.text_is also.text_is
 
-  large_or_small : (board other : PlainBoard) (rest more : List ℕ) → BeginsWithBoard text board rest
-      → BeginsWithBoard text other more
-      → MAX_CONFIGURATIONS < configurations board → configurations other ≤ MAX_CONFIGURATIONS → ⊥
-  large_or_small board other rest more is also large small =
-      let few : configurations board ≤ MAX_CONFIGURATIONS =
-      subst (λ b. configurations b ≤ MAX_CONFIGURATIONS) (sym (one_begin board other rest more is also).0) small in
-      absurd (omega (arith, large, few))
+  -- a fault is one of the board's text, or of what is after it
+  wrong_text_is : (fault : RunFault) → IsWrongText text fault
+      → ((told : BoardFault) × (fault ≡ Board told) × IsWrongText text (Board told))
+      ⊎ ((board : PlainBoard) × (rest : List ℕ) × BeginsWithBoard text board rest × IsWrongProof board rest fault)
+  wrong_text_is (Board told) h = inl (told, refl, h)
+  wrong_text_is TooLarge h = inr h
+  wrong_text_is (Proof told) h = inr h
+  wrong_text_is Memory h = inr h
+  wrong_text_is Worker h = inr h
+  wrong_text_is Read h = inr h
+  wrong_text_is Write h = inr h
+  wrong_text_is DocumentTooLarge h = inr h
+  wrong_text_is Limit h = inr h
+
+  one_board_text_fault : (told other : BoardFault) → IsWrongText text (Board told) → IsWrongText text (Board other)
+      → told ≡ other
+  one_board_text_fault told other (size, long, has, not) (size_too, long_too, has_too, not_too) =
+      let sizes : size ≡ size_too = one_length text size size_too long long_too in
+      let same = one_board_fault (take size_too text) told.line other.line told.kind other.kind not not_too
+      (subst (λ n. HasBoardFault (take n text) told.line told.kind) sizes has) has_too in
+      let is : ◌≡◌ {A = BoardFault} (record { line = told.line; kind = told.kind }) other =
+      rw (same.0, same.1) refl in
+      is
 
   one_joined_fault : (fault other : RunFault) → IsWrongText text fault → IsWrongText text other → fault ≡ other
-  one_joined_fault (Board fault) (Board other) (size, long, has, not) (size_too, long_too, has_too, not_too) =
-      let sizes : size ≡ size_too = one_length text size size_too long long_too in
-      let same = one_board_fault (take size_too text) fault.line other.line fault.kind other.kind not not_too
-      (subst (λ n. HasBoardFault (take n text) fault.line fault.kind) sizes has) has_too in
-      let told : ◌≡◌ {A = BoardFault} (record { line = fault.line; kind = fault.kind }) other =
-      rw (same.0, same.1) refl in
-      ap Board told
-  one_joined_fault (Board fault) TooLarge wrong (board, rest, begins, large) =
-      absurd (no_board_fault board rest fault begins.is_board begins.text_is wrong)
-  one_joined_fault (Board fault) (Proof other) wrong (board, rest, begins, few, has, not) =
-      absurd (no_board_fault board rest fault begins.is_board begins.text_is wrong)
-  one_joined_fault TooLarge (Board other) (board, rest, begins, large) also =
-      absurd (no_board_fault board rest other begins.is_board begins.text_is also)
-  one_joined_fault TooLarge TooLarge wrong also = refl
-  one_joined_fault TooLarge (Proof other) (board, rest, begins, large) (second, more, begins_too, few, has, not) =
-      absurd (large_or_small board second rest more begins begins_too large few)
-  one_joined_fault (Proof fault) (Board other) (board, rest, begins, few, has, not) also =
-      absurd (no_board_fault board rest other begins.is_board begins.text_is also)
-  one_joined_fault (Proof fault) TooLarge (board, rest, begins, few, has, not) (second, more, begins_too, large) =
-      absurd (large_or_small second board more rest begins_too begins large few)
-  one_joined_fault (Proof fault) (Proof other) (board, rest, begins, few, has, not)
-      (second, more, begins_too, few_too, has_too, not_too) =
-      let same = one_begin board second rest more begins begins_too in
-      let first : HasProofFault second more fault.line fault.kind =
-      subst (λ t. HasProofFault second t fault.line fault.kind) same.1
-      (subst (λ b. HasProofFault b rest fault.line fault.kind) same.0 has) in
-      let both = one_proof_fault second more fault.line other.line fault.kind other.kind begins_too.is_board not
-      not_too first has_too in
-      let told : ◌≡◌ {A = ProofFault} (record { line = fault.line; kind = fault.kind }) other =
-      rw (both.0, both.1) refl in
-      ap Proof told
-  one_joined_fault Memory other wrong also = absurd wrong
-  one_joined_fault Worker other wrong also = absurd wrong
-  one_joined_fault Read other wrong also = absurd wrong
-  one_joined_fault Write other wrong also = absurd wrong
-  one_joined_fault Limit other wrong also = absurd wrong
-  one_joined_fault (Board fault) Memory wrong also = absurd also
-  one_joined_fault (Board fault) Worker wrong also = absurd also
-  one_joined_fault (Board fault) Read wrong also = absurd also
-  one_joined_fault (Board fault) Write wrong also = absurd also
-  one_joined_fault (Board fault) Limit wrong also = absurd also
-  one_joined_fault TooLarge Memory wrong also = absurd also
-  one_joined_fault TooLarge Worker wrong also = absurd also
-  one_joined_fault TooLarge Read wrong also = absurd also
-  one_joined_fault TooLarge Write wrong also = absurd also
-  one_joined_fault TooLarge Limit wrong also = absurd also
-  one_joined_fault (Proof fault) Memory wrong also = absurd also
-  one_joined_fault (Proof fault) Worker wrong also = absurd also
-  one_joined_fault (Proof fault) Read wrong also = absurd also
-  one_joined_fault (Proof fault) Write wrong also = absurd also
-  one_joined_fault (Proof fault) Limit wrong also = absurd also
+  one_joined_fault fault other wrong also = elim (wrong_text_is fault wrong) [
+    | inl (told, is, bad) ↦ elim (wrong_text_is other also) [
+      | inl (too, is_too, bad_too) ↦ is ∙ ap Board (one_board_text_fault told too bad bad_too) ∙ sym is_too
+      | inr (board, rest, begins, after) ↦
+          absurd (no_board_fault board rest told begins.is_board begins.text_is bad)
+    ]
+    | inr (board, rest, begins, after) ↦ elim (wrong_text_is other also) [
+      | inl (too, is_too, bad_too) ↦
+          absurd (no_board_fault board rest too begins.is_board begins.text_is bad_too)
+      | inr (second, more, begins_too, after_too) ↦
+          let same = one_begin board second rest more begins begins_too in
+          one_wrong_proof second more begins_too.is_board fault other
+          (subst (λ t. IsWrongProof second t fault) same.1 (subst
+          (λ b. IsWrongProof b rest fault) same.0 after)) after_too
+    ]
+  ]
 
-  answered_begins : (verdict : Verdict) (line : List ℕ) (is : IsAnswered text verdict line)
-      → BeginsWithBoard text is.board (proof_text is.board is.proof)
-  answered_begins verdict line is = record { is_board = is.is_board; text_is = is.text_is }
+  one_joined : (verdict other : Verdict) (line more : List ℕ) → IsAnswered text verdict line
+      → IsAnswered text other more
+      → (outcome_of_check (Ok verdict) ≡ outcome_of_check (Ok other)) × (line ≡ more)
+  one_joined verdict other line more (board, rest, begins, is) (second, after, begins_too, also) =
+      let same = one_begin board second rest after begins begins_too in
+      one_check second after begins_too.is_board verdict other line more
+      (subst (λ t. IsChecked second t verdict line) same.1 (subst (λ b. IsChecked b rest verdict line) same.0 is)) also
 
   joined_apart : (verdict : Verdict) (line : List ℕ) (fault : RunFault) → IsAnswered text verdict line
       → IsWrongText text fault → ⊥
-  joined_apart verdict line (Board fault) is wrong =
-      no_board_fault is.board (proof_text is.board is.proof) fault is.is_board is.text_is wrong
-  joined_apart verdict line TooLarge is (board, rest, begins, large) =
-      large_or_small board is.board rest (proof_text is.board is.proof) begins
-      (answered_begins verdict line is) large is.few
-  joined_apart verdict line (Proof fault) is (board, rest, begins, few, has, not) =
-      let same = one_begin board is.board rest (proof_text is.board is.proof) begins
-      (answered_begins verdict line is) in
-      let there : HasProofFault is.board (proof_text is.board is.proof) fault.line fault.kind =
-      subst (λ t. HasProofFault is.board t fault.line fault.kind) same.1
-      (subst (λ b. HasProofFault b rest fault.line fault.kind) same.0 has) in
-      not (faultless_document is.board
-      (proof_text is.board is.proof) fault.line fault.kind is.proof is.is_board is.is_proof refl there)
-  joined_apart verdict line Memory is wrong = wrong
-  joined_apart verdict line Worker is wrong = wrong
-  joined_apart verdict line Read is wrong = wrong
-  joined_apart verdict line Write is wrong = wrong
-  joined_apart verdict line Limit is wrong = wrong
+  joined_apart verdict line fault (board, rest, begins, is) wrong = elim (wrong_text_is fault wrong) [
+    | inl (told, same, bad) ↦ no_board_fault board rest told begins.is_board begins.text_is bad
+    | inr (second, more, begins_too, after) ↦
+        let same = one_begin second board more rest begins_too begins in
+        verdict_or_fault board rest begins.is_board verdict line fault is
+        (subst (λ t. IsWrongProof board t fault) same.1 (subst (λ b. IsWrongProof b more fault) same.0 after))
+  ]
 
 -- ---- a play
 
@@ -682,7 +592,7 @@ module _ (large : Bool) (side : Side) (input output : Stream) (lines taken : Lis
     no_play fault same (inl unread) stays =
         let over = unread_is MAX_BOARD_BYTES read bytes fault outcome board_old plain same unread in
         ([], stayed output taken had stays, inl (over.0, over.1, refl))
-    no_play fault same (inr (text, gave, none)) stays = elim (wrong_board (limit_of large) text fault none) [
+    no_play fault same (inr (text, gave, none)) stays = elim (wrong_board (IsFewBy (limit_of large)) text fault none) [
       | inl memory ↦ absurd (fair.memory (same ∙ ap Broken memory))
       | inr bad ↦
           let all : text ≡ bytes = gave_all read bytes text board_old gave.0 in (
@@ -739,12 +649,12 @@ alike E one outcome other output more taken is also =
     let same = one outcome other is.0 also.0 is.2 also.2 in
     (same.0, is.1 ∙ ap (λ t. Some (taken ++ t)) same.1 ∙ sym also.1)
 
-solving_one : (text : List ℕ) → (answer other : Value) (line more : List ℕ) → Solution text answer line
-    → Solution text other more
+solving_one : (text : List ℕ) → (answer other : Value) (line more : List ℕ) → IsSolution text answer line
+    → IsSolution text other more
     → (outcome_of_run (Ok answer) ≡ outcome_of_run (Ok other)) × (line ≡ more)
 solving_one text answer other line more is also = (
   refl,
-  (one_solution text answer other line more is.solution also.solution).1,
+  (one_solution text answer other line more is also).1,
 )
 
 reporting_one : (limit : Numbering) (text : List ℕ) → (answer other : Unit {0}) (line more : List ℕ)
@@ -756,25 +666,51 @@ module _ (at : List ℕ → File) (known : AreKnown at) (input output other_inpu
     (lines : List ℕ) (had : Had output taken) (had_too : Had other_output taken) (had_lines : Had input lines)
     (had_lines_too : Had other_input lines)
     (outcome other : Outcome) (fair : IsFair outcome) (fair_too : IsFair other) where
-  two_solved : (workers more : ℕ) (path second : List ℕ) → path ≡ second → (outcome ≡ Broken Read → CanFail (at path)) →
-      (other ≡ Broken Read → CanFail (at second))
-      → Solves workers (at path) output outcome → Solves more (at second) other_output other
+  -- the same of boards that are solved, whatever is written for them
+  two_solved_as : (Says : List ℕ → Value → List ℕ → Type 0) (Cannot CannotToo IsWrong : List ℕ → RunFault → Type 0)
+      → ((text : List ℕ) (fault : RunFault) → Cannot text fault → (fault ≡ Memory) ⊎ (fault ≡ Worker)
+      ⊎ IsWrong text fault)
+      → ((text : List ℕ) (fault : RunFault) → CannotToo text fault → (fault ≡ Memory) ⊎ (fault ≡ Worker)
+      ⊎ IsWrong text fault)
+      → ((bytes : List ℕ) → IsOne (Ends outcome_of_run Says IsWrong MAX_BOARD_BYTES bytes))
+      → (path second : List ℕ) → path ≡ second → (outcome ≡ Broken Read → CanFail (at path))
+      → (other ≡ Broken Read → CanFail (at second))
+      → Opening (at path) output.IsKept (λ read. EndsAs outcome_of_run (Ran Says MAX_BOARD_BYTES read output.bytes)
+      (Fails Says Cannot MAX_BOARD_BYTES read output.bytes)) outcome × WritesWhole output outcome
+      → Opening (at second) other_output.IsKept (λ read. EndsAs outcome_of_run
+      (Ran Says MAX_BOARD_BYTES read other_output.bytes)
+      (Fails Says CannotToo MAX_BOARD_BYTES read other_output.bytes)) other × WritesWhole other_output other
       → AreAlike outcome other output other_output
-  two_solved workers more path second same unread unread_too is also =
-      alike (FileEnds (Ends outcome_of_run Solution IsWrongBoard MAX_BOARD_BYTES) (at second))
-      (one_file (Ends outcome_of_run Solution IsWrongBoard MAX_BOARD_BYTES)
-      (λ bytes. one_end outcome_of_run Solution IsWrongBoard MAX_BOARD_BYTES bytes (solving_one bytes)
-      (one_wrong Ordered bytes)
-      (λ answer line fault says wrong. not_wrong Ordered bytes says.solution.0 says.solution.1 fault wrong))
-      (at second))
+  two_solved_as Says Cannot CannotToo IsWrong wrong wrong_too one path second same unread unread_too is also =
+      alike (FileEnds (Ends outcome_of_run Says IsWrong MAX_BOARD_BYTES) (at second))
+      (one_file (Ends outcome_of_run Says IsWrong MAX_BOARD_BYTES) one (at second))
       outcome other output other_output taken
-      (opened Solution Ordered workers output taken had outcome fair is.1 (at second) (known second)
+      (opened Says Cannot IsWrong wrong output taken had outcome fair is.1 (at second) (known second)
       (λ e. subst (λ p. CanFail (at p)) same (unread e))
       (subst (λ p. Opening (at p) output.IsKept (λ read. EndsAs outcome_of_run
-      (Ran Solution MAX_BOARD_BYTES read output.bytes)
-      (Fails Solution (CannotSolve Ordered workers) MAX_BOARD_BYTES read output.bytes)) outcome) same is.0))
-      (opened Solution Ordered more other_output taken had_too other fair_too also.1 (at second)
+      (Ran Says MAX_BOARD_BYTES read output.bytes)
+      (Fails Says Cannot MAX_BOARD_BYTES read output.bytes)) outcome) same is.0))
+      (opened Says CannotToo IsWrong wrong_too other_output taken had_too other fair_too also.1 (at second)
       (known second) unread_too also.0)
+
+  two_solved : (workers more : ℕ) (large : Bool) (path second : List ℕ) → path ≡ second
+      → (outcome ≡ Broken Read → CanFail (at path)) → (other ≡ Broken Read → CanFail (at second))
+      → Solves workers large (at path) output outcome → Solves more large (at second) other_output other
+      → AreAlike outcome other output other_output
+  two_solved workers more false path second same unread unread_too is also =
+      two_solved_as IsSolution (CannotSolve Ordered workers) (CannotSolve Ordered more) IsWrongBoard
+      (wrong_solving Ordered workers) (wrong_solving Ordered more)
+      (λ bytes. one_end outcome_of_run IsSolution IsWrongBoard MAX_BOARD_BYTES bytes (solving_one bytes)
+      (one_wrong Ordered bytes)
+      (λ answer line fault says wrong. not_wrong Ordered bytes says.0 says.1 fault wrong))
+      path second same unread unread_too is also
+  two_solved workers more true path second same unread unread_too is also =
+      two_solved_as IsClassSolution (CannotSolveByClasses workers) (CannotSolveByClasses more) IsUnsolvedByClasses
+      (wrong_class_solving workers) (wrong_class_solving more)
+      (λ bytes. one_end outcome_of_run IsClassSolution IsUnsolvedByClasses MAX_BOARD_BYTES bytes
+      (λ answer other line more is also. (refl, (one_class_solution bytes answer other line more is also).1))
+      (one_unsolved bytes) (class_solution_or_fault bytes))
+      path second same unread unread_too is also
 
   two_counted : (workers more : ℕ) (large : Bool) (path second : List ℕ) → path ≡ second
       → (outcome ≡ Broken Read → CanFail (at path)) → (other ≡ Broken Read → CanFail (at second))
@@ -789,12 +725,14 @@ module _ (at : List ℕ → File) (known : AreKnown at) (input output other_inpu
       (one_wrong limit bytes)
       (λ answer line fault says wrong. not_wrong limit bytes says.0 says.1 fault wrong)) (at second))
       outcome other output other_output taken
-      (opened (Reports limit) limit workers output taken had outcome fair is.1 (at second) (known second)
+      (opened (Reports limit) (CannotSolve limit workers) (IsWrongWithin limit)
+      (wrong_solving limit workers) output taken had outcome fair is.1 (at second) (known second)
       (λ e. subst (λ p. CanFail (at p)) same (unread e))
       (subst (λ p. Opening (at p) output.IsKept (λ read. EndsAs outcome_of_run
       (Ran (Reports limit) MAX_BOARD_BYTES read output.bytes)
       (Fails (Reports limit) (CannotSolve limit workers) MAX_BOARD_BYTES read output.bytes)) outcome) same is.0))
-      (opened (Reports limit) limit more other_output taken had_too other fair_too also.1 (at second)
+      (opened (Reports limit) (CannotSolve limit more) (IsWrongWithin limit)
+      (wrong_solving limit more) other_output taken had_too other fair_too also.1 (at second)
       (known second) unread_too also.0)
 
   two_checked : (path second document paper : List ℕ) → path ≡ second → document ≡ paper
@@ -903,7 +841,7 @@ module _ (at : List ℕ → File) (known : AreKnown at) (input output other_inpu
       is.unread also.unread is.does.0 also.does.0
   two_done name rows (jobs.Check b p) (jobs.Nested ol oq) asks asks_too is also =
       absurd (names_differ (codes "check") (codes "nested") refl (sym asks.0 ∙ asks_too.0))
-  two_done name rows (jobs.Check b p) (jobs.Solve ow ob) asks asks_too is also =
+  two_done name rows (jobs.Check b p) (jobs.Solve ow og ob) asks asks_too is also =
       absurd (names_differ (codes "check") (codes "solve") refl (sym asks.0 ∙ asks_too.0))
   two_done name rows (jobs.Check b p) (jobs.Report ow og ob) asks asks_too is also =
       absurd (names_differ (codes "check") (codes "report") refl (sym asks.0 ∙ asks_too.0))
@@ -918,7 +856,7 @@ module _ (at : List ℕ → File) (known : AreKnown at) (input output other_inpu
       two_nested l q ol oq (same_number rows (codes "levels") _ l ol asks.1 asks_too.1)
       (same_number rows (codes "pebbles") _ q oq asks.2 asks_too.2)
       is.does.0 also.does.0
-  two_done name rows (jobs.Nested l q) (jobs.Solve ow ob) asks asks_too is also =
+  two_done name rows (jobs.Nested l q) (jobs.Solve ow og ob) asks asks_too is also =
       absurd (names_differ (codes "nested") (codes "solve") refl (sym asks.0 ∙ asks_too.0))
   two_done name rows (jobs.Nested l q) (jobs.Report ow og ob) asks asks_too is also =
       absurd (names_differ (codes "nested") (codes "report") refl (sym asks.0 ∙ asks_too.0))
@@ -926,26 +864,28 @@ module _ (at : List ℕ → File) (known : AreKnown at) (input output other_inpu
       absurd (names_differ (codes "nested") (codes "play") refl (sym asks.0 ∙ asks_too.0))
   two_done name rows (jobs.Nested l q) (jobs.Climb ol) asks asks_too is also =
       absurd (names_differ (codes "nested") (codes "climb") refl (sym asks.0 ∙ asks_too.0))
-  two_done name rows (jobs.Solve w b) jobs.Joined asks asks_too is also = absurd asks_too
-  two_done name rows (jobs.Solve w b) (jobs.Check ob op) asks asks_too is also =
+  two_done name rows (jobs.Solve w g b) jobs.Joined asks asks_too is also = absurd asks_too
+  two_done name rows (jobs.Solve w g b) (jobs.Check ob op) asks asks_too is also =
       absurd (names_differ (codes "solve") (codes "check") refl (sym asks.0 ∙ asks_too.0))
-  two_done name rows (jobs.Solve w b) (jobs.Nested ol oq) asks asks_too is also =
+  two_done name rows (jobs.Solve w g b) (jobs.Nested ol oq) asks asks_too is also =
       absurd (names_differ (codes "solve") (codes "nested") refl (sym asks.0 ∙ asks_too.0))
-  two_done name rows (jobs.Solve w b) (jobs.Solve ow ob) asks asks_too is also =
-      two_solved w ow b.now ob.now
-      (same_path _ b.now ob.now asks.2 asks_too.2) is.unread also.unread is.does.0 also.does.0
-  two_done name rows (jobs.Solve w b) (jobs.Report ow og ob) asks asks_too is also =
+  two_done name rows (jobs.Solve w g b) (jobs.Solve ow og ob) asks asks_too is also =
+      two_solved w ow og b.now ob.now (same_path _ b.now ob.now asks.3 asks_too.3) is.unread also.unread
+      (subst (λ l. Solves w l (at b.now) output outcome)
+      (same_flag rows (codes "large") g og asks.2 asks_too.2) is.does.0)
+      also.does.0
+  two_done name rows (jobs.Solve w g b) (jobs.Report ow og ob) asks asks_too is also =
       absurd (names_differ (codes "solve") (codes "report") refl (sym asks.0 ∙ asks_too.0))
-  two_done name rows (jobs.Solve w b) (jobs.Play os og ob) asks asks_too is also =
+  two_done name rows (jobs.Solve w g b) (jobs.Play os og ob) asks asks_too is also =
       absurd (names_differ (codes "solve") (codes "play") refl (sym asks.0 ∙ asks_too.0))
-  two_done name rows (jobs.Solve w b) (jobs.Climb ol) asks asks_too is also =
+  two_done name rows (jobs.Solve w g b) (jobs.Climb ol) asks asks_too is also =
       absurd (names_differ (codes "solve") (codes "climb") refl (sym asks.0 ∙ asks_too.0))
   two_done name rows (jobs.Report w g b) jobs.Joined asks asks_too is also = absurd asks_too
   two_done name rows (jobs.Report w g b) (jobs.Check ob op) asks asks_too is also =
       absurd (names_differ (codes "report") (codes "check") refl (sym asks.0 ∙ asks_too.0))
   two_done name rows (jobs.Report w g b) (jobs.Nested ol oq) asks asks_too is also =
       absurd (names_differ (codes "report") (codes "nested") refl (sym asks.0 ∙ asks_too.0))
-  two_done name rows (jobs.Report w g b) (jobs.Solve ow ob) asks asks_too is also =
+  two_done name rows (jobs.Report w g b) (jobs.Solve ow og ob) asks asks_too is also =
       absurd (names_differ (codes "report") (codes "solve") refl (sym asks.0 ∙ asks_too.0))
   two_done name rows (jobs.Report w g b) (jobs.Report ow og ob) asks asks_too is also =
       two_counted w ow og b.now ob.now (same_path _ b.now ob.now asks.3 asks_too.3) is.unread also.unread
@@ -961,7 +901,7 @@ module _ (at : List ℕ → File) (known : AreKnown at) (input output other_inpu
       absurd (names_differ (codes "play") (codes "check") refl (sym asks.0 ∙ asks_too.0))
   two_done name rows (jobs.Play s g b) (jobs.Nested ol oq) asks asks_too is also =
       absurd (names_differ (codes "play") (codes "nested") refl (sym asks.0 ∙ asks_too.0))
-  two_done name rows (jobs.Play s g b) (jobs.Solve ow ob) asks asks_too is also =
+  two_done name rows (jobs.Play s g b) (jobs.Solve ow og ob) asks asks_too is also =
       absurd (names_differ (codes "play") (codes "solve") refl (sym asks.0 ∙ asks_too.0))
   two_done name rows (jobs.Play s g b) (jobs.Report ow og ob) asks asks_too is also =
       absurd (names_differ (codes "play") (codes "report") refl (sym asks.0 ∙ asks_too.0))
@@ -978,7 +918,7 @@ module _ (at : List ℕ → File) (known : AreKnown at) (input output other_inpu
       absurd (names_differ (codes "climb") (codes "check") refl (sym asks.0 ∙ asks_too.0))
   two_done name rows (jobs.Climb l) (jobs.Nested ol oq) asks asks_too is also =
       absurd (names_differ (codes "climb") (codes "nested") refl (sym asks.0 ∙ asks_too.0))
-  two_done name rows (jobs.Climb l) (jobs.Solve ow ob) asks asks_too is also =
+  two_done name rows (jobs.Climb l) (jobs.Solve ow og ob) asks asks_too is also =
       absurd (names_differ (codes "climb") (codes "solve") refl (sym asks.0 ∙ asks_too.0))
   two_done name rows (jobs.Climb l) (jobs.Report ow og ob) asks asks_too is also =
       absurd (names_differ (codes "climb") (codes "report") refl (sym asks.0 ∙ asks_too.0))
@@ -1107,7 +1047,7 @@ typed_by_name : (name : Text) (rows : List Row) (job : Job) → AsksFor name row
 typed_by_name name rows jobs.Joined asks = absurd asks
 typed_by_name name rows (jobs.Check b p) asks = rw asks.0 refl
 typed_by_name name rows (jobs.Nested l p) asks = rw asks.0 refl
-typed_by_name name rows (jobs.Solve w b) asks = rw asks.0 refl
+typed_by_name name rows (jobs.Solve w g b) asks = rw asks.0 refl
 typed_by_name name rows (jobs.Report w g b) asks = rw asks.0 refl
 typed_by_name name rows (jobs.Play s g b) asks = rw asks.0 refl
 typed_by_name name rows (jobs.Climb l) asks = rw asks.0 refl

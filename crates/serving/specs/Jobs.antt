@@ -7,15 +7,16 @@ use Rattle.graphs.specs.declared.graph.Numbering.{Numbering}
 use Rattle.graphs.specs.declared.graph.Numbering.TheVariants.{Ordered, Classes}
 use Rattle.player.specs.Transcript.{PersonClimbs}
 use Rattle.positions.specs.declared.side.Side.{Side}
+use Rattle.positions.specs.declared.value.Value.{Value}
 use Rattle.runs.specs.CheckRun.{RanCheck, CheckFails}
+use Rattle.runs.specs.ClassSolveRun.{CannotSolveByClasses, IsClassSolution}
 use Rattle.serving.specs.Folders.{File, OpensWith, CanFail}
-use Rattle.runs.specs.Headline.{Solution}
 use Rattle.runs.specs.NestedText.{IsNestedText}
 use Rattle.serving.specs.Outcomes.{EndsAs, outcome_of_check, outcome_of_run}
 use Rattle.runs.specs.PlayRun.{IsBrokenOff, IsOver, PlayFails, RanPlay}
 use Rattle.runs.specs.Report.{Reports}
 use Rattle.runs.specs.Run.{Bytes, Fails, Ran, Stream, Wrote, WrotePrefix}
-use Rattle.runs.specs.SolveRun.{CannotSolve}
+use Rattle.runs.specs.SolveRun.{CannotSolve, IsSolution}
 use Rattle.runs.specs.Verdicts.{CannotAnswer, IsAnswered}
 use Rattle.runs.specs.declared.checking.TheConstants.{MAX_JOINED_BYTES, MAX_PROOF_BYTES}
 use Rattle.runs.specs.declared.reading.TheConstants.{MAX_BOARD_BYTES}
@@ -59,12 +60,24 @@ Checks board proof output outcome =
     (CheckFails MAX_BOARD_BYTES MAX_PROOF_BYTES (p.new ≡ p.old) b p output.bytes) outcome))
     × WritesWhole output outcome
 
+-- what is written for the text of a board that is solved: for a large one its document by classes,
+-- for any other its document
+abbrev pub SolutionOf : Bool → List ℕ → Value → List ℕ → Type 0
+SolutionOf true = IsClassSolution
+SolutionOf false = IsSolution
+
+-- the faults of a text that isn't solved so
+abbrev pub CannotSolveAs : Bool → ℕ → List ℕ → RunFault → Type 0
+CannotSolveAs true workers = CannotSolveByClasses workers
+CannotSolveAs false workers = CannotSolve Ordered workers
+
 -- the board was solved by this number of workers
-abbrev pub Solves : ℕ → File → Stream → Outcome → Type 0
-Solves workers board output outcome =
+abbrev pub Solves : ℕ → Bool → File → Stream → Outcome → Type 0
+Solves workers large board output outcome =
     Opening board output.IsKept (λ read. EndsAs outcome_of_run
-    (Ran Solution MAX_BOARD_BYTES read output.bytes)
-    (Fails Solution (CannotSolve Ordered workers) MAX_BOARD_BYTES read output.bytes)) outcome
+    (Ran (SolutionOf large) MAX_BOARD_BYTES read output.bytes)
+    (Fails (SolutionOf large) (CannotSolveAs large workers) MAX_BOARD_BYTES read output.bytes))
+    outcome
     × WritesWhole output outcome
 
 -- a large board is limited by its classes, any other by its configurations
@@ -112,8 +125,8 @@ module _ (at : List ℕ → File) (input output : Stream) where
       Checks (at board.now) (at proof.now) output outcome × input.IsKept
   DoesJob (Nested levels pebbles) outcome =
       WritesNested levels pebbles output outcome × input.IsKept
-  DoesJob (Solve workers board) outcome =
-      Solves workers (at board.now) output outcome × input.IsKept
+  DoesJob (Solve workers large board) outcome =
+      Solves workers large (at board.now) output outcome × input.IsKept
   DoesJob (Report workers large board) outcome =
       Counts workers large (at board.now) output outcome × input.IsKept
   DoesJob (Play side large board) outcome = Plays side large (at board.now) input output outcome
@@ -124,7 +137,7 @@ module _ (at : List ℕ → File) (input output : Stream) where
   CanBeUnread Joined = input.HasFailed
   CanBeUnread (Check board proof) = CanFail (at board.now) ⊎ CanFail (at proof.now)
   CanBeUnread (Nested levels pebbles) = ⊥
-  CanBeUnread (Solve workers board) = CanFail (at board.now)
+  CanBeUnread (Solve workers large board) = CanFail (at board.now)
   CanBeUnread (Report workers large board) = CanFail (at board.now)
   CanBeUnread (Play side large board) = CanFail (at board.now) ⊎ input.HasFailed
   CanBeUnread (Climb levels) = input.HasFailed

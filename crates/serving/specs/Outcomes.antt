@@ -2,17 +2,19 @@
 use Rattle.std.specs.Prelude.{◌≡◌, ℕ, Result, Ok, Err, MatchResult}
 use Rattle.runs.specs.declared.fault.RunFault.{RunFault}
 use Rattle.runs.specs.declared.fault.RunFault.TheVariants.{Board, TooLarge, Proof, Memory, Worker}
-use Rattle.runs.specs.declared.fault.RunFault.TheVariants.{Read, Write, Limit}
+use Rattle.runs.specs.declared.fault.RunFault.TheVariants.{DocumentTooLarge, Read, Write, Limit}
 use Rattle.serving.specs.declared.outcome.Outcome.{Outcome}
 use Rattle.serving.specs.declared.outcome.Outcome.TheVariants.{Done, Refused, Broken}
 use Rattle.runs.specs.declared.verdicts.Verdict.{Verdict}
 use Rattle.runs.specs.declared.verdicts.Verdict.TheVariants.{Accepted as AcceptedAs}
 use Rattle.runs.specs.declared.verdicts.Verdict.TheVariants.{Refused as RefusedFor}
+use Rattle.runs.specs.declared.verdicts.Verdict.TheVariants.{RefusedByClasses}
 
 -- the outcome of a check
 abbrev pub outcome_of_check : Result Verdict RunFault → Outcome
 outcome_of_check (Ok (AcceptedAs shown)) = Done
 outcome_of_check (Ok (RefusedFor fault)) = Refused
+outcome_of_check (Ok (RefusedByClasses fault)) = Refused
 outcome_of_check (Err fault) = Broken fault
 
 -- the outcome of any other run
@@ -30,6 +32,7 @@ EndsAs {Answer} told Answers Fails outcome =
 abbrev pub status_of_fault : RunFault → ℕ
 status_of_fault (Board fault) = 1
 status_of_fault TooLarge = 1
+status_of_fault DocumentTooLarge = 1
 status_of_fault (Proof fault) = 1
 status_of_fault Memory = 4
 status_of_fault Worker = 4

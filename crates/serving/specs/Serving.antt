@@ -7,7 +7,7 @@ use Rattle.board_text.specs.LineForms.{with_line_feed}
 use Rattle.command_line.specs.Commands.{program}
 use Rattle.command_line.specs.Reading.{IsReadAs, ShowsWords}
 use Rattle.command_line.specs.declared.asked.Job.{Job}
-use Rattle.command_line.specs.declared.asked.Job.TheVariants.{Joined, Report, Play, Climb}
+use Rattle.command_line.specs.declared.asked.Job.TheVariants.{Joined, Solve, Report, Play, Climb}
 use Rattle.command_line.specs.declared.asked.JobFault.{JobFault}
 use Rattle.command_line.specs.declared.asked.JobFault.TheVariants.{Help, Usage, Memory as NoMemory}
 use Rattle.player.specs.Showing.{AreForPerson, HasNoControl, IsTaken}
@@ -34,7 +34,7 @@ WordsAskFor words job =
 abbrev pub IsWritten : Stream → List ℕ → Type 0
 IsWritten stream text = IsTaken stream.bytes.old stream.bytes.new stream.HasFailed text
 
--- one line for a person, without control bytes, if the stream is a terminal; else nothing
+-- one line for a person, without control characters, if the stream is a terminal; else nothing
 abbrev pub IsForPerson : Bool → List ℕ → Type 0
 IsForPerson true text =
     (words : List ℕ) × HasNoControl words × (text ≡ with_line_feed words)
@@ -64,6 +64,7 @@ lacks_input terminals job = terminals.input_closed && is_typed job
 
 -- the job asks for the limit of classes
 abbrev pub is_large : Job → Bool
+is_large (Solve workers large board) = large
 is_large (Report workers large board) = large
 is_large (Play side large board) = large
 is_large job = false

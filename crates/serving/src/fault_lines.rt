@@ -24,6 +24,7 @@ pub(crate) fn fault_line(fault: RunFault) -> FaultLine
     match fault {
         RunFault::Board(fault) => line_at("board", fault.line, board_kind_name(fault.kind)),
         RunFault::TooLarge => line("board too large"),
+        RunFault::DocumentTooLarge => line("document too large"),
         RunFault::Proof(fault) => line_at("proof", fault.line, proof_kind_name(fault.kind)),
         RunFault::Memory => line("out of memory"),
         RunFault::Worker => line("worker not started"),

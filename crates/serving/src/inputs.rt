@@ -27,12 +27,13 @@ pub(crate) enum Given {
 /// The boards that a job takes.
 #[derive(Clone, Copy, PartialEq, Eq)]
 pub(crate) enum Taken {
-    /// Those with few enough configurations.
-    Small,
-    /// The same; after the word `--large` those with few enough classes.
+    /// Those with few enough configurations; after the word `--large` those with few enough
+    /// classes.
     SmallUnlessLarge,
     /// Those with few enough classes.
     Large,
+    /// Those with few enough configurations; with a document by classes, all.
+    SmallUnlessByClasses,
 }
 
 impl Taken {
@@ -75,7 +76,7 @@ impl<'a, 'h> Inputs<'a, 'h> {
     pub(crate) fn apart(board: Origin<'a, 'h>, other: Origin<'a, 'h>) -> Inputs<'a, 'h> {
         Inputs {
             given: Given::Apart,
-            taken: Taken::Small,
+            taken: Taken::SmallUnlessByClasses,
             board,
             other,
         }
@@ -88,7 +89,7 @@ impl<'h> Inputs<'static, 'h> {
         let (board, document) = input.text.split_at(board_length(input.text));
         Inputs {
             given: Given::Joined,
-            taken: Taken::Small,
+            taken: Taken::SmallUnlessByClasses,
             board: Origin {
                 text: board,
                 ..input

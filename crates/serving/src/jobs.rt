@@ -1,15 +1,16 @@
 //! Doing a job, with the files and the standard streams that it is given.
 
-ghost use Rattle.std.specs.Prelude.{◌≡◌, ◌≢◌, ◌⊎◌, ◌||◌, ◌&&◌, ℕ, List, true, false};
+ghost use Rattle.std.specs.Prelude.{◌≡◌, ◌≢◌, ◌⊎◌, ◌||◌, ◌&&◌, ℕ, List, true, false, IfOk, IfErr};
 ghost use Rattle.runs.specs.declared.fault.RunFault.TheVariants.{Read};
 ghost use Rattle.serving.specs.declared.outcome.Outcome.TheVariants.{Broken};
 ghost use Rattle.board_text.specs.Ranges.{InRange};
 ghost use Rattle.command_line.specs.Reading.{IsInRange};
 ghost use Rattle.serving.specs.Jobs.{IsDone, Checks, ChecksJoined, Climbs, Counts, Plays, Solves};
 ghost use Rattle.serving.specs.Folders.{CanFail};
-ghost use Rattle.serving.specs.Jobs.{TellsReads, TellsWrites, WritesNested, limit_of};
+ghost use Rattle.serving.specs.Jobs.{CannotSolveAs, SolutionOf, TellsReads, TellsWrites};
+ghost use Rattle.serving.specs.Jobs.{WritesNested, limit_of};
 ghost use Rattle.player.specs.Showing.{AreForPerson, IsMore};
-ghost use Rattle.runs.specs.Run.{stream_of};
+ghost use Rattle.runs.specs.Run.{Fails, Ran, TellsStreams, bytes_of, stream_of};
 ghost use Rattle.serving.specs.Serving.{IsPrompted};
 
 use crate::folder::{Folder, Trouble};
@@ -23,11 +24,11 @@ use command_line::{Job, MAX_WORKERS};
 use graphs::Numbering;
 use nested_cycles::{MAX_BOARD_LEVELS, MAX_LEVELS};
 use player::write_line;
-use positions::Side;
+use positions::{Side, Value};
 use runs::{
     JoinedRun, MAX_BOARD_BYTES, MAX_PROOF_BYTES, RunFault, Telling, run_check,
     run_climb_with_prompts, run_keeping_text, run_nested, run_play_with_prompts,
-    run_report_with_notice, run_solve,
+    run_report_with_notice, run_solve, run_solve_by_classes,
 };
 use std::alloc::Global;
 use std::sync::Wait;
@@ -129,7 +130,13 @@ pub(crate) fn carry_out<'a, F: Folder, I: Source, O: Sink, E: Sink>(
         Job::Joined => check_joined(rt, alloc, terminals, folder, input, output, errors),
         Job::Check { board, proof } => check(rt, alloc, explains, folder, board, proof, output),
         Job::Nested { levels, pebbles } => write_nested(alloc, levels, pebbles, output),
-        Job::Solve { workers, board } => solve(rt, alloc, explains, folder, workers, board, output),
+        Job::Solve {
+            workers,
+            large,
+            board,
+        } => solve(
+            rt, alloc, terminals, folder, workers, large, board, output, errors,
+        ),
         Job::Report {
             workers,
             large,
@@ -247,30 +254,78 @@ fn write_nested<O: Sink>(alloc: Global, levels: u8, pebbles: u8, output: &mut O)
     }
 }
 
-/// Solves the board at a path, by this number of workers. One is this thread.
-fn solve<'a, F: Folder, O: Sink>(
+/// Solves the board at a path, which may be `large`, by this number of workers. One is this thread.
+fn solve<'a, F: Folder, O: Sink, E: Sink>(
     rt: &(impl Threads + Wait + Sync),
     alloc: Global,
-    explains: bool,
+    terminals: Terminals,
     folder: &F,
     workers: u8,
+    large: bool,
     board: &'a str,
     output: &mut O,
+    errors: &mut E,
 ) -> Ended<'a>
     requires workers { InRange 1 MAX_WORKERS workers }
     requires output_ready { O.has_failed output.old ≡ false }
-    ensures done { Solves workers (F.at folder.now board.now)
+    ensures done { Solves workers large (F.at folder.now board.now)
         (stream_of O.contents O.has_failed output.old output.new) result.outcome }
     ensures writes { TellsWrites (stream_of O.contents O.has_failed output.old output.new)
         result.outcome }
     ensures unread { result.outcome ≡ Broken Read → CanFail (F.at folder.now board.now) }
+    ensures notice { (told : List ℕ) × AreForPerson (large && terminals.errors) told
+        × IsMore E.contents E.has_failed errors.old errors.new told }
 {
     let Ok(file_of_board) = folder.open(board) else {
         return unopened(folder, board);
     };
-    let mut reader = Watched::new(alloc, file_of_board, explains);
-    let outcome = Outcome::of_run(run_solve(rt, alloc, workers, &mut reader, output));
-    on_board(outcome, Taken::Small, folder, board, &reader)
+    let mut reader = Watched::new(alloc, file_of_board, terminals.errors);
+    let shows = terminals.see_size(large);
+    let solved = solve_as(
+        rt,
+        alloc,
+        workers,
+        large,
+        &mut reader,
+        output,
+        shows,
+        errors,
+    );
+    let outcome = Outcome::of_run(solved);
+    on_board(outcome, Taken::large_if(large), folder, board, &reader)
+}
+
+/// Solves the board that is read, by its classes if it may be `large`. Then a person is told so, if
+/// `shows` says it.
+fn solve_as<R: Source, O: Sink, E: Sink>(
+    rt: &(impl Threads + Wait + Sync),
+    alloc: Global,
+    workers: u8,
+    large: bool,
+    reader: &mut R,
+    output: &mut O,
+    shows: bool,
+    errors: &mut E,
+) -> Result<Value, RunFault>
+    requires workers { InRange 1 MAX_WORKERS workers }
+    requires reader_ready { R.has_failed reader.old ≡ false }
+    requires reader_unended { R.has_ended reader.old ≡ false }
+    requires output_ready { O.has_failed output.old ≡ false }
+    ensures ok { IfOk result (Ran (SolutionOf large) MAX_BOARD_BYTES
+        (bytes_of R.remaining reader.old reader.new) (bytes_of O.contents output.old output.new)) }
+    ensures fault { IfErr result (Fails (SolutionOf large) (CannotSolveAs large workers)
+        MAX_BOARD_BYTES
+        (bytes_of R.remaining reader.old reader.new) (bytes_of O.contents output.old output.new)) }
+    ensures streams { TellsStreams result (R.has_failed reader.new ≡ true)
+        (stream_of O.contents O.has_failed output.old output.new) }
+    ensures notice { (told : List ℕ) × AreForPerson shows told
+        × IsMore E.contents E.has_failed errors.old errors.new told }
+{
+    if large {
+        run_solve_by_classes(rt, alloc, workers, reader, output, shows, errors)
+    } else {
+        run_solve(rt, alloc, workers, reader, output)
+    }
 }
 
 /// The limit of a board that is said to be `large`, or isn't.

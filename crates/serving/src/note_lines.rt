@@ -1,7 +1,7 @@
 //! Writing notes for a person at a terminal.
 
 ghost use Rattle.std.specs.Prelude.{ℕ, List, true};
-ghost use Rattle.player.specs.Showing.{IsMore, shown};
+ghost use Rattle.player.specs.Showing.{HasNoControl, IsMore};
 ghost use Rattle.serving.specs.Serving.{IsForPerson};
 
 use crate::notes::Note;
@@ -22,7 +22,8 @@ pub(crate) fn write_note<E: Sink>(note: Note<'_>, errors: &mut E)
 
 /// Writes the parts of an explanation, one after the other.
 fn write_parts<E: Sink>(parts: &[Part], errors: &mut E)
-    ensures { (text : List ℕ) × IsMore E.contents E.has_failed errors.old errors.new (shown text) }
+    ensures { (text : List ℕ) × HasNoControl text
+        × IsMore E.contents E.has_failed errors.old errors.new text }
 {
     for part in parts {
         write_part(*part, errors);
@@ -31,7 +32,8 @@ fn write_parts<E: Sink>(parts: &[Part], errors: &mut E)
 
 /// Writes a part of an explanation.
 fn write_part<E: Sink>(part: Part, errors: &mut E)
-    ensures { (text : List ℕ) × IsMore E.contents E.has_failed errors.old errors.new (shown text) }
+    ensures { (text : List ℕ) × HasNoControl text
+        × IsMore E.contents E.has_failed errors.old errors.new text }
 {
     match part {
         Part::Words(words) => write_shown(errors, words),

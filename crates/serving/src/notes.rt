@@ -6,7 +6,7 @@ use crate::hints::board_hint;
 use crate::inputs::{Inputs, Origin, STANDARD_INPUT, Taken};
 use crate::outcome::Outcome;
 use crate::parts::{Part, Parts, around, two_words, words};
-use crate::proof_hints::{proof_hint, refusal_hint};
+use crate::proof_hints::{class_refusal_hint, proof_hint, refusal_hint};
 use crate::sizes::Sizes;
 use classes::MAX_CLASSES;
 use positions::MAX_CONFIGURATIONS;
@@ -63,13 +63,8 @@ impl<'a> Note<'a> {
     ) -> Note<'a> {
         match checked {
             Ok(Verdict::Accepted(_)) => Note::new("", ""),
-            Ok(Verdict::Refused(fault)) => Note {
-                about: inputs.other.name,
-                parts: two_words(
-                    refusal_hint(fault),
-                    "; is it the document of another board?",
-                ),
-            },
+            Ok(Verdict::Refused(fault)) => refused(refusal_hint(fault), inputs),
+            Ok(Verdict::RefusedByClasses(fault)) => refused(class_refusal_hint(fault), inputs),
             Err(fault) => explain(fault, inputs),
         }
     }
@@ -88,7 +83,10 @@ impl Note<'static> {
     /// may have this trouble.
     pub(crate) fn without_files(outcome: Outcome, trouble: Option<Trouble>) -> Note<'static> {
         let input = Origin::standard_input(trouble, LINE_LIMITS);
-        Note::of(outcome, &Inputs::alone(Taken::Small, input, input))
+        Note::of(
+            outcome,
+            &Inputs::alone(Taken::SmallUnlessLarge, input, input),
+        )
     }
 
     /// The explanation of a job that reads standard input, which is closed.
@@ -97,6 +95,14 @@ impl Note<'static> {
             STANDARD_INPUT,
             "it is closed, and this job reads it; give it with `<`, or by a pipe",
         )
+    }
+}
+
+/// The explanation of a refused document, by the rule that it breaks.
+fn refused<'a>(rule: &'static str, inputs: &Inputs<'a, '_>) -> Note<'a> {
+    Note {
+        about: inputs.other.name,
+        parts: two_words(rule, "; is it the document of another board?"),
     }
 }
 
@@ -112,6 +118,10 @@ fn explain<'a>(fault: RunFault, inputs: &Inputs<'a, '_>) -> Note<'a> {
         RunFault::TooLarge => Note {
             about: board.name,
             parts: too_large_hint(inputs.taken, board.text),
+        },
+        RunFault::DocumentTooLarge => Note {
+            about: board.name,
+            parts: long_document_hint(board.text),
         },
         RunFault::Proof(fault) => Note {
             about: other.name,
@@ -183,24 +193,32 @@ fn too_large_hint(taken: Taken, board: &[u8]) -> Parts {
         );
     };
     match taken {
-        Taken::Small => with_many_configurations(sizes),
+        Taken::SmallUnlessByClasses => without_rows_for_classes(sizes),
         Taken::SmallUnlessLarge if sizes.has_few_classes() => with_few_classes(sizes),
         Taken::SmallUnlessLarge | Taken::Large => with_many_classes(sizes),
     }
 }
 
-/// The words for a board with too many configurations.
-fn with_many_configurations(sizes: Sizes) -> Parts {
-    [
-        Part::Number(sizes.configurations()),
-        Part::Words(
-            " configurations, and the most is 1048576; with as many pebbles a board has at most ",
-        ),
-        Part::Number(sizes.most_labels()),
-        Part::Words(" labels"),
-        Part::Words(ending_hint(sizes)),
-        Part::Words(""),
-    ]
+/// The words for a board with these first bytes whose document by classes is too long.
+fn long_document_hint(board: &[u8]) -> Parts {
+    let Some(sizes) = Sizes::of(board) else {
+        return words("its document has more bytes than 134217728, the most that `check` reads");
+    };
+    around(
+        "of its ",
+        sizes.classes(),
+        " classes more are listed than fit into 134217728 bytes, the most that `check` reads",
+    )
+}
+
+/// The words for a board with too many configurations for a document that lists them.
+fn without_rows_for_classes(sizes: Sizes) -> Parts {
+    around(
+        "",
+        sizes.configurations(),
+        " configurations, and the most is 1048576; only a document by classes, whose first line is \
+        `proof 2`, is checked for a larger board",
+    )
 }
 
 /// The words for a board with too many configurations, whose classes are few enough.

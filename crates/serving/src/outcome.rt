@@ -24,7 +24,7 @@ impl Outcome {
     {
         match checked {
             Ok(Verdict::Accepted(_)) => Outcome::Done,
-            Ok(Verdict::Refused(_)) => Outcome::Refused,
+            Ok(Verdict::Refused(_) | Verdict::RefusedByClasses(_)) => Outcome::Refused,
             Err(fault) => Outcome::Broken(fault),
         }
     }
@@ -56,7 +56,8 @@ fn fault_status(fault: RunFault) -> u8
     ensures { result ≡ status_of_fault fault }
 {
     match fault {
-        RunFault::Board(_) | RunFault::TooLarge | RunFault::Proof(_) => 1,
+        RunFault::Board(_) | RunFault::Proof(_) => 1,
+        RunFault::TooLarge | RunFault::DocumentTooLarge => 1,
         RunFault::Memory | RunFault::Worker => 4,
         RunFault::Read | RunFault::Write | RunFault::Limit => 5,
     }

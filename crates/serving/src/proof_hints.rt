@@ -8,6 +8,7 @@ use crate::inputs::{Given, Inputs, Origin};
 use crate::lines::{flaw, spaces_before};
 use crate::parts::{Parts, mistake, number_mistake, words};
 use crate::sizes::Sizes;
+use class_documents::{ClassFault, MAX_CLASS_ROWS};
 use positions::MAX_CONFIGURATIONS;
 use proof_check::{CheckFault, Side};
 use proof_text::{MOST_TURNS, ProofFault, ProofKind};
@@ -18,6 +19,8 @@ const _: () = prove!(MOST_TURNS == 1_000_000_000);
 
 const _: () = prove!(MAX_CONFIGURATIONS == 1_048_576);
 
+const _: () = prove!(MAX_CLASS_ROWS == 16_777_216);
+
 /// The form of the second line.
 const CLAIM: &str =
     "line 2 must be `value k`, `least k`, `most k` or `forever`, with k at most 1000000000";
@@ -25,6 +28,11 @@ const CLAIM: &str =
 /// The form of the first line of a section.
 const SECTION: &str =
     "the line must be `labeller n` or `adversary n`, as the claim asks for, with n at most 1048576";
+
+/// The same, of a document by classes.
+const CLASS_SECTION: &str =
+    "the line must be `labeller n` or `adversary n`, as the claim asks for, with n at most
+    16777216";
 
 /// The sections of each claim.
 const SECTIONS: &str =
@@ -49,10 +57,17 @@ pub(crate) fn proof_hint(fault: ProofFault, inputs: &Inputs<'_, '_>) -> Parts {
         ProofKind::Section => section_hint(proof, fault.line, line),
         ProofKind::Row => row_hint(inputs, fault.line, line),
         ProofKind::Label => label_hint(inputs),
+        ProofKind::Pebble if is_by_classes(proof) => {
+            words("the place after `ask` must be one of those of the row, which some pebble holds")
+        }
         ProofKind::Pebble => pebble_hint(inputs),
         ProofKind::Number => words(
             "a row has `*` in a `forever` document, and in any other a number: from 1 for the \
             labeller, from 0 for the adversary, to 1000000000",
+        ),
+        ProofKind::Order if is_by_classes(proof) => words(
+            "the places of a row must be arranged, `-` before labels and labels ascending, and the \
+            rows of a section must ascend by them, `-` first, each class once",
         ),
         ProofKind::Order => words(
             "the rows of a section must ascend by their labels, as numbers, that of the first \
@@ -62,6 +77,11 @@ pub(crate) fn proof_hint(fault: ProofFault, inputs: &Inputs<'_, '_>) -> Parts {
         ProofKind::Trailing => words(TRAILING),
         ProofKind::Memory => words("memory to read it was refused"),
     }
+}
+
+/// Whether the document is by classes.
+fn is_by_classes(proof: &Origin<'_, '_>) -> bool {
+    proof.text.starts_with("proof 2\n".as_bytes())
 }
 
 /// The words for a first line that is none of a document's.
@@ -75,7 +95,10 @@ fn version_hint(inputs: &Inputs<'_, '_>) -> &'static str {
             "nothing comes after the board, and a strategy document must"
         }
         Some(mistake) => mistake,
-        None => "line 1 must be `proof 1`, and nothing may come before it",
+        None => {
+            "line 1 must be `proof 1`, or `proof 2` for rows by classes, and nothing may come \
+            before it"
+        }
     }
 }
 
@@ -111,23 +134,33 @@ fn section_hint(proof: &Origin<'_, '_>, number: u32, line: Option<&[u8]>) -> Par
         } else {
             "the section before has more rows than its first line says"
         };
-        mistake(found, SECTION)
+        mistake(found, section_form(proof).1)
     } else if proof.line_begins(number, "labeller ") {
-        section_number(line, "labeller")
+        section_number(proof, line, "labeller")
     } else if proof.line_begins(number, "adversary ") {
-        section_number(line, "adversary")
+        section_number(proof, line, "adversary")
     } else if proof.line_begins(number, "end\n") {
         mistake("a section is missing before the line `end`", SECTIONS)
     } else {
-        form_hint(line, SECTION)
+        form_hint(line, section_form(proof).1)
     }
 }
 
 /// The words for the first line of a section, whose number is too large or which isn't due.
-fn section_number(line: Option<&[u8]>, word: &'static str) -> Parts {
+fn section_number(proof: &Origin<'_, '_>, line: Option<&[u8]>, word: &'static str) -> Parts {
+    let (most, form) = section_form(proof);
     match number_of(line, word) {
-        Some(number) if number <= MAX_CONFIGURATIONS => mistake(NOT_DUE, SECTIONS),
-        _ => number_hint(line, word, MAX_CONFIGURATIONS as u64, SECTION),
+        Some(number) if number <= most => mistake(NOT_DUE, SECTIONS),
+        _ => number_hint(line, word, most as u64, form),
+    }
+}
+
+/// The most rows of a section of the document, and the form of its first line.
+fn section_form(proof: &Origin<'_, '_>) -> (u32, &'static str) {
+    if is_by_classes(proof) {
+        (MAX_CLASS_ROWS, CLASS_SECTION)
+    } else {
+        (MAX_CONFIGURATIONS, SECTION)
     }
 }
 
@@ -227,5 +260,35 @@ pub(crate) fn refusal_hint(fault: CheckFault) -> &'static str {
             "this label is legal, and leads to a row whose number is not below that of this row"
         }
         CheckFault::Memory => "",
+    }
+}
+
+/// The words for a rule that a document by classes breaks.
+pub(crate) fn class_refusal_hint(fault: ClassFault) -> &'static str {
+    match fault {
+        ClassFault::StartMissing { side } => refusal_hint(CheckFault::StartMissing { side }),
+        ClassFault::StartNumber { side } => refusal_hint(CheckFault::StartNumber { side }),
+        ClassFault::IllegalAnswer { .. } => {
+            "the answer of this row for this place does not dominate the labels of all other \
+            pebbles; places are counted from 0"
+        }
+        ClassFault::Unlisted {
+            side: Side::Labeller,
+            ..
+        } => { "the answer of this row for this place leads to a class that has no row" }
+        ClassFault::TooSmall { .. } => {
+            "the answer of this row for this place leads to a row whose number is too small; it \
+            may be one less than that of this row"
+        }
+        ClassFault::NotStuck { .. } => {
+            "this row has the number 0, as if no label were legal, but this one is"
+        }
+        ClassFault::Unlisted {
+            side: Side::Adversary,
+            ..
+        } => { "this label is legal, and leads to a class that has no row" }
+        ClassFault::TooLarge { .. } => {
+            "this label is legal, and leads to a row whose number is not below that of this row"
+        }
     }
 }

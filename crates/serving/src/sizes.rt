@@ -3,19 +3,6 @@
 use board_text::line_reader::LineReader;
 use board_text::{MAX_LABELS, MAX_PEBBLES};
 use classes::MAX_CLASSES;
-use positions::MAX_CONFIGURATIONS;
-
-// The largest numbers of places for three to six pebbles.
-const _: () = prove!(101 * 101 * 101 <= MAX_CONFIGURATIONS && 102 * 102 * 102 > MAX_CONFIGURATIONS);
-
-const _: () = prove!(32 * 32 * 32 * 32 == MAX_CONFIGURATIONS);
-
-const _: () = prove!(16 * 16 * 16 * 16 * 16 == MAX_CONFIGURATIONS);
-
-const _: () = prove!(
-    10 * 10 * 10 * 10 * 10 * 10 <= MAX_CONFIGURATIONS
-        && 11 * 11 * 11 * 11 * 11 * 11 > MAX_CONFIGURATIONS
-);
 
 /// The numbers in the first three lines of a board.
 #[derive(Clone, Copy)]
@@ -62,22 +49,6 @@ impl Sizes {
     /// Whether there are no more classes than can be numbered.
     pub(crate) fn has_few_classes(self) -> bool {
         self.classes() <= u64::from(MAX_CLASSES)
-    }
-
-    /// The most labels of a board with as many pebbles, of the same version.
-    pub(crate) fn most_labels(self) -> u64 {
-        let places = match self.pebbles {
-            3 => 101,
-            4 => 32,
-            5 => 16,
-            6 => 10,
-            _ => return MAX_LABELS as u64,
-        };
-        if self.version == 2 {
-            places - 1
-        } else {
-            places
-        }
     }
 
     /// Whether the pebbles n need more labels to last for ever, which are 2^n - 1 at least.

@@ -22,15 +22,20 @@ pub(crate) fn usage_hint(words: &[&str]) -> &'static str {
         if is_version(word) {
             return "`--version` stands alone, as in `pebbles --version`; ";
         }
-        if word == "--large" && words[1] != "report" && words[1] != "play" {
-            return "only `report` and `play` have `--large`, since documents list configurations; ";
+        if word == "--large" && !takes_large(words[1]) {
+            return "only `solve`, `report` and `play` have `--large`; ";
         }
         if is_unknown_option(word) {
             return "the only options are `--workers` of `solve` and `report`, `--side` of `play`, \
-                `--large` of `report` and `play`, `--help` and `--version`; ";
+                `--large` of `solve`, `report` and `play`, `--help` and `--version`; ";
         }
     }
     ""
+}
+
+/// Whether the command of this name has the option `--large`.
+fn takes_large(command: &str) -> bool {
+    command == "solve" || command == "report" || command == "play"
 }
 
 /// Whether the word at this place is a number of workers.

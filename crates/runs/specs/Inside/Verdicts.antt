@@ -1,10 +1,16 @@
 -- Clauses of this crate's own functions, beside `Verdicts`.
+use Rattle.std.specs.Prelude.{◌≤◌}
 use Rattle.board_text.specs.PlainBoard.{PlainBoard}
+use Rattle.class_documents.specs.ClassFaults.{NamesClass}
+use Rattle.positions.specs.Ranks.{configurations}
+use Rattle.positions.specs.declared.space.TheConstants.{MAX_CONFIGURATIONS}
 use Rattle.proof_check.specs.CheckFaults.{NamesRanks}
 use Rattle.runs.specs.declared.verdicts.Verdict.{Verdict}
-use Rattle.runs.specs.declared.verdicts.Verdict.TheVariants.{Accepted, Refused}
+use Rattle.runs.specs.declared.verdicts.Verdict.TheVariants.{Accepted, Refused, RefusedByClasses}
 
--- the rows that the verdict names are of the board's ranks
-abbrev pub NamesRanksOf : PlainBoard → Verdict → Type 0
-NamesRanksOf board (Accepted shown) = Unit {0}
-NamesRanksOf board (Refused fault) = NamesRanks board fault
+-- the rows that the verdict names are of the board's ranks, which are few, or of its classes
+abbrev pub NamesRows : PlainBoard → Verdict → Type 0
+NamesRows board (Accepted shown) = Unit {0}
+NamesRows board (Refused fault) =
+    (configurations board ≤ MAX_CONFIGURATIONS) × NamesRanks board fault
+NamesRows board (RefusedByClasses fault) = NamesClass board fault

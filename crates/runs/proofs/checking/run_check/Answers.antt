@@ -1,15 +1,11 @@
-use Rattle.std.proofs.Common.{inl, inr, rules}
+use Rattle.std.proofs.Common.{inl, inr}
 use Rattle.std.proofs.lemmas.Result.{err_from_is_err_and}
 use Rattle.runs.specs.Verdicts.{IsChecked}
 use Rattle.runs.specs.Run.{bytes_of}
 use Rattle.runs.specs.Texts.{HasNoProof}
 use Rattle.runs.specs.declared.checking.TheConstants.{MAX_PROOF_BYTES}
 use Rattle.runs.proofs.FailedRuns.{cut_short}
-use Rattle.runs.proofs.BoardLimits.{few_configurations}
 use Rattle.runs.proofs.checking.run_check.Goals as goal
-
-pub check_text-requires : goal.check_text-requires
-check_text-requires g c = (search rules, few_configurations c.in_ok-board.board c.in_ok-board.ensures.found.2.few)
 
 pub returns-in_err-write_text-clause-fault : goal.returns-in_err-write_text-clause-fault
 returns-in_err-write_text-clause-fault g c =

@@ -1,5 +1,5 @@
-use Rattle.runs.proofs.AcceptedLines.{can_answer, claim_holds}
+use Rattle.runs.proofs.AcceptedLines.{can_answer, claim_holds, class_claim_holds}
 use Rattle.runs.proofs.laws.accepted_claims_hold.Goals as goal
 
 pub returns : goal.returns
-returns c = record { least = can_answer; holds = claim_holds }
+returns c = record { least = can_answer; holds = claim_holds; by_classes = class_claim_holds }

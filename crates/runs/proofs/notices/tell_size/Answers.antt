@@ -1,4 +1,4 @@
-use Rattle.std.proofs.Common.{[], ◌++◌, codes, subst}
+use Rattle.std.proofs.Common.{[], ◌++◌, codes, refl, subst}
 use Rattle.std.specs.Fmt.{decimal}
 use Rattle.board_text.specs.LineForms.{with_line_feed}
 use Rattle.classes.specs.Numbers.{class_count}
@@ -21,6 +21,7 @@ returns-then-not-shows g c =
     ]
 
 pub returns : goal.returns
+unfolding shown
 returns g c =
     let known = g.E.Sink.contents in
     let failed = g.E.Sink.has_failed in
@@ -32,10 +33,11 @@ returns g c =
     let first = codes "a large board: its " in
     let number = decimal (class_count c.args.board.now) in
     let last = codes " classes are solved, which can take seconds" in
-    let digits = rw c.count_classes.ensures at c.write_digits.ensures in
+    let digits = rw c.count_classes.ensures at c.write_digits.ensures.digits in
+    let plain = rw c.count_classes.ensures at c.write_digits.ensures.plain in
     let words = subst (λ l. IsMore known failed e0 e3 (shown l)) (three first number last)
-    (then_shown known failed e0 e1 e3 first (number ++ last) c.write_shown.ensures
-    (then_shown known failed e1 e2 e3 number last digits c.write_shown-2.ensures)) in
+    (then_shown known failed e0 e1 e3 first (number ++ last) refl c.write_shown.ensures
+    (then_shown known failed e1 e2 e3 number last plain digits c.write_shown-2.ensures)) in
     subst (IsMore known failed e0 e4)
     (large_board c.args.shows c.args.board.now c.if-not-shows.false
     (λ few. let is = c.is_small.ensures.1 few in let not = c.if-is_small.false in cc))

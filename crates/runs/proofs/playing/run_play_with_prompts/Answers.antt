@@ -81,7 +81,7 @@ pub returns-in_err-board-clause-prompts : goal.returns-in_err-board-clause-promp
 returns-in_err-board-clause-prompts g c =
     let p = err_from_is_err_and c.from_residual.result c.from_residual.ensures.1 in (
       [],
-      rw (p.1, p.2) (inl (c.in_err-board.field-0.0, refl, c.in_err-board.ensures.fault, refl)),
+      rw (p.1, p.2) (inl (c.in_err-board.field-0.0, refl, c.in_err-board.ensures.fault, (refl, refl), refl)),
       none_more g.E.Sink.contents g.E.Sink.has_failed c.args.errors.now,
     )
 
@@ -95,7 +95,7 @@ returns-in_err-values-clause-prompts g c =
         c.in_ok-board.ensures.found,
         [],
         sym (append-nil notice),
-        inl (ap Err c.in_err-values.ensures.memory, refl),
+        inl (ap Err c.in_err-values.ensures.memory, (refl, refl), refl),
       )),
       c.tell_size.ensures,
     )

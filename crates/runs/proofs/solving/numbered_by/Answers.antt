@@ -6,6 +6,7 @@ use Rattle.runs.proofs.solving.numbered_by.Goals as goal
 pub returns-in_err-solve_classes-clause-refused : goal.returns-in_err-solve_classes-clause-refused
 returns-in_err-solve_classes-clause-refused g c =
     let refused = err_from_is_err_and c.from_residual.result c.from_residual.ensures.1 in
-    rw refused.1 (refused_some c.args.workers c.in_err-solve_classes.field-0.0 refused.0 refused.2
+    rw refused.1 (refused_some c.args.workers c.args.board.now c.in_err-solve_classes.field-0.0 refused.0 refused.2
     (λ large. c.in_err-solve_classes.ensures.fault large)
-    (λ several. c.in_err-solve_classes.ensures.worker (ap Err several)))
+    (λ several. c.in_err-solve_classes.ensures.worker (ap Err several))
+    (λ several. c.in_err-solve_classes.ensures.enough (ap Err several)))

@@ -1,6 +1,6 @@
 use Rattle.std.proofs.lemmas.Result.{err_from_is_err_and}
 use Rattle.runs.specs.Run.{bytes_of}
-use Rattle.runs.specs.Headline.{Solution}
+use Rattle.runs.specs.SolveRun.{IsSolution}
 use Rattle.runs.specs.Texts.{HasNoBoard}
 use Rattle.runs.specs.declared.reading.TheConstants.{MAX_BOARD_BYTES}
 use Rattle.runs.proofs.FailedRuns.{cut_short, nothing_to_write}
@@ -11,7 +11,7 @@ returns-in_err-solved-clause-fault g c =
     let p = err_from_is_err_and c.from_residual-in_err-solved.result c.from_residual-in_err-solved.ensures.1 in
     let read = bytes_of g.R.Source.remaining c.args.reader.now c.read_text.new.reader in
     let written = bytes_of g.W.Sink.contents c.args.writer.now c.args.writer.now in
-    rw (p.1, p.2) (nothing_to_write Solution HasNoBoard MAX_BOARD_BYTES read written
+    rw (p.1, p.2) (nothing_to_write IsSolution HasNoBoard MAX_BOARD_BYTES read written
     c.in_ok-text.text.items c.in_ok-text.ensures.ok c.in_err-solved.field-0.0
     (rw c.as_slice.ensures.value at c.in_err-solved.ensures.fault))
 
@@ -20,7 +20,7 @@ returns-in_err-write_text-clause-fault g c =
     let p = err_from_is_err_and c.from_residual-in_err-write_text.result c.from_residual-in_err-write_text.ensures.1 in
     let read = bytes_of g.R.Source.remaining c.args.reader.now c.read_text.new.reader in
     let written = bytes_of g.W.Sink.contents c.args.writer.now c.write_text.new.writer in
-    rw (p.1, p.2, c.in_err-write_text.ensures.fault) (cut_short Solution HasNoBoard MAX_BOARD_BYTES read written
+    rw (p.1, p.2, c.in_err-write_text.ensures.fault) (cut_short IsSolution HasNoBoard MAX_BOARD_BYTES read written
     c.in_ok-text.text.items c.in_ok-text.ensures.ok c.in_ok-solved.solved.value _
     (rw c.as_slice.ensures.value at c.in_ok-solved.ensures.ok)
     (rw c.deref.ensures at c.in_err-write_text.ensures.prefix))

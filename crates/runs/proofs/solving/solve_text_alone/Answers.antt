@@ -1,8 +1,5 @@
-use Rattle.std.specs.Prelude.{string_bytes}
-use Rattle.runs.proofs.Headlines.{whole_solution}
 use Rattle.runs.proofs.solving.solve_text_alone.Goals as goal
 
 pub returns-clause-ok : goal.returns-clause-ok
 returns-clause-ok c =
-    whole_solution c.args.text.now c.in_ok-solution.field-0.value (string_bytes c.in_ok-solution.field-0.text)
     (c.in_ok-board.board, c.in_ok-board.ensures.found, rw c.new.ensures at c.in_ok-solution.ensures)

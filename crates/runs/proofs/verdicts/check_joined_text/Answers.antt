@@ -1,8 +1,7 @@
-use Rattle.std.proofs.Common.{ap₂, ◌++◌, ◌∙◌}
 use Rattle.std.proofs.lemmas.Result.{IfErr-weaker, IfOk-weaker, err_from_is_err_and}
 use Rattle.runs.specs.Verdicts.{CannotAnswer}
 use Rattle.runs.specs.Texts.{HasNoProof}
-use Rattle.runs.proofs.WrongTexts.{no_board, no_proof, two_parts}
+use Rattle.runs.proofs.WrongTexts.{begins_with, no_board, no_proof, two_parts}
 use Rattle.runs.proofs.verdicts.check_joined_text.Goals as goal
 
 pub returns-in_err-board-clause-fault : goal.returns-in_err-board-clause-fault
@@ -16,17 +15,13 @@ returns-in_err-board-clause-fault g c =
 pub returns-clause-answered : goal.returns-clause-answered
 returns-clause-answered g c =
     let whole = two_parts c.args.text.now _ _ c.board_length.result c.split_at.ensures.front c.split_at.ensures.back in
-    let small = c.in_ok-board.ensures.found in
-    IfOk-weaker c.check_text.result _ _ (λ answer is. record {
-      board = c.in_ok-board.board;
-      proof = is.proof;
-      is_board = small.is_board;
-      few = c.in_ok-board.ensures.few;
-      is_proof = is.is_proof;
-      text_is = whole ∙ ap₂ ◌++◌ small.spelled is.text_is;
-      verdict_is = is.verdict_is;
-      line_is = is.line_is;
-    }) c.check_text.ensures.checked
+    let found = c.in_ok-board.ensures.found in
+    IfOk-weaker c.check_text.result _ _ (λ answer is. (
+      c.in_ok-board.board,
+      c.split_at.result.1.now,
+      begins_with c.args.text.now _ _ c.in_ok-board.board found.is_board whole found.spelled,
+      is,
+    )) c.check_text.ensures.checked
 
 pub returns-clause-fault : goal.returns-clause-fault
 returns-clause-fault g c =

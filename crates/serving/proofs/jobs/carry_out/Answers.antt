@@ -87,8 +87,7 @@ returns-in-Nested-clause-prompts g c =
     none_prompted g.E.Sink.contents g.E.Sink.has_failed c.args.terminals c.args.job.now c.args.errors.now
 
 pub returns-in-Solve-clause-prompts : goal.returns-in-Solve-clause-prompts
-returns-in-Solve-clause-prompts g c =
-    none_prompted g.E.Sink.contents g.E.Sink.has_failed c.args.terminals c.args.job.now c.args.errors.now
+returns-in-Solve-clause-prompts g c = rw c.in-Solve.is c.solve.ensures.notice
 
 pub returns-in-Report-clause-prompts : goal.returns-in-Report-clause-prompts
 returns-in-Report-clause-prompts g c = rw c.in-Report.is c.report.ensures.notice

@@ -29,7 +29,7 @@ returns-clause-unread g c broke =
 pub returns-clause-prompts : goal.returns-clause-prompts
 returns-clause-prompts g c =
     let p = c.run_play_with_prompts-ended.ensures.prompts in
-    let lines = told_in_run _ _ _ _ _ _ c.see_size.result c.are_both.result _ p.0 p.1 in (
+    let lines = told_in_run _ _ _ _ _ _ _ c.see_size.result c.are_both.result _ p.0 p.1 in (
       p.0,
       subst (λ size. AreForPerson ((c.args.terminals.input && c.args.terminals.errors) || size) p.0) c.see_size.ensures
           (subst (λ choices. AreForPerson (choices || c.see_size.result) p.0) c.are_both.ensures lines),

@@ -4,6 +4,7 @@ use Rattle.serving.specs.Jobs.{limit_of}
 use Rattle.runs.specs.Run.{stream_of}
 use Rattle.serving.specs.Outcomes.{outcome_of_run}
 use Rattle.runs.specs.Report.{Reports}
+use Rattle.runs.specs.SolveRun.{CannotSolve}
 use Rattle.runs.specs.declared.fault.RunFault.TheVariants.{Read}
 use Rattle.serving.proofs.ErrorTexts.{notice_for_person}
 use Rattle.serving.proofs.Endings.{broken_run, opened_board, told_as}
@@ -12,7 +13,7 @@ use Rattle.serving.proofs.jobs.report.Goals as goal
 pub returns-clause-done : goal.returns-clause-done
 returns-clause-done g c =
     let limit = limit_of c.args.large in
-    opened_board (Reports limit) limit c.args.workers
+    opened_board (Reports limit) (CannotSolve limit c.args.workers)
     (g.F.Folder.at c.args.folder.now c.args.board.now) _ (rw c.new-reader.ensures c.in-Ok.ensures.opened)
     (stream_of g.O.Sink.contents g.O.Sink.has_failed c.args.output.now c.run_report_with_notice-done.new.writer)
     c.run_report_with_notice-done.result c.on_board.result.outcome (c.on_board.ensures ∙ c.of_run-outcome.ensures)

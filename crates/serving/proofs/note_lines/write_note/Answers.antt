@@ -16,13 +16,13 @@ returns g c =
     let e3 = c.write_parts.new.errors in
     let e4 = c.write_more-2.new.writer in
     let about = shown c.args.note.about.now in
-    let words = shown parts.0 in
+    let words = parts.0 in
     let colon = 58 ∷ 32 ∷ [] in
-    let three = then_more known failed e2 e3 e4 words (with_line_feed []) parts.1 c.write_more-2.ensures in
+    let three = then_more known failed e2 e3 e4 words (with_line_feed []) parts.2 c.write_more-2.ensures in
     let two = then_more known failed e1 e2 e4 colon (words ++ with_line_feed []) c.write_more.ensures three in
     let rest = colon ++ (words ++ with_line_feed []) in
     let all = then_more known failed e0 e1 e4 about rest c.write_shown.ensures two in (
       with_line_feed (about ++ (colon ++ words)),
-      (about ++ (colon ++ words), plain_line c.args.note.about.now colon parts.0 colon_is_plain, refl),
+      (about ++ (colon ++ words), plain_line c.args.note.about.now colon words colon_is_plain parts.1, refl),
       subst (IsMore known failed e0 e4) (line_of_parts about colon words) all,
     )

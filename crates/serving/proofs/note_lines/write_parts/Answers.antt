@@ -1,10 +1,18 @@
-use Rattle.std.proofs.Common.{◌++◌}
-use Rattle.player.proofs.Cited.{then_shown}
+use Rattle.std.proofs.Common.{◌++◌, [], refl}
+use Rattle.player.specs.Showing.{shown}
+use Rattle.player.proofs.Cited.{none_more, plain_both, then_more}
 use Rattle.serving.proofs.note_lines.write_parts.Goals as goal
 
+pub loop-part-init : goal.loop-part-init
+unfolding shown
+loop-part-init g c = ([], refl, none_more g.E.Sink.contents g.E.Sink.has_failed c.args.errors.now)
+
 pub loop-part-preserved : goal.loop-part-preserved
-loop-part-preserved g c = (
-  c.loop-part.invariant.0 ++ c.write_part.ensures.0,
-  then_shown g.E.Sink.contents g.E.Sink.has_failed c.args.errors.now c.loop-part.errors c.write_part.new.errors
-      c.loop-part.invariant.0 c.write_part.ensures.0 c.loop-part.invariant.1 c.write_part.ensures.1,
-)
+loop-part-preserved g c =
+    let i = c.loop-part.invariant in
+    let part = c.write_part.ensures in (
+      i.0 ++ part.0,
+      plain_both i.0 part.0 i.1 part.1,
+      then_more g.E.Sink.contents g.E.Sink.has_failed c.args.errors.now c.loop-part.errors c.write_part.new.errors
+          i.0 part.0 i.2 part.2,
+    )

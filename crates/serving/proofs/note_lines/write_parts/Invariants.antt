@@ -1,7 +1,7 @@
 use Rattle.std.proofs.Common.{ℕ, List}
-use Rattle.player.specs.Showing.{IsMore, shown}
+use Rattle.player.specs.Showing.{HasNoControl, IsMore}
 use Rattle.serving.proofs.note_lines.write_parts.Given as goal
 
 abbrev pub invariant-loop-part : goal.invariant-loop-part
-invariant-loop-part g l = (text : List ℕ)
-    × IsMore g.E.Sink.contents g.E.Sink.has_failed l.fn.errors l.errors (shown text)
+invariant-loop-part g l = (text : List ℕ) × HasNoControl text
+    × IsMore g.E.Sink.contents g.E.Sink.has_failed l.fn.errors l.errors text

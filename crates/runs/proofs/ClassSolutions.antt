@@ -1,0 +1,149 @@
+-- A text has one solution by classes or one fault, and a check accepts the solution.
+use Rattle.std.proofs.Common.{◌≡◌, ◌≤◌, ◌⊎◌, ℕ, List, length, refl, sym, ap, ◌∙◌, subst, arith, inl, inr}
+use Rattle.board_text.specs.PlainBoard.{PlainBoard}
+use Rattle.board_text.proofs.Cited.{one_board}
+use Rattle.class_documents.proofs.Cited.{no_fault as no_class_fault}
+use Rattle.class_strategies.proofs.Cited.{breaks_no_rule, has_form as is_formed, one_document as one_made}
+use Rattle.class_texts.proofs.Cited.{no_fault as faultless_document, one_document}
+use Rattle.class_texts.specs.ClassText.{class_text}
+use Rattle.classes.specs.Numbers.{class_count}
+use Rattle.classes.specs.declared.counting.TheConstants.{MAX_CLASSES}
+use Rattle.graphs.specs.declared.graph.Numbering.{Numbering}
+use Rattle.graphs.specs.declared.graph.Numbering.TheVariants.{Ordered, Classes}
+use Rattle.positions.specs.Claim.{claim_of}
+use Rattle.positions.specs.declared.value.Value.{Value}
+use Rattle.positions.proofs.Cited.{same_value}
+use Rattle.proof_text.specs.Proof.{PlainProof}
+use Rattle.runs.specs.ClassSolveRun.{HasLongDocument, IsClassSolution, IsSolvedByClasses, IsUnsolvedByClasses}
+use Rattle.runs.specs.Texts.{HasNoProof, IsBoardAmong, IsBoardWithin, IsByClasses, IsMemory, IsWrongWithin, OfAnySize}
+use Rattle.runs.specs.Verdicts.{IsChecked, IsClassVerdict, IsProofOf, IsVerdictOf, text_of_proof}
+use Rattle.runs.specs.declared.fault.RunFault.{RunFault}
+use Rattle.runs.specs.declared.fault.RunFault.TheVariants.{Board, TooLarge, Proof, Memory, Worker, Read, Write, Limit}
+use Rattle.runs.specs.declared.fault.RunFault.TheVariants.{DocumentTooLarge}
+use Rattle.runs.specs.declared.verdicts.Verdict.{Verdict}
+use Rattle.runs.specs.declared.verdicts.Verdict.TheVariants.{Accepted, Refused, RefusedByClasses}
+use Rattle.runs.proofs.AcceptedDocuments.{not_wrong}
+use Rattle.runs.proofs.BoardLimits.{few_classes}
+use Rattle.runs.proofs.DocumentKinds.{by_classes, by_ranks}
+use Rattle.runs.proofs.OneOutcome.{one_wrong}
+
+-- ---- one solution, or one fault
+
+module _ (text : List ℕ) where
+  -- the text is that of one board at most
+  same_board : (first second : PlainBoard) → IsBoardWithin Classes text first → IsBoardWithin Classes text second
+      → second ≡ first
+  same_board first second one other =
+      one_board second first other.is_board one.is_board (sym other.spelled ∙ one.spelled)
+
+  pub one_class_solution : (value worth : Value) (first second : List ℕ) → IsClassSolution text value first
+      → IsClassSolution text worth second → (value ≡ worth) × (first ≡ second)
+  one_class_solution value worth first second (board, within, one) (other, within_too, also) =
+      let solved : IsSolvedByClasses board worth second =
+      subst (λ (b : PlainBoard). IsSolvedByClasses b worth second) (same_board board other within within_too) also in
+      let document : one.document ≡ solved.document =
+      one_made board one.document solved.document one.is_document solved.is_document in (
+        same_value board board.start value worth one.has_value solved.has_value,
+        one.text_is ∙ ap (class_text board) document ∙ sym solved.text_is,
+      )
+
+  -- a board whose document is too long has no solution
+  long_or_short : (value : Value) (written : List ℕ) (board other : PlainBoard) → IsBoardWithin Classes text board
+      → IsBoardWithin Classes text other → IsSolvedByClasses board value written → HasLongDocument other → ⊥
+  long_or_short value written board other within within_too solved long =
+      let here : HasLongDocument board = subst HasLongDocument (same_board board other within within_too) long in
+      let same : here.0 ≡ solved.document = one_made board here.0 solved.document here.1 solved.is_document in
+      let size : length written ≡ length (class_text board here.0) =
+      ap length solved.text_is ∙ ap (λ d. length (class_text board d)) (sym same) in
+      absurd (omega (arith, size, here.2, solved.short))
+
+  -- a fault is that of the document, or that of the text
+  fault_is : (fault : RunFault) → IsUnsolvedByClasses text fault
+      → ((fault ≡ DocumentTooLarge) × IsUnsolvedByClasses text DocumentTooLarge) ⊎ IsWrongWithin Classes text fault
+  fault_is DocumentTooLarge h = inl (refl, h)
+  fault_is (Board told) h = inr h
+  fault_is TooLarge h = inr h
+  fault_is (Proof told) h = inr h
+  fault_is Memory h = inr h
+  fault_is Worker h = inr h
+  fault_is Read h = inr h
+  fault_is Write h = inr h
+  fault_is Limit h = inr h
+
+  pub class_solution_or_fault : (value : Value) (written : List ℕ) (fault : RunFault)
+      → IsClassSolution text value written → IsUnsolvedByClasses text fault → ⊥
+  class_solution_or_fault value written fault (board, within, solved) bad = elim (fault_is fault bad) [
+    | inl (is, (other, within_too, long)) ↦
+        long_or_short value written board other within within_too solved long
+    | inr wrong ↦ not_wrong Classes text board within fault wrong
+  ]
+
+  pub one_unsolved : (fault other : RunFault) → IsUnsolvedByClasses text fault → IsUnsolvedByClasses text other
+      → fault ≡ other
+  one_unsolved fault other bad also = elim (fault_is fault bad) [
+    | inl (is, (board, within, long)) ↦ elim (fault_is other also) [
+      | inl (is_too, long_too) ↦ is ∙ sym is_too
+      | inr wrong ↦ absurd (not_wrong Classes text board within other wrong)
+    ]
+    | inr wrong ↦ elim (fault_is other also) [
+      | inl (is_too, (board, within, long)) ↦ absurd (not_wrong Classes text board within fault wrong)
+      | inr wrong_too ↦ one_wrong Classes text fault other wrong wrong_too
+    ]
+  ]
+
+-- ---- a check of it
+
+module _ (text written : List ℕ) (value : Value) (solution : IsClassSolution text value written)
+    (board : PlainBoard) (is : IsBoardAmong OfAnySize text board) where
+  solved : IsSolvedByClasses board value written
+  solved = subst (λ (b : PlainBoard). IsSolvedByClasses b value written)
+      (one_board solution.0 board solution.1.is_board is.is_board (sym solution.1.spelled ∙ is.spelled)) solution.2
+
+  few : class_count board ≤ MAX_CLASSES
+  few = subst (λ (b : PlainBoard). class_count b ≤ MAX_CLASSES)
+      (one_board solution.0 board solution.1.is_board is.is_board (sym solution.1.spelled ∙ is.spelled))
+      (few_classes Classes solution.0 solution.1.few)
+
+  by_class : IsByClasses written
+  by_class = by_classes written board solved.document solved.text_is
+
+  verdict_of : (proof : PlainProof) (verdict : Verdict) → solved.document ≡ proof → IsClassVerdict board proof verdict
+      → verdict ≡ Accepted (record { claim = claim_of value })
+  verdict_of proof (Accepted shown) same told =
+      let worth : solved.is_document.value ≡ value =
+      same_value board board.start solved.is_document.value value solved.is_document.has_value solved.has_value in
+      ap (λ c. Accepted (record { claim = c })) (told.0 ∙ ap (λ (p : PlainProof). p.claim) (sym same)
+      ∙ solved.is_document.claim ∙ ap claim_of worth)
+  verdict_of proof (Refused fault) same told = absurd told
+  verdict_of proof (RefusedByClasses fault) same told =
+      absurd (no_class_fault board solved.document fault
+      (breaks_no_rule board solved.document is.is_board.start solved.is_document)
+      (subst (λ p. IsClassVerdict board p (RefusedByClasses fault)) (sym same) told))
+
+  accepts_of : (kind : Numbering) (proof : PlainProof) (verdict : Verdict) → IsProofOf kind board proof
+      → written ≡ text_of_proof kind board proof → IsVerdictOf kind board proof verdict
+      → verdict ≡ Accepted (record { claim = claim_of value })
+  accepts_of Ordered proof verdict is_proof spelled told = absurd (by_ranks written board proof spelled by_class)
+  accepts_of Classes proof verdict is_proof spelled told =
+      verdict_of proof verdict (one_document board solved.document proof is.is_board
+      (is_formed board solved.document is.is_board.start few solved.is_document) is_proof
+      (sym solved.text_is ∙ spelled)) told
+
+  pub class_document_accepted : (verdict : Verdict) (line : List ℕ) → IsChecked board written verdict line
+      → verdict ≡ Accepted (record { claim = claim_of value })
+  class_document_accepted verdict line checked =
+      accepts_of checked.kind checked.proof verdict checked.is_proof checked.text_is checked.verdict_is
+
+  pub class_document_faultless : (fault : RunFault) → HasNoProof board written fault → IsMemory fault
+  class_document_faultless (Proof fault) (inl (begins, has), not) =
+      absurd (not (faultless_document board written fault.line fault.kind solved.document is.is_board
+      (is_formed board solved.document is.is_board.start few solved.is_document) solved.text_is has))
+  class_document_faultless (Proof fault) (inr (begins, small, has), not) = absurd (begins by_class)
+  class_document_faultless Memory wrong = refl
+  class_document_faultless TooLarge (begins, large) = absurd (begins by_class)
+  class_document_faultless (Board fault) wrong = absurd wrong
+  class_document_faultless Worker wrong = absurd wrong
+  class_document_faultless Read wrong = absurd wrong
+  class_document_faultless Write wrong = absurd wrong
+  class_document_faultless DocumentTooLarge wrong = absurd wrong
+  class_document_faultless Limit wrong = absurd wrong
