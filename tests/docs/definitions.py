@@ -1,31 +1,37 @@
-"""The definitions that a reader of a statement has to read, and the passages of docs/theorems.md that list and count them.
+"""The definitions that a reader of a statement has to read, and the passages of docs/theorems.md and docs/headline.md that show them.
 
 A passage begins with a mark and ends with `<!-- end -->`. `<!-- table of A B, beyond C -->` is followed by a table of all definitions that
-A and B reach, themselves included, and C doesn't; `<!-- count of A B, beyond C -->` by their number and that of their lines, without
-comments, imports and empty lines; `<!-- code of A B -->` by the types and the constants of the code that they reach. No two definitions
-have one name, whichever crates they are in.
+A and B reach, themselves included, and C doesn't; `<!-- whole of A B, beyond C -->` by themselves with their comments, each after those that
+it uses; `<!-- count of A B, beyond C -->` by their number and that of their lines, without comments, imports and empty lines;
+`<!-- code of A B -->` by the types and the constants of the code that they reach; and `<!-- contract of F G -->` by the clauses of public
+functions. No two definitions have one name, whichever crates they are in.
 """
 import os
 import re
+import textwrap
 
 from harness import CRATES, TOP
 
-THEOREMS = os.path.join(TOP, 'docs', 'theorems.md')
+DOCUMENTS = [os.path.join(TOP, 'docs', name) for name in ('theorems.md', 'headline.md')]
 # one that stands in a module block begins two columns further right
 HEAD = re.compile(r'^(?:(?:  )?(?:(?:abbrev|unfoldable) pub|pub record|pub data)|record|abbrev|unfoldable) ([\w-]+)')
 USE = re.compile(r'^use Rattle\.(\w+)\.specs\.([\w.-]+?)(?:\.\{([^}]*)\}| as ([\w-]+))$')
 WORD = re.compile(r"[\w'-]+(?:\.[\w'-]+)*")
-PASSAGE = re.compile(r'<!-- (table|count|code) of ([\w. ]+?)(?:, beyond ([\w. ]+?))? -->(.*?)<!-- end -->', re.S)
+PASSAGE = re.compile(r'<!-- (table|whole|contract|count|code) of ([\w. ]+?)(?:, beyond ([\w. ]+?))? -->(.*?)<!-- end -->', re.S)
 
 
 class Definition:
-    """A definition of specs/: where it stands, its lines, and the words that stand in them."""
+    """A definition of specs/: where it stands, the comment before it, its lines, and the words that stand in them."""
 
-    def __init__(self, file, place):
-        self.file, self.place, self.lines = file, place, []
+    def __init__(self, file, place, comment):
+        self.file, self.place, self.comment, self.lines = file, place, comment, []
 
     def words(self):
         return [word for line in self.lines for word in WORD.findall(line)]
+
+    def whole(self):
+        """Its comment and its lines, without the columns before it in a module block."""
+        return textwrap.dedent('\n'.join(self.comment + self.lines))
 
 
 class Specs:
@@ -43,7 +49,7 @@ class Specs:
     def read(self, crate, path):
         """Reads the definitions of a file, and what its imports name."""
         module = crate, os.path.relpath(path, os.path.join(CRATES, crate, 'specs')).removesuffix('.antt').replace(os.sep, '.')
-        named, current = {}, None
+        named, current, comment = {}, None, []
         with open(path) as file:
             lines = [line.rstrip('\n') for line in file]
         for place, line in enumerate(lines):
@@ -56,8 +62,9 @@ class Specs:
                 if alias:
                     named[alias] = (*given, None)
             elif head:
-                current = self.defined[(*module, head[1])] = Definition(os.path.relpath(path, TOP), place)
+                current = self.defined[(*module, head[1])] = Definition(os.path.relpath(path, TOP), place, comment)
                 named[head[1]] = (*module, head[1])
+            comment = comment + [line] if line.lstrip().startswith('--') else []
             if current and line.strip() and not line.startswith(('--', 'use ')):
                 current.lines.append(line)
         self.named[module] = named
@@ -84,18 +91,20 @@ class Specs:
             files.setdefault(key[2], []).append(definition.file)
         return [f'{name}: {", ".join(found)}' for name, found in sorted(files.items()) if len(found) > 1]
 
+    def meanings(self, key):
+        """What the words of a definition mean."""
+        return {self.meant(key[:2], word) for word in self.defined[key].words()} - {None}
+
     def reached(self, names):
         """All that these definitions reach, themselves included: definitions, and what is declared in the code."""
         left = [self.one_of(name) for name in names]
         found, code = set(left), set()
         while left:
-            crate, module, name = left.pop()
-            for word in self.defined[crate, module, name].words():
-                key = self.meant((crate, module), word)
+            for key in self.meanings(left.pop()):
                 if key in self.defined and key not in found:
                     found.add(key)
                     left.append(key)
-                elif key and key[1].startswith('declared.'):
+                elif key[1].startswith('declared.'):
                     code.add(key)
         return found, code
 
@@ -116,6 +125,39 @@ class Specs:
         return '\n'.join(rows)
 
 
+    def whole(self, keys):
+        """The definitions of each file, in their order there, after those of the files that they use."""
+        left = {}
+        for key in sorted(keys, key=lambda key: (self.crates.index(key[0]), self.defined[key].file, self.defined[key].place)):
+            left.setdefault(key[:2], []).append(key)
+        shown = []
+        while left:
+            used = {module: {key[:2] for key in found for key in self.meanings(key)} - {module} for module, found in left.items()}
+            found = left.pop(next(module for module in left if not used[module] & left.keys()))
+            shown.append(block(self.defined[found[0]].file, 'rattle', '\n\n'.join(self.defined[key].whole() for key in found)))
+        return '\n\n'.join(shown)
+
+
+def block(file, kind, text):
+    """A block of a document, with the file that it is from."""
+    return f'`{file}`:\n\n```{kind}\n{text}\n```'
+
+
+def contract(name):
+    """The signature and the clauses of a public function."""
+    found = []
+    for folder, _, files in os.walk(CRATES):
+        for file in files if os.path.basename(folder) == 'src' else ():
+            with open(os.path.join(folder, file)) as source:
+                text = source.read()
+            if f'\npub fn {name}(' in text:
+                whole = text[text.index(f'\npub fn {name}(') + 1:]
+                found.append(block(os.path.relpath(os.path.join(folder, file), TOP), 'rust', whole[:whole.index('\n{')]))
+    if len(found) != 1:
+        raise ValueError(f'{len(found)} functions are named {name}')
+    return found[0]
+
+
 def listed(names):
     """Names with commas, and an `and` before the last."""
     return names[0] if len(names) == 1 else f'{", ".join(names[:-1])} and {names[-1]}'
@@ -131,11 +173,13 @@ def code_of(code):
 
 def passage(specs, kind, names, beyond):
     """The text of a passage."""
+    if kind == 'contract':
+        return '\n' + '\n\n'.join(contract(name) for name in names.split()) + '\n'
     found, code = specs.reached(names.split())
     if beyond:
         found -= specs.reached(beyond.split())[0]
-    if kind == 'table':
-        return f'\n{specs.table(found)}\n'
+    if kind in ('table', 'whole'):
+        return f'\n{getattr(specs, kind)(found)}\n'
     definitions, lines = specs.size(found)
     return code_of(code) if kind == 'code' else f'{definitions} definitions in {lines} lines'
 
@@ -152,12 +196,15 @@ def written(text):
 
 
 def differs():
-    """None where docs/theorems.md has all passages as the definitions have them."""
-    with open(THEOREMS) as file:
-        text = file.read()
-    if not PASSAGE.search(text):
-        return 'docs/theorems.md has no passage that lists definitions'
-    return None if written(text) == text else 'docs/theorems.md lists other definitions: tests/docs/run --write mends it'
+    """None where the documents have all passages as the definitions have them."""
+    for path in DOCUMENTS:
+        with open(path) as file:
+            text = file.read()
+        if not PASSAGE.search(text):
+            return f'{os.path.basename(path)} has no passage that shows definitions'
+        if written(text) != text:
+            return f'{os.path.basename(path)} shows other definitions: tests/docs/run --write mends it'
+    return None
 
 
 def named_twice():
@@ -166,8 +213,9 @@ def named_twice():
 
 
 def write():
-    """Writes the passages of docs/theorems.md."""
-    with open(THEOREMS) as file:
-        text = file.read()
-    with open(THEOREMS, 'w') as file:
-        file.write(written(text))
+    """Writes the passages of the documents."""
+    for path in DOCUMENTS:
+        with open(path) as file:
+            text = file.read()
+        with open(path, 'w') as file:
+            file.write(written(text))

@@ -6,7 +6,7 @@ from collections import Counter
 from functools import partial
 
 from harness import CRATES, TOP, Check, standing
-from mutations import DEFINITIONS, edits_of, of_crate, read, read_sums, texts
+from mutations import DEFINITIONS, edits_of, of_crate, read, read_sums, texts, waiting
 from promises import of_folder
 
 # a row of docs/proving/edits.md: a crate, its wrong bodies that are owed, and those that the gate has beside them
@@ -111,4 +111,4 @@ def checks():
     yield Check('the weakened definitions', partial(wrong_in_definitions))
     yield Check('the texts of wrong bodies', partial(of_no_crate))
     yield Check('the wrong bodies of the gate', partial(others_in_gate))
-    yield Check('the promises on which wrong bodies were tried', partial(untried))
+    yield Check(f'the promises on which wrong bodies were tried ({len(waiting())} crates wait)', partial(untried))
