@@ -9,7 +9,8 @@ The text NAME.txt has the further wrong bodies of the crate NAME, definitions.tx
 tries are the edits of crates/NAME/must-fail/, a file each; its name is the mistake, with `_` between the words.
 
 promises.sums has a line for each crate with further wrong bodies or weakened definitions: its name, and the checksum of the promises on
-which all of them were refused (promises.py). `tests/mutations/run --changed` alone writes it.
+which all of them were refused (promises.py). `tests/mutations/run --changed` alone writes it. The word `waiting` after a checksum says that
+not all were tried on these promises yet: they changed while the rule began. tests/docs says how many wait.
 """
 import os
 import re
@@ -21,6 +22,7 @@ HERE = os.path.dirname(os.path.abspath(__file__))
 DEFINITIONS = 'definitions'
 ANSWER = ('refused', 'tried')
 SUMS = os.path.join(HERE, 'promises.sums')
+WAITING = 'waiting'
 
 
 def parted(line):
@@ -117,19 +119,29 @@ def of_crate(crate):
 
 # ---- checksums
 
-def read_sums():
-    """The checksums of the promises that were tried, by crate."""
+def sums():
+    """The lines of promises.sums: by crate its checksum, and with some the word for those that wait."""
     if not os.path.isfile(SUMS):
         return {}
     with open(SUMS) as file:
-        return dict(line.split() for line in file)
+        return {name: rest for name, *rest in map(str.split, file)}
+
+
+def read_sums():
+    """The checksums of the promises that were tried, or wait to be, by crate."""
+    return {name: rest[0] for name, rest in sums().items()}
+
+
+def waiting():
+    """The crates of which not all were tried on these promises."""
+    return [name for name, rest in sums().items() if WAITING in rest]
 
 
 def write_sum(crates, crate, checksum):
     """Writes the checksum of a crate, in the order of these crates, and drops those of others."""
-    sums = read_sums() | {crate: checksum}
+    lines = sums() | {crate: [checksum]}
     with open(SUMS, 'w') as file:
-        file.writelines(f'{name} {sums[name]}\n' for name in crates if name in sums)
+        file.writelines(f'{" ".join([name, *lines[name]])}\n' for name in crates if name in lines)
 
 
 # ---- the edits that the gate tries
