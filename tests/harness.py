@@ -26,15 +26,20 @@ class Check:
 
 # ---- what is built
 
-def standing(top):
-    """The crates, each after those that it stands on, with these."""
+def standing_by(lines):
+    """The crates of the lines of a crates.txt, each after those that it stands on, with these."""
     below = {}
-    with open(os.path.join(top, 'crates.txt')) as file:
-        for line in file:
-            if ':' in line and not line.startswith('#'):
-                name, _, others = line.partition(':')
-                below[name.split()[0]] = [other for other in others.split() if other in below]
+    for line in lines:
+        if ':' in line and not line.startswith('#'):
+            name, _, others = line.partition(':')
+            below[name.split()[0]] = [other for other in others.split() if other in below]
     return below
+
+
+def standing(top):
+    """The crates of a copy of the repository, each after those that it stands on, with these."""
+    with open(os.path.join(top, 'crates.txt')) as file:
+        return standing_by(file)
 
 
 def newest(crate):

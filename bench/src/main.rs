@@ -4,6 +4,7 @@
 
 mod board;
 mod check;
+mod class_document;
 mod classes;
 mod document;
 mod lists;
@@ -45,9 +46,13 @@ fn output<N: Numbering>(words: &[String]) -> Vec<u8> {
         "report" => report::report::<N>(&board),
         "check" => {
             let text = std::fs::read(&words[2]).unwrap();
-            check::check(&board, &Space::of(&board), &text).into_bytes()
+            let is_by_classes = text.starts_with(b"proof 2\n");
+            let by_ranks = || check::check(&board, &Space::of(&board), &text);
+            let by_classes = || class_document::check(&board, &text);
+            if is_by_classes { by_classes() } else { by_ranks() }.into_bytes()
         }
-        _ => panic!("solve BOARD, report BOARD or check BOARD PROOF"),
+        "solve-large" => class_document::document(&board),
+        _ => panic!("solve BOARD, solve-large BOARD, report BOARD or check BOARD PROOF"),
     }
 }
 

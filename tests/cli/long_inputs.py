@@ -1,6 +1,9 @@
 """Inputs that are as long as they may be, longer, or without an end; and paths that are too long."""
+from bisect import bisect_right
 from functools import partial
+from itertools import accumulate, combinations_with_replacement
 
+import board_texts
 from program import Check, Ran, board, check, differs, fault, fed, letters, run, strategy, written
 
 # the bytes of a board, and of a document or of both together; the bytes of a line of a play, and the number of its lines
@@ -33,6 +36,33 @@ def long_boards(work):
         yield check(f'{name} of the longest board', NO_VERSION, words + [longest])
         yield check(f'{name} of a board that is too long', TOO_LONG, words + [too_long])
     yield fed('a board of two thousand million bytes', TOO_LONG, letters(2000000000), ['solve', '/dev/stdin'])
+
+
+def classes_on_a_chain(size):
+    """A document of `least 1` by classes with exactly so many bytes, for a chain of 100 labels and four pebbles: its greatest label answers
+    each request of each class without it. Of all rows it has as many as fit, and longer ones in place of shorter ones where bytes are
+    left."""
+    rows = [b'at %d %d %d %d for 1 take 99 99 99 99\n' % places for places in combinations_with_replacement(range(99), 4)]
+    head, end = b'proof 2\nleast 1\nlabeller %d\n', b'end\n'
+    room = size - len(head % len(rows)) - len(end)
+    sums = list(accumulate(map(len, rows)))
+    count = bisect_right(sums, room)
+    left, longest = room - sums[count - 1], len(rows[-1])
+    shorter = [index for index in range(count) if len(rows[index]) == longest - 1][:left]
+    dropped = set(shorter)
+    rows = [row for index, row in enumerate(rows[:count + len(shorter)]) if index not in dropped]
+    return b''.join([head % len(rows), *rows, end])
+
+
+def longest_by_classes(work):
+    """None where a document by classes of as many bytes as are read is accepted, and one of a byte more is too long."""
+    chain = written(work, 'chain-of-100.board', board_texts.chain(100, 4))
+    path = written(work, 'longest.proof', classes_on_a_chain(LONGEST_INPUT))
+    wrong = differs(run(['check', chain, path]), Ran(output=b'accepted least 1\n'))
+    with open(path, 'ab') as file:
+        size = file.tell()
+        file.write(b'\n')
+    return wrong or (None if size == LONGEST_INPUT else f'{size} bytes') or differs(run(['check', chain, path]), TOO_LONG)
 
 
 def endless_inputs():
@@ -80,6 +110,7 @@ def long_paths():
 def checks(work):
     """Those of boards and documents, of plays, and of paths."""
     yield from long_boards(work)
+    yield Check('the longest document by classes', partial(longest_by_classes, work))
     yield from endless_inputs()
     yield from long_plays()
     yield from long_paths()

@@ -61,6 +61,7 @@ fn document_fault(
         (IsFirstClassFault board.now (plain_class_proof board.now proof.now)) }
     ensures start { IsConfiguration board.now board.now.start }
 {
+    // That this is a configuration is the clause `start`.
     let _ = board.start();
     if let Some(fault) = start_fault(board, proof) {
         return Some(fault);
