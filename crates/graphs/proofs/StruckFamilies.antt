@@ -1,16 +1,16 @@
 -- The gap in which a class of a gap's family is an answer.
-use Rattle.std.proofs.Common.{◌≡◌, ℕ, zero, suc, ◌+◌, ◌-◌, ◌<◌, inl, inr, refl, sym, ap, ◌∙◌, subst, arith}
+use Rattle.std.proofs.Common.{◌≡◌, ℕ, zero, suc, ◌+◌, ◌-◌, ◌<◌, ◌⊎◌, inl, inr, refl, sym, ap, ◌∙◌, subst, arith}
 use Rattle.std.proofs.Common.{List, [], ◌∷◌, ◌++◌, length, get_or}
 use Rattle.std.specs.List.{All, remove}
 use Rattle.std.proofs.lemmas.Bool.{cases_lt}
 use Rattle.std.proofs.lemmas.List.{get_or_append_left, get_or-append_right, length-append, append-nil}
-use Rattle.std.proofs.lemmas.List.Edits.{remove-append_left, remove-append_right}
+use Rattle.std.proofs.lemmas.List.Edits.{remove-append_left, remove-append_right, length-remove}
 use Rattle.std.proofs.lemmas.List.Elements.{All-append, All-nil, All-cons, All-head, All-tail}
 use Rattle.board_text.specs.PlainBoard.{PlainBoard, IsBoard, IsConfiguration, BeatsPlace, places}
 use Rattle.classes.specs.Classes.{put, Falls, IsClass}
 use Rattle.classes.specs.Numbers.{ways, class_number}
-use Rattle.classes.specs.ClassGaps.{gap_at, AnswersGap}
-use Rattle.classes.proofs.Places.{falls-more}
+use Rattle.classes.specs.ClassGaps.{gap_at, index_in, AnswersGap}
+use Rattle.classes.proofs.Places.{falls-more, put-none, put-past, put-here, index-past, index-here, others-put}
 use Rattle.classes.proofs.Ways.{ways-one}
 use Rattle.classes.proofs.Cited.{is-below, with-is, with-number, class_of-class, class_of-own, one-gap, place-cancel}
 use Rattle.classes.proofs.Cited.{place-below}
@@ -25,6 +25,18 @@ use Rattle.graphs.proofs.DominatingPebbles.{struck-found}
 
 abbrev with_least : List ℕ → ℕ → List ℕ
 with_least gap place = gap ++ (place ∷ [])
+
+index-put : (place : ℕ) (gap : List ℕ) → index_in place (put place gap) < length (put place gap)
+index-put place [] =
+    subst (λ l. index_in place l < length l) (sym (put-none place)) (let here =
+    index-here place place [] (omega arith) in omega (arith, here))
+index-put place (first ∷ others) = elim (cases_lt place first) [
+  | inl less ↦ subst (λ l. index_in place l < length l) (sym (put-past place first others less))
+      (let rest = index-put place others in let past = index-past place first (put place others) less in
+      omega (arith, rest, past))
+  | inr most ↦ subst (λ l. index_in place l < length l) (sym (put-here place first others most))
+      (let here = index-here place place (first ∷ others) (omega arith) in omega (arith, here))
+]
 
 number-least : (gap : List ℕ) (place : ℕ)
     → class_number (with_least gap place) ≡ class_number (with_least gap 0) + place
@@ -239,3 +251,65 @@ module _ (b : PlainBoard) (is : IsBoard b) where
               (subst (λ w. AnswersGap b (remove c (length h)) w) (last-place h v)
               (subst (λ k. AnswersGap b (remove c k) (get_or c k 0)) here answer)))
         ])
+
+    -- ---- all gaps of the class
+
+    pub own-member : (classes b).member g v ≡ x
+    own-member = ap class_number put-is-least ∙ number
+
+    remove-is : (p : ℕ) → p < length c → IsClass bound (P - 1) (remove c p)
+    remove-is p inside =
+        let fewer = length-remove c p inside in
+        let size : length c ≡ P = ok.size in
+        record { size = omega arith; falls = falls-remove bound p c ok.falls }
+
+    pub other-gap : (p : ℕ) → p < length h → class_number (remove c p) ≡ class_number (put 0 (remove h p)) + v
+    other-gap p inside =
+        ap class_number (some-gap p inside) ∙ number-least (remove h p) v
+        ∙ ap (λ l. class_number l + v) (sym (put-zero b is (remove h p) (falls-remove bound p h own.falls)))
+
+    long : length c ≡ length h + 1
+    long = let size : length c ≡ P = ok.size in let one = n in omega arith
+
+    pub other-below : (p : ℕ) → p < length h → class_number (put 0 (remove h p)) + v < gaps
+    other-below p inside =
+        let all = long in
+        let below = is-below bound (P - 1) (remove c p) (remove-is p (omega arith)) in
+        let same = other-gap p inside in
+        omega arith
+
+    pub other-member : (p : ℕ) → p < length h
+        → (classes b).member (class_number (put 0 (remove h p)) + v) (get_or h p 0) ≡ x
+    other-member p inside =
+        let all = long in
+        let low : p < length c = omega arith in
+        let gap_is : gap_class b (class_number (put 0 (remove h p)) + v) ≡ remove c p =
+        ap (gap_class b) (sym (other-gap p inside)) ∙ with-number bound (P - 1) (remove c p) (remove-is p low) in
+        ap (λ l. class_number (put (get_or h p 0) l)) gap_is
+        ∙ ap (λ w. class_number (put w (remove c p))) (sym (some-held p inside))
+        ∙ ap class_number (put-back bound c p ok.falls low) ∙ number
+
+    pub only-gaps : (other w : ℕ) → other < gaps → w < bound → (classes b).member other w ≡ x
+        → (other ≡ g) ⊎ ((p : ℕ) × (p < length h) × (other ≡ class_number (put 0 (remove h p)) + v))
+    only-gaps other w low inside same =
+        let gap : List ℕ = gap_class b other in
+        let is_gap : IsClass bound (P - 1) gap = gap-is b is other low in
+        let some = is.pebbles.0 in
+        let one : suc (P - 1) ≡ P = omega arith in
+        let made : IsClass bound P (put w gap) =
+        subst (λ k. IsClass bound k (put w gap)) one (put-is bound (P - 1) w gap is_gap inside) in
+        let class_is : put w gap ≡ c =
+        sym (with-number bound P (put w gap) made) ∙ ap (class_at b) (same ∙ sym number) ∙ with-number bound P c ok in
+        let p : ℕ = index_in w c in
+        let left : remove c p ≡ gap = ap (λ l. remove l (index_in w l)) (sym class_is) ∙ others-put w gap in
+        let at : p < length c = subst (λ l. index_in w l < length l) class_is (index-put w gap) in
+        let own_number : other ≡ class_number (remove c p) =
+        sym (with-is bound (P - 1) other low).number_is ∙ ap class_number (sym left) in
+        let all = long in
+        elim (cases_lt p (length h)) [
+          | inl before ↦ inr (p, before, own_number ∙ other-gap p before)
+          | inr last ↦
+              let here : p ≡ length h = omega arith in
+              inl (own_number ∙ ap (λ k. class_number (remove c k)) here ∙ ap class_number (last-gap h v)
+              ∙ (with-is bound (P - 1) g i).number_is)
+        ]

@@ -7,4 +7,5 @@ pub mod Ordered
 pub mod ClassGraph
 pub mod Numbered
 pub mod NumberedRanks
+pub mod Stuck
 pub mod Inside

@@ -10,6 +10,7 @@ mod numbered_ranks;
 mod numbers;
 mod ordered_numbers;
 mod sharing;
+mod stuck;
 
 pub use graph::{Graph, Numbering, has_few};
 pub use laws::{

@@ -41,7 +41,7 @@ impl Graph {
     {
         match &self.finder {
             Finder::Ranks(numbers) => ordered_standing(numbers.space(), held),
-            Finder::Classes(numbers) => numbers.classes().standing(held),
+            Finder::Classes(numbers) => numbers.standing(held),
         }
     }
 

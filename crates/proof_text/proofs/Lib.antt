@@ -9,4 +9,5 @@ pub mod OneRow
 pub mod OneSection
 pub mod OneDocument
 pub mod RankedRows
+pub mod GatheredWords
 pub mod Cited

@@ -274,7 +274,7 @@ module _ {board : PlainBoard} {values : RequestValues} {at old new : List ℕ}
 -- the line is written part by part, and has its line feed unless it is out of memory
 pub line_written : {T E : Type 0} (r : Result T E) (a b c d e f t0 t1 t2 t3 t4 t5 t6 t7 : List ℕ) → t1 ≡ t0 ++ a
     → t2 ≡ t1 ++ b
-    → t3 ≡ t2 ++ c → t4 ≡ t3 ++ d → t5 ≡ t4 ++ e → t6 ≡ t5 ++ f → t7 ≡ cond (is_ok r) (t6 ++ 10 ∷ []) t6
+    → t3 ≡ t2 ++ c → t4 ≡ t3 ++ d → t5 ≡ t4 ++ e → t6 ≡ t5 ++ f → OnOk r (t7 ≡ t6 ++ 10 ∷ [])
     → OnOk r (t7 ≡ t0 ++ with_line_feed (a ++ (b ++ (c ++ (d ++ (e ++ f))))))
 line_written (Ok x) a b c d e f t0 t1 t2 t3 t4 t5 t6 t7 p q r s t u v = rw (v, u, t, s, r, q, p) (simp append_assoc)
 line_written (Err x) a b c d e f t0 t1 t2 t3 t4 t5 t6 t7 p q r s t u v = tt

@@ -9,6 +9,7 @@ mod parsing;
 mod parts;
 mod printing;
 mod proof;
+mod row_text;
 mod row_words;
 mod rows;
 mod sections;

@@ -6,6 +6,7 @@ ghost use Rattle.positions.specs.declared.claim.Claim.{Claim as ClaimData};
 ghost use Rattle.proof_text.specs.Inside.RowForm.{section_text};
 
 use crate::printing::size_of_lines;
+use crate::row_text::PlaceWords;
 use crate::rows::Row;
 use crate::sections::{write_head, write_rows};
 use positions::{Claim, Space};
@@ -19,11 +20,13 @@ pub(crate) fn write_in_parts<R: Row + Sync>(
     rt: &(impl Threads + Sync),
     alloc: Global,
     text: &mut String,
+    words: &PlaceWords,
     space: &Space,
     claim: Claim,
     rows: &[R],
     parts: u32,
 ) -> Result<(), AllocError>
+    requires words { words.now ≡ space.now.labels }
     requires ranks { (other : ClaimData)
         → All (λ row. (R.form space.now other).rank row < configurations space.now) rows.now }
     requires parts { 1 ≤ parts }
@@ -34,7 +37,7 @@ pub(crate) fn write_in_parts<R: Row + Sync>(
         return Ok(());
     }
     write_head::<R>(text, claim, rows.len())?;
-    for lines in &lines_in_parts(rt, alloc, space, rows, parts)? {
+    for lines in &lines_in_parts(rt, alloc, words, space, rows, parts)? {
         text.push_str(lines.as_str())?;
     }
     Ok(())
@@ -45,10 +48,12 @@ pub(crate) fn write_in_parts<R: Row + Sync>(
 fn lines_in_parts<R: Row + Sync>(
     rt: &(impl Threads + Sync),
     alloc: Global,
+    words: &PlaceWords,
     space: &Space,
     rows: &[R],
     parts: u32,
 ) -> Result<Vec<String>, AllocError>
+    requires words { words.now ≡ space.now.labels }
     requires ranks { (claim : ClaimData)
         → All (λ row. (R.form space.now claim).rank row < configurations space.now) rows.now }
     requires parts { 1 ≤ parts }
@@ -60,26 +65,32 @@ fn lines_in_parts<R: Row + Sync>(
         .par_chunks(size)
         .map(
             |part: &[R]| -> Result<String, AllocError>
-                requires { (claim : ClaimData)
+                requires words { words.now ≡ space.now.labels }
+                requires ranks { (claim : ClaimData)
                     → All (λ row.
                     (R.form space.now claim).rank row < configurations space.now) part.now }
                 ensures { IfOk result (λ lines. (claim : ClaimData)
                     → string_bytes lines ≡ flat_map (R.form space.entry.now claim).line part.now) }
-            { lines_of(alloc, space, part) },
+            { lines_of(alloc, words, space, part) },
         )
         .collect(rt, alloc)?;
     lines
 }
 
 /// The lines of `rows`, as a text of their own.
-fn lines_of<R: Row>(alloc: Global, space: &Space, rows: &[R]) -> Result<String, AllocError>
-    requires { (claim : ClaimData)
+fn lines_of<R: Row>(
+    alloc: Global,
+    words: &PlaceWords,
+    space: &Space,
+    rows: &[R],
+) -> Result<String, AllocError>
+    requires words { words.now ≡ space.now.labels }
+    requires ranks { (claim : ClaimData)
         → All (λ row. (R.form space.now claim).rank row < configurations space.now) rows.now }
     ensures { IfOk result (λ lines. (claim : ClaimData)
         → string_bytes lines ≡ flat_map (R.form space.now claim).line rows.now) }
 {
     let size = size_of_lines(space.labels(), space.pebbles(), rows.len());
-    let mut lines = String::with_capacity(alloc, size)?;
-    write_rows(&mut lines, space, rows)?;
-    Ok(lines)
+    let lines = String::with_capacity(alloc, size)?;
+    write_rows(lines, words, space, rows)
 }

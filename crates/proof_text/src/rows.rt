@@ -1,17 +1,19 @@
 //! The rows of a document, of either side: how they are read and written.
 
-ghost use Rattle.std.specs.Prelude.{◌≡◌, ◌<◌, ◌++◌, OnOk, refl, string_bytes};
+ghost use Rattle.std.specs.Prelude.{◌≡◌, ◌<◌, ◌++◌, OnOk, refl};
+ghost use Rattle.board_text.specs.PlaceForms.{spaced_places};
 ghost use Rattle.board_text.specs.PlainBoard.{PlainBoard};
-ghost use Rattle.positions.specs.Ranks.{configurations};
+ghost use Rattle.positions.specs.Ranks.{configuration_at, configurations};
 ghost use Rattle.positions.specs.declared.claim.Claim.{Claim as ClaimData};
 ghost use Rattle.proof_text.specs.Inside.RowForm.{RowForm, NextRow, labeller_form, adversary_form};
 
 use crate::fault::ProofKind;
 use crate::proof::{AdversaryRow, LabellerRow, Ranked};
+use crate::row_text::{PlaceWords, RowText};
 use crate::row_words::{answer_words, request_words};
+use board_text::MAX_PEBBLES;
 use board_text::line_reader::LineReader;
-use board_text::{MAX_PEBBLES, write_number, write_places};
-use positions::{Claim, Space, Turns, write_labels};
+use positions::{Claim, Space, Turns};
 use std::alloc::AllocError;
 
 /// A row of one side's section.
@@ -36,13 +38,13 @@ pub(crate) trait Row: Ranked + Copy {
     ) -> Result<Self, ProofKind>
         ensures { NextRow space.now (form space.now claim) least result text.old text.new };
 
-    /// Appends the row's line to `text`.
-    fn write(&self, text: &mut String, space: &Space) -> Result<(), AllocError>
-        requires { (claim : ClaimData)
+    /// Appends the row's line to `text`. The `words` are those of the board's places.
+    fn write(&self, text: &mut RowText, words: &PlaceWords, space: &Space) -> Result<(), AllocError>
+        requires words { words.now ≡ space.now.labels }
+        requires rank { (claim : ClaimData)
             → (form space.now claim).rank self.now < configurations space.now }
         ensures { OnOk result ((claim : ClaimData)
-            → string_bytes text.new ≡ string_bytes text.old
-            ++ (form space.now claim).line self.now) };
+            → text.new.bytes ≡ text.old.bytes ++ (form space.now claim).line self.now) };
 
     ghost same_rank: { (board : PlainBoard) → (claim : ClaimData) → (row : Self)
         → (form board claim).rank row ≡ Self.rank row };
@@ -97,18 +99,23 @@ impl Row for LabellerRow {
         })
     }
 
-    fn write(&self, text: &mut String, space: &Space) -> Result<(), AllocError> {
+    fn write(
+        &self,
+        text: &mut RowText,
+        words: &PlaceWords,
+        space: &Space,
+    ) -> Result<(), AllocError> {
         let pebbles = space.pebbles() as usize;
-        text.push_str("at")?;
-        write_labels(text, space, self.at)?;
-        text.push_str(" for")?;
+        text.push_bytes(b"at")?;
+        write_at(text, words, space, self.at)?;
+        text.push_bytes(b" for")?;
         match self.turns {
-            Turns::Count(number) => write_number(text, number)?,
-            Turns::Always => text.push_str(" *")?,
+            Turns::Count(number) => text.push_number(number)?,
+            Turns::Always => text.push_bytes(b" *")?,
         }
-        text.push_str(" take")?;
-        write_places(text, space.labels(), &self.take[..pebbles])?;
-        text.push_str("\n")
+        text.push_bytes(b" take")?;
+        write_places(text, words, &self.take[..pebbles])?;
+        text.push_bytes(b"\n")
     }
 }
 
@@ -162,13 +169,45 @@ impl Row for AdversaryRow {
         })
     }
 
-    fn write(&self, text: &mut String, space: &Space) -> Result<(), AllocError> {
-        text.push_str("at")?;
-        write_labels(text, space, self.at)?;
-        text.push_str(" for")?;
-        write_number(text, self.left)?;
-        text.push_str(" ask")?;
-        write_number(text, u32::from(self.ask))?;
-        text.push_str("\n")
+    fn write(
+        &self,
+        text: &mut RowText,
+        words: &PlaceWords,
+        space: &Space,
+    ) -> Result<(), AllocError> {
+        text.push_bytes(b"at")?;
+        write_at(text, words, space, self.at)?;
+        text.push_bytes(b" for")?;
+        text.push_number(self.left)?;
+        text.push_bytes(b" ask")?;
+        text.push_number(u32::from(self.ask))?;
+        text.push_bytes(b"\n")
     }
+}
+
+/// Appends the places of the configuration of rank `at`, each with a space before it.
+fn write_at(
+    text: &mut RowText,
+    words: &PlaceWords,
+    space: &Space,
+    at: u32,
+) -> Result<(), AllocError>
+    requires words { words.now ≡ space.now.labels }
+    requires at { at < configurations space.now }
+    ensures { OnOk result (text.new.bytes ≡ text.old.bytes
+        ++ spaced_places space.now.labels (configuration_at space.now at)) }
+{
+    let places = space.places_at(at);
+    write_places(text, words, &places[..space.pebbles() as usize])
+}
+
+/// Appends `places`, each with a space before it.
+fn write_places(text: &mut RowText, words: &PlaceWords, places: &[u16]) -> Result<(), AllocError>
+    ensures { OnOk result
+        (text.new.bytes ≡ text.old.bytes ++ spaced_places words.now places.now) }
+{
+    for place in places {
+        text.push_place(words, *place)?;
+    }
+    Ok(())
 }

@@ -9,6 +9,7 @@ ghost use Rattle.positions.specs.declared.claim.Claim.{Claim as ClaimData};
 ghost use Rattle.proof_text.specs.Inside.RowForm.{PartRead, SectionFault, section_text};
 
 use crate::fault::{ProofFault, ProofKind};
+use crate::row_text::{PlaceWords, RowText};
 use crate::rows::Row;
 use board_text::line_reader::LineReader;
 use positions::{Claim, MAX_CONFIGURATIONS, Space};
@@ -54,23 +55,26 @@ pub(crate) fn read_part<R: Row>(
     Ok(rows)
 }
 
-/// Appends the section of `rows`, if `claim` asks for it.
+/// The `text` with the section of `rows` after it, if `claim` asks for it.
 pub(crate) fn write_part<R: Row>(
-    text: &mut String,
+    text: String,
+    words: &PlaceWords,
     space: &Space,
     claim: Claim,
     rows: &[R],
-) -> Result<(), AllocError>
-    requires { (other : ClaimData)
+) -> Result<String, AllocError>
+    requires words { words.now ≡ space.now.labels }
+    requires ranks { (other : ClaimData)
         → All (λ row. (R.form space.now other).rank row < configurations space.now) rows.now }
-    ensures { OnOk result (string_bytes text.new ≡ string_bytes text.old
+    ensures { IfOk result (λ whole. string_bytes whole ≡ string_bytes text
         ++ section_text (R.form space.now claim) rows.now) }
 {
     if !R::is_asked(claim) {
-        return Ok(());
+        return Ok(text);
     }
-    write_head::<R>(text, claim, rows.len())?;
-    write_rows(text, space, rows)
+    let mut begun = text;
+    write_head::<R>(&mut begun, claim, rows.len())?;
+    write_rows(begun, words, space, rows)
 }
 
 /// Appends the first line of a section of `count` rows.
@@ -86,22 +90,25 @@ pub(crate) fn write_head<R: Row>(
     write!(text, "{} {count}\n", R::word())
 }
 
-/// Appends the lines of `rows`.
+/// The `text` with the lines of `rows` after it.
 pub(crate) fn write_rows<R: Row>(
-    text: &mut String,
+    text: String,
+    words: &PlaceWords,
     space: &Space,
     rows: &[R],
-) -> Result<(), AllocError>
-    requires { (claim : ClaimData)
+) -> Result<String, AllocError>
+    requires words { words.now ≡ space.now.labels }
+    requires ranks { (claim : ClaimData)
         → All (λ row. (R.form space.now claim).rank row < configurations space.now) rows.now }
-    ensures { OnOk result ((claim : ClaimData)
-        → string_bytes text.new ≡ string_bytes text.old
+    ensures { IfOk result (λ whole. (claim : ClaimData)
+        → string_bytes whole ≡ string_bytes text
         ++ flat_map (R.form space.now claim).line rows.now) }
 {
+    let mut lines = RowText::new(text);
     for row in rows {
-        row.write(text, space)?;
+        row.write(&mut lines, words, space)?;
     }
-    Ok(())
+    lines.finish()
 }
 
 /// The number of lines of a section of `rows` rows: 0 unless it is `asked` for.

@@ -172,7 +172,7 @@ fn values_by(
     ensures refused { IfErr result (IsRefused workers board.now) }
 {
     let values = solve_classes(rt, alloc, board, workers as u32, &NoGate)?;
-    Ok(Values::new(values, board))
+    values_with_tables(alloc, board, values)
 }
 
 /// The values of a small board by its ranks, by as many rounds as it takes.
@@ -181,7 +181,23 @@ fn values_of(alloc: Global, board: &Board) -> Result<Values, RunFault>
     ensures values { IfOk result (λ values. values ≡ board.now) }
     ensures memory { IfErr result IsMemory }
 {
-    Ok(Values::new(numbered_of(alloc, board)?, board))
+    let values = numbered_of(alloc, board)?;
+    values_with_tables(alloc, board, values)
+}
+
+/// The same values of a small board, with tables for the standings of its ranks.
+fn values_with_tables(
+    alloc: Global,
+    board: &Board,
+    values: NumberedValues,
+) -> Result<Values, RunFault>
+    requires few { configurations board.now ≤ MAX_CONFIGURATIONS }
+    requires values { values ≡ numbered board.now Numbering.Classes }
+    ensures values { IfOk result (λ values. values ≡ board.now) }
+    ensures memory { IfErr result IsMemory }
+{
+    let values = values.with_tables(alloc, board)?;
+    Ok(Values::new(values, board))
 }
 
 /// The values of a board, by this number of workers. One is this thread, and shares nothing.

@@ -1,9 +1,11 @@
 -- The words before the first round.
-use Rattle.std.proofs.Common.{◌≡◌, ◌⊎◌, ℕ, ◌+◌, ◌<◌, inl, inr, Bool, true, cond, arith}
+use Rattle.std.proofs.Common.{◌≡◌, ◌⊎◌, ℕ, ◌+◌, ◌<◌, inl, inr, Bool, true, cond, refl, replicate, arith}
 use Rattle.std.proofs.Common.{sym, ap, ◌∙◌, List, length, slice_index, slice_set, get_or-set_other, get_or-set_same}
 use Rattle.std.proofs.Math.ListN.{length-set}
 use Rattle.std.proofs.lemmas.Bool.{cases_lt}
-use Rattle.graphs.specs.Graph.{PlainGraph, is_member, is_answered, lasts}
+use Rattle.std.proofs.lemmas.List.{get_or-replicate, length-replicate}
+use Rattle.graphs.specs.Graph.{PlainGraph, IsGraph, is_member, is_answered, lasts}
+use Rattle.graphs.specs.Stuck.{AreStuckZeroed}
 use Rattle.solver.specs.Inside.Opening.{AreZeroed}
 use Rattle.solver.specs.Inside.Tables.{IsCounted, AreFirstWords}
 use Rattle.solver.specs.declared.word.TheConstants.{OPEN}
@@ -70,5 +72,38 @@ first-words a counts words t s = record {
         let none = t.counted found.0 found.1 ∙ found.3 in
         ap (slice_index words) (sym found.2.2) ∙ s.zeroed found.0 found.2.0 found.1 found.2.1 none
         ∙ sym (ap (λ (c : Bool). cond c OPEN 0) stuck)
+  ];
+}
+
+-- ---- all at once
+
+-- all words are open at first
+pub opened : (count x : ℕ) → x < count → slice_index (replicate count OPEN) x ≡ OPEN
+opened count x low = get_or-replicate count x OPEN 0 low
+
+-- the words of stuck configurations were zeroed
+pub stuck-stopped : (a : PlainGraph) (counts old new : List ℕ) → old ≡ replicate a.configurations OPEN
+    → IsGraph a → AreStuckZeroed a counts a.configurations old new → AreStopped a counts a.gaps new
+stuck-stopped a counts old new all_open is z = record {
+  words_length = z.same_length ∙ ap length all_open ∙ length-replicate a.configurations OPEN;
+  zeroed = λ g v low inside none. z.zeroed (a.member g v) (is.member_in g v low inside) (record {
+    gap = g;
+    below = low;
+    none = none;
+    place = v;
+    inside = inside;
+    member = refl;
+  });
+  others = λ x below. elim (z.others x) [
+    | inl same ↦ inl (same ∙ ap (λ l. slice_index l x) all_open ∙ opened a.configurations x below)
+    | inr stuck ↦ inr (
+      stuck.0,
+      record {
+        at = stuck.1.gap;
+        below = stuck.1.below;
+        none = stuck.1.none;
+        member = member-is a stuck.1.gap stuck.1.place x stuck.1.inside stuck.1.member;
+      },
+    )
   ];
 }

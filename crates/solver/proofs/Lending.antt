@@ -5,6 +5,7 @@ use denote.Param.Send.{IsSync, struct_sync, view_sync, recorded_sync, sendable}
 use Rattle.std.proofs.Crossing.{crosses}
 use Rattle.index_lists.specs.declared.store.ListStore.{Ghosts}
 use Rattle.positions.specs.contracts.space.Space as space
+use Rattle.classes.specs.contracts.member_tables.MemberTables as tables
 use Rattle.graphs.specs.contracts.graph.Graph as graph
 use Rattle.solver.specs.contracts.solver.Solver as solver
 use Rattle.solver.specs.contracts.solver.Solver.TheInside as inside
@@ -14,8 +15,11 @@ use Rattle.solver.specs.contracts.stage.Stage.TheInside as parts
 space_sync : IsSync space.the_row
 space_sync = search (sendable, crosses) depth 30
 
-graph_sync : IsSync graph.the_row
-graph_sync = search (sendable, crosses) depth 30
+pub tables_sync : IsSync tables.the_row
+tables_sync = search (sendable, crosses) depth 30
+
+pub graph_sync : IsSync graph.the_row
+graph_sync = search (sendable, crosses, tables_sync) depth 60
 
 stage_sync : (T : RattleType) (g : Ghosts T.Denot) → IsSync T → IsSync (stage.the_row T g)
 stage_sync T g lent = view_sync (parts.the_row T g) _ _ _ _

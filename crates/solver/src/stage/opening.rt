@@ -1,6 +1,6 @@
 //! A stage before the first round.
 
-ghost use Rattle.std.specs.Prelude.{◌≡◌, ◌<◌, ◌≤◌, length, IfOk};
+ghost use Rattle.std.specs.Prelude.{◌≡◌, ◌<◌, ◌≤◌, length, replicate, IfOk};
 ghost use Rattle.board_text.specs.PlainBoard.{IsBoard};
 ghost use Rattle.graphs.specs.Graph.{live_answers, lasts};
 ghost use Rattle.graphs.specs.Numbered.{IsFewBy, graph_of};
@@ -85,13 +85,36 @@ fn first_words(alloc: Global, graph: &Graph, counts: &[u32]) -> Result<Vec<u32>,
     ensures { IfOk result (λ words. AreFirstWords (graph_of graph.now) words.items) }
 {
     let mut words = vec![in alloc; OPEN; graph.configurations() as usize]?;
+    zero_stuck(&mut words, graph, counts);
+    Ok(words)
+}
+
+/// Writes 0 as the word of each configuration of which a request has no answer. All words are
+/// `OPEN`.
+fn zero_stuck(words: &mut [u32], graph: &Graph, counts: &[u32])
+    requires counts { IsCounted (graph_of graph.now) (lasts (graph_of graph.now) 0) counts.now }
+    requires open { words.old ≡ replicate (graph_of graph.now).configurations OPEN }
+    ensures { AreFirstWords (graph_of graph.now) words.new }
+{
+    let _ = graph.configurations();
+    if graph.zero_families(counts, words) {
+        return;
+    }
+    zero_by_gaps(words, graph, counts);
+}
+
+/// The same, gap by gap.
+fn zero_by_gaps(words: &mut [u32], graph: &Graph, counts: &[u32])
+    requires counts { IsCounted (graph_of graph.now) (lasts (graph_of graph.now) 0) counts.now }
+    requires open { words.old ≡ replicate (graph_of graph.now).configurations OPEN }
+    ensures { AreFirstWords (graph_of graph.now) words.new }
+{
     let mut members = [0; MAX_PLACES];
     for gap in 0..graph.gaps() {
         if counts[gap as usize] == 0 {
-            zero_members(&mut words, graph, gap, &mut members);
+            zero_members(words, graph, gap, &mut members);
         }
     }
-    Ok(words)
 }
 
 /// Writes 0 as the word of each member of `gap`. The members are written to `members`.

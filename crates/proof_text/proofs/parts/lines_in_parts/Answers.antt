@@ -9,12 +9,15 @@ some size = omega arith
 pub collect-requires-clause-ready : goal.collect-requires-clause-ready
 collect-requires-clause-ready g c = λ κs lives.
     rw (c.map.ensures.base, c.map.ensures.f, c.par_chunks.ensures.slice, c.par_chunks.ensures.size) (λ k d low x same. (
-      λ claim.
-          let below = λ (row : g.row.R.Denot).
-          (g.R.Row.form c.args.space.now claim).rank row < configurations c.args.space.now in
-          subst (All below) (sym same)
-          (parts_too below (max c.max-size.result 1) c.args.rows.now (some c.max-size.result)
-          (c.requires.ranks claim) k d low),
+      (
+        c.requires.words,
+        λ claim.
+            let below = λ (row : g.row.R.Denot).
+            (g.R.Row.form c.args.space.now claim).rank row < configurations c.args.space.now in
+            subst (All below) (sym same)
+            (parts_too below (max c.max-size.result 1) c.args.rows.now (some c.max-size.result)
+            (c.requires.ranks claim) k d low),
+      ),
       λ y made. tt,
     ))
 

@@ -5,5 +5,5 @@ use Rattle.proof_text.proofs.sections.write_rows.Given as goal
 
 abbrev pub invariant-loop-row : goal.invariant-loop-row
 invariant-loop-row g l = (claim : Claim)
-    → string_bytes l.text ≡ string_bytes l.initial.text
+    → l.lines.bytes ≡ string_bytes l.fn.text
     ++ flat_map (g.R.Row.form l.space claim).line (take l.row-index l.rows)

@@ -1,3 +1,6 @@
+use denote.Param.Send.{sendable}
+use Rattle.std.proofs.Crossing.{crosses}
+use Rattle.solver.proofs.Cited.{graph_sync}
 use Rattle.std.proofs.Common.{◌<◌, ℕ, max, arith, sym, subst}
 use Rattle.std.specs.List.{All}
 use Rattle.proof_text.proofs.PartedLines.{parts_too}
@@ -27,3 +30,12 @@ returns g c =
     rows_joined c.args.moves.now (g.R.SectionRow.side c.args.moves.now c.args.start) (λ part. part.items) (λ v. v.items)
     c.args.ranks.now (max c.max-size.result 1) (some c.max-size.result) chain.0 parts_are made.0 each c.in_ok-rows.rows
     made.2
+
+pub map-requires-send-F : goal.map-requires-send-F
+map-requires-send-F g c κs within = search (sendable, crosses, graph_sync) depth 60 fits 20000
+
+pub map-requires-sync-F : goal.map-requires-sync-F
+map-requires-sync-F g c κs within = search (sendable, crosses, graph_sync) depth 60 fits 20000
+
+pub collect-requires-send-Self : goal.collect-requires-send-Self
+collect-requires-send-Self g c κs within = search (sendable, crosses, graph_sync) depth 60 fits 20000

@@ -15,7 +15,7 @@ ordered_standing-requires c =
 pub standing-requires : goal.standing-requires
 standing-requires c =
     let found = by-classes c.args.self.now c.self.inside.finder c.self.view_is c.in-Classes.numbers c.in-Classes.is in
-    subst (λ (b : PlainBoard). IsConfiguration b c.args.held.now) (sym (c.classes.ensures ∙ found.1)) c.requires
+    subst (λ (b : PlainBoard). IsConfiguration b c.args.held.now) (sym found.1) c.requires
 
 pub returns-in-Ranks-clause-number : goal.returns-in-Ranks-clause-number
 returns-in-Ranks-clause-number c =
@@ -65,7 +65,7 @@ returns-in-Classes-clause-gaps c = λ pebble low.
     let n : Numbered = c.args.self.now in
     let found = by-classes n c.self.inside.finder c.self.view_is c.in-Classes.numbers c.in-Classes.is in
     c.standing.ensures.gaps pebble
-    (subst (λ (b : PlainBoard). pebble < b.pebbles) (sym (c.classes.ensures ∙ found.1)) low)
+    (subst (λ (b : PlainBoard). pebble < b.pebbles) (sym found.1) low)
     ∙ sym (class-gap n c.args.held.now pebble found.0)
 
 pub returns-in-Classes-clause-gaps_below : goal.returns-in-Classes-clause-gaps_below

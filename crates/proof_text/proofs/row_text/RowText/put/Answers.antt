@@ -1,0 +1,21 @@
+use Rattle.std.proofs.Common.{◌≡◌, ◌+◌, ◌-◌, ◌≤◌, ◌++◌, length, take, sym, ap, ◌∙◌, subst, arith, string_bytes}
+use Rattle.std.specs.Str.{IsAscii}
+use Rattle.proof_text.proofs.GatheredWords.{gathered_more, bytes_more}
+use Rattle.proof_text.proofs.row_text.RowText.put.Goals as goal
+
+pub invariant_of-self : goal.invariant_of-self
+invariant_of-self c =
+    let s = c.self.inside in
+    let room : s.count + 4 ≤ 512 = omega (arith, c.requires.room, ap (λ r. r.count) c.self.view_is) in
+    gathered_more s.count (s.count + 4 - s.count) c.args.word.size s.room c.copy_from_slice.new.self c.self.invariant
+    (omega (arith, room)) c.copy_from_slice.ensures.len (omega (arith, c.requires.few))
+    (subst (λ l. IsAscii (take c.args.word.size l)) (sym c.copy_from_slice.ensures.after) c.requires.ascii)
+
+pub returns : goal.returns
+returns c =
+    let s = c.self.inside in
+    let room : s.count + 4 ≤ 512 = omega (arith, c.requires.room, ap (λ r. r.count) c.self.view_is) in
+    bytes_more s.count (s.count + 4 - s.count) c.args.word.size (string_bytes s.text) s.room c.copy_from_slice.new.self
+    c.args.self.now.bytes c.self.invariant (omega (arith, room)) c.copy_from_slice.ensures.len (omega (arith, c.requires.few))
+    (ap (λ r. r.bytes) c.self.view_is)
+    ∙ ap (λ l. c.args.self.now.bytes ++ take c.args.word.size l) c.copy_from_slice.ensures.after

@@ -1,0 +1,32 @@
+-- Words of up to four bytes, and a text to which they are appended a few rows at once.
+use Rattle.std.specs.Prelude.{◌≡◌, ℕ, suc, ◌<◌, ◌≤◌, ◌∷◌, List, length, take, slice_index_or}
+use Rattle.std.specs.Str.{IsAscii}
+use Rattle.board_text.specs.PlaceForms.{place_word}
+use Rattle.proof_text.specs.declared.row_text.Word.{Word}
+
+-- the bytes of a word
+abbrev pub word_text : Word → List ℕ
+word_text word = take word.size word.bytes
+
+-- the word has this text
+pub record IsWord (text : List ℕ) (word : Word) : Type 0 where
+  pub few : word.size ≤ 4
+  pub is : word_text word ≡ text
+  pub ascii : IsAscii text
+
+-- a word for each place, and one for a pebble that holds no label
+pub record ArePlaceWords (labels : ℕ) (words : List Word) : Type 0 where
+  pub many : length words ≡ suc labels
+  pub each : (place : ℕ) (d : Word) → place ≤ labels
+      → IsWord (32 ∷ place_word labels place) (slice_index_or words place d)
+
+-- the bytes of a text with those that are gathered after it, and how many these are
+pub record RowBytes : Type 0 where
+  pub bytes : List ℕ
+  pub count : ℕ
+
+-- the gathered bytes are text
+pub record IsGathered (room : List ℕ) (count : ℕ) : Type 0 where
+  pub size : length room ≡ 512
+  pub inside : count ≤ 512
+  pub ascii : IsAscii (take count room)

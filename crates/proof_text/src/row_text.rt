@@ -1,0 +1,224 @@
+//! Text to which rows append words of up to four bytes, a few rows at once.
+
+ghost use Rattle.std.specs.Prelude.{◌≡◌, ◌+◌, ◌<◌, ◌≤◌, ◌++◌, ◌∷◌, length, IfOk, MatchOption, OnOk};
+ghost use Rattle.std.specs.Prelude.{string_bytes};
+ghost use Rattle.std.specs.Fmt.{decimal};
+ghost use Rattle.std.specs.Str.{IsAscii};
+ghost use Rattle.board_text.specs.PlaceForms.{place_word};
+ghost use Rattle.proof_text.specs.Inside.RowText.{IsWord, word_text};
+
+use board_text::{Memory, write_number};
+use std::alloc::{AllocError, Global};
+use std::marker::Model;
+
+/// The number of bytes that are gathered before they are appended to the text.
+const ROOM: usize = 512;
+
+/// A space and the text of a number or a place, of up to four bytes in all.
+#[derive(Clone, Copy)]
+pub(crate) struct Word {
+    /// The bytes after those of the word are spaces.
+    pub(crate) bytes: [u8; 4],
+    pub(crate) size: u32,
+}
+
+impl Word {
+    /// The word of a number below 1000.
+    fn of(number: u32) -> Word
+        requires { number < 1000 }
+        ensures { IsWord (32 ∷ decimal number) result }
+    {
+        let ones = b'0' + (number % 10) as u8;
+        let tens = b'0' + (number / 10 % 10) as u8;
+        let hundreds = b'0' + (number / 100) as u8;
+        if number < 10 {
+            return Word {
+                bytes: [b' ', ones, b' ', b' '],
+                size: 2,
+            };
+        }
+        if number < 100 {
+            return Word {
+                bytes: [b' ', tens, ones, b' '],
+                size: 3,
+            };
+        }
+        Word {
+            bytes: [b' ', hundreds, tens, ones],
+            size: 4,
+        }
+    }
+}
+
+/// The words of all places of a board.
+///
+/// Contracts see the number of labels.
+#[derive(Drop)]
+pub(crate) struct PlaceWords {
+    labels: u16,
+    words: Vec<Word>,
+}
+
+impl Model for PlaceWords {
+    ghost use Rattle.std.specs.Prelude.{ℕ};
+    ghost use Rattle.proof_text.specs.Inside.RowText.{ArePlaceWords};
+
+    ghost Value = { ℕ };
+
+    ghost view = { λ s. s.labels };
+
+    ghost invariant = { λ s. ArePlaceWords s.labels s.words.items };
+}
+
+impl PlaceWords {
+    /// The words of the labels below `labels`, and of the place without a label.
+    pub(crate) fn of(alloc: Global, labels: u16) -> Result<PlaceWords, Memory>
+        requires { labels < 1000 }
+        ensures { IfOk result (λ words. words ≡ labels) }
+    {
+        let mut words = Vec::with_capacity(alloc, labels as usize + 1)?;
+        for label in 0..labels {
+            words.push(Word::of(label as u32))?;
+        }
+        words.push(Word {
+            bytes: [b' ', b'-', b' ', b' '],
+            size: 2,
+        })?;
+        Ok(PlaceWords { labels, words })
+    }
+
+    /// The word of `place`, if it is one of the board.
+    fn word(&self, place: u16) -> Option<Word>
+        ensures { MatchOption result (self.now < place)
+            (IsWord (32 ∷ place_word self.now place)) }
+    {
+        if place > self.labels {
+            return None;
+        }
+        Some(self.words[place as usize])
+    }
+}
+
+/// A text, and bytes that are to come after it.
+///
+/// Contracts see the bytes of both.
+#[derive(Drop)]
+pub(crate) struct RowText {
+    text: String,
+    room: [u8; ROOM],
+    count: usize,
+}
+
+impl Model for RowText {
+    ghost use Rattle.std.specs.Prelude.{◌++◌, take, string_bytes};
+    ghost use Rattle.proof_text.specs.Inside.RowText.{RowBytes, IsGathered};
+
+    ghost Value = { RowBytes };
+
+    ghost view = { λ s. record {
+      bytes = string_bytes s.text ++ take s.count s.room;
+      count = s.count;
+    } };
+
+    ghost invariant = { λ s. IsGathered s.room s.count };
+}
+
+impl RowText {
+    /// The bytes of `text`.
+    pub(crate) fn new(text: String) -> RowText
+        ensures { result.bytes ≡ string_bytes text }
+    {
+        RowText {
+            text,
+            room: [0; ROOM],
+            count: 0,
+        }
+    }
+
+    /// Appends the gathered bytes to the text.
+    #[cold]
+    #[inline(never)]
+    fn flush(&mut self) -> Result<(), AllocError>
+        ensures bytes { OnOk result (self.new.bytes ≡ self.old.bytes) }
+        ensures room { OnOk result (self.new.count ≡ 0) }
+    {
+        match str::from_utf8(&self.room[..self.count]) {
+            Ok(gathered) => self.text.push_str(gathered)?,
+            Err(_) => unreachable!(),
+        }
+        self.count = 0;
+        Ok(())
+    }
+
+    /// Appends a word.
+    pub(crate) fn push_word(&mut self, word: Word) -> Result<(), AllocError>
+        requires few { word.size ≤ 4 }
+        requires ascii { IsAscii (word_text word) }
+        ensures { OnOk result (self.new.bytes ≡ self.old.bytes ++ word_text word) }
+    {
+        if self.count + 4 > ROOM {
+            self.flush()?;
+        }
+        self.put(word);
+        Ok(())
+    }
+
+    /// Appends a word, for which there is room.
+    fn put(&mut self, word: Word)
+        requires room { self.old.count + 4 ≤ ROOM }
+        requires few { word.size ≤ 4 }
+        requires ascii { IsAscii (word_text word) }
+        ensures { self.new.bytes ≡ self.old.bytes ++ word_text word }
+    {
+        let count = self.count;
+        self.room[count..count + 4].copy_from_slice(&word.bytes);
+        self.count = count + word.size as usize;
+    }
+
+    /// Appends these bytes, of which there are few: their number is known where it is called.
+    #[inline(always)]
+    pub(crate) fn push_bytes(&mut self, bytes: &[u8]) -> Result<(), AllocError>
+        requires few { length bytes.now ≤ ROOM }
+        requires ascii { IsAscii bytes.now }
+        ensures { OnOk result (self.new.bytes ≡ self.old.bytes ++ bytes.now) }
+    {
+        if self.count + bytes.len() > ROOM {
+            self.flush()?;
+        }
+        let end = self.count + bytes.len();
+        self.room[self.count..end].copy_from_slice(bytes);
+        self.count = end;
+        Ok(())
+    }
+
+    /// Appends a place with a space before it.
+    pub(crate) fn push_place(&mut self, words: &PlaceWords, place: u16) -> Result<(), AllocError>
+        ensures { OnOk result
+            (self.new.bytes ≡ self.old.bytes ++ 32 ∷ place_word words.now place) }
+    {
+        match words.word(place) {
+            Some(word) => self.push_word(word),
+            None => self.push_number(place as u32),
+        }
+    }
+
+    /// Appends a number with a space before it.
+    pub(crate) fn push_number(&mut self, number: u32) -> Result<(), AllocError>
+        ensures { OnOk result (self.new.bytes ≡ self.old.bytes ++ 32 ∷ decimal number) }
+    {
+        if number < 1000 {
+            return self.push_word(Word::of(number));
+        }
+        self.flush()?;
+        write_number(&mut self.text, number)
+    }
+
+    /// The whole text.
+    pub(crate) fn finish(self) -> Result<String, AllocError>
+        ensures { IfOk result (λ text. string_bytes text ≡ self.bytes) }
+    {
+        let mut whole = self;
+        whole.flush()?;
+        Ok(whole.text)
+    }
+}
