@@ -20,8 +20,8 @@ plain_board labels pebbles start pairs =
     record { labels = labels; pebbles = pebbles; start = start; pairs = pairs }
 
 -- the label x dominates the label y
-abbrev pub Beats : PlainBoard → ℕ → ℕ → Type 0
-Beats board x y = Contains board.pairs (x, y)
+abbrev pub Dominates : PlainBoard → ℕ → ℕ → Type 0
+Dominates board x y = Contains board.pairs (x, y)
 
 -- whether some pebble holds no label
 abbrev pub some_blank : ℕ → List ℕ → Bool
@@ -37,8 +37,8 @@ unfoldable pub places : PlainBoard → ℕ
 places board = if some_blank board.labels board.start then board.labels + 1 else board.labels
 
 -- the label dominates the label of a place, if that holds one
-abbrev pub BeatsPlace : PlainBoard → ℕ → ℕ → Type 0
-BeatsPlace board label place = place < board.labels → Beats board label place
+abbrev pub DominatesPlace : PlainBoard → ℕ → ℕ → Type 0
+DominatesPlace board label place = place < board.labels → Dominates board label place
 
 -- a list with one place for each pebble
 pub record IsConfiguration (board : PlainBoard) (configuration : List ℕ) : Type 0 where
@@ -67,7 +67,7 @@ pub record ArePairs (labels : ℕ) (pairs : List (ℕ × ℕ)) : Type 0 where
 
 -- no label beats itself, and no two labels beat each other
 abbrev pub IsAntisymmetric : PlainBoard → Type 0
-IsAntisymmetric board = (x y : ℕ) → Beats board x y → Beats board y x → ⊥
+IsAntisymmetric board = (x y : ℕ) → Dominates board x y → Dominates board y x → ⊥
 
 -- a place for each pebble, of which some hold no label in version 2, and none in version 1
 abbrev pub IsStart : ℕ → ℕ → ℕ → List ℕ → Type 0

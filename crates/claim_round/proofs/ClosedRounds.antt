@@ -2,6 +2,7 @@
 use Rattle.std.proofs.Common.{◌≡◌, ◌≢◌, ℕ, zero, suc, ◌+◌, ◌^◌, ◌<◌, ◌≤◌, ◌↔◌, List, [], ◌∷◌, map, length, take, drop}
 use Rattle.std.proofs.Common.{get_or, true, false, refl, sym, ap, ◌∙◌, subst, inl, inr, arith, Some, None}
 use Rattle.board_text.proofs.Cited.{few_places}
+use Rattle.graphs.specs.Answers.{IsAnswerIn}
 use Rattle.graphs.specs.Graph.{PlainGraph}
 use Rattle.graphs.specs.Numbered.{Numbered, graph_of, configuration_of}
 use Rattle.graphs.proofs.Cited.{places_are}
@@ -23,7 +24,7 @@ use Rattle.positions.specs.Value.{HasValue}
 use Rattle.positions.specs.Counts.{HasSize}
 use Rattle.classes.specs.declared.counting.TheConstants.{MAX_CLASSES}
 use Rattle.positions.proofs.Cited.{same_size, size_zero, size_at_most}
-use Rattle.solver.specs.Solving.{Solving, IsSolving, AnswerLasts, IsAnswerAt}
+use Rattle.solver.specs.Solving.{Solving, IsSolving, AnswerLasts}
 use Rattle.retro_core.specs.Round.{PlainSeat, Round, IsLawful, IsWorkedOff, spent_seat, seat_at, all_todo}
 use Rattle.retro_core.specs.Round.{all_won}
 use Rattle.retro_core.specs.declared.step.Seen.{Seen as SeenData}
@@ -154,7 +155,7 @@ module _ (k : Key) (words : List ℕ) (views : List View) (sol : IsSolving k.sol
       let n : Numbered = k.solving.game in
       let a : PlainGraph = graph_of n in
       let count = law.counts gap i in
-      let P : ℕ → Type 0 = λ place. IsAnswerAt a gap place × (0 < times (a.member gap place) (all_todo round)) in
+      let P : ℕ → Type 0 = λ place. IsAnswerIn a gap place × (0 < times (a.member gap place) (all_todo round)) in
       let waiting : count.waiting ≡ 0 = same_size P count.waiting 0 count.are_waiting
       ((size_zero P).1 (λ place h. let z = nothing_waits (a.member gap place) in let one = h.1 in omega arith)) in
       let sum = count.sum in

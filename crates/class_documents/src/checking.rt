@@ -2,9 +2,8 @@
 
 ghost use Rattle.std.specs.Prelude.{◌≡◌, ℕ, List, IsOk, OnOk, IfErr, MatchOption};
 ghost use Rattle.board_text.specs.PlainBoard.{IsConfiguration};
-ghost use Rattle.positions.specs.Claim.{Holds};
+ghost use Rattle.positions.specs.Claim.{Holds, HoldsAt};
 ghost use Rattle.classes.specs.Classes.{class_of};
-ghost use Rattle.class_documents.specs.ClaimAt.{HoldsAt};
 ghost use Rattle.class_documents.specs.ClassProof.{IsClassDocument, plain_class_proof};
 ghost use Rattle.class_documents.specs.ClassRules.{BreaksNoClassRule};
 ghost use Rattle.class_documents.specs.ClassFaults.{IsFirstClassFault, NamesClass};

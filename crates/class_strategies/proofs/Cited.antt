@@ -2,3 +2,4 @@
 pub use Rattle.class_strategies.proofs.DocumentForm.{has_form}
 pub use Rattle.class_strategies.proofs.KeptClassRules.{breaks_no_rule}
 pub use Rattle.class_strategies.proofs.OneClassList.{one_document}
+pub use Rattle.class_strategies.proofs.ShownClaims.{claims_shown}

@@ -14,7 +14,8 @@ use Rattle.positions.specs.Table.{RequestRow}
 use Rattle.positions.proofs.Configurations.{moved_is_configuration}
 use Rattle.strategies.specs.Best.{LowersValue, IsBestRequest}
 use Rattle.classes.specs.Classes.{class_of, put}
-use Rattle.classes.specs.ClassGaps.{gap_at, AnswersGap}
+use Rattle.positions.specs.Gaps.{AnswersGap}
+use Rattle.classes.specs.ClassGaps.{gap_at}
 use Rattle.classes.proofs.Cited.{class_of-own, class_of-set, put-cancel, legal-answers, value-of-class}
 use Rattle.class_documents.specs.Arranged.{arranged}
 use Rattle.class_documents.specs.ClassRules.{asked_pebble}

@@ -14,10 +14,10 @@ use std::thread::Threads;
 /// The number of labels of the board. All but two are low ones.
 const LABELS: u16 = 78;
 
-/// Dominates the low labels.
+/// DominatesOthers the low labels.
 const MIDDLE: u16 = 38;
 
-/// Dominates all other labels.
+/// DominatesOthers all other labels.
 const TOP: u16 = 39;
 
 /// The first of the low labels after the others.

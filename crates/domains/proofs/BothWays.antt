@@ -6,7 +6,7 @@ use Rattle.std.proofs.lemmas.Bool.{cases_eq}
 use Rattle.std.proofs.lemmas.Grind.{get_or-set_at}
 use Rattle.std.proofs.lemmas.List.{get_or-set_other, get_or-set_same, length-set}
 use Rattle.std.proofs.lemmas.List.FromFn.{get_or-range_with_len, length-range_with_len}
-use Rattle.board_text.specs.PlainBoard.{PlainBoard, plain_board, Beats}
+use Rattle.board_text.specs.PlainBoard.{PlainBoard, plain_board, Dominates}
 use Rattle.positions.specs.Game.{moved}
 use Rattle.nested_cycles.proofs.Cited.{contains_cases, contains_here, contains_later, contains_none}
 use Rattle.domains.specs.Carried.{with_pebbles, Carries, CarriesExactly}
@@ -17,7 +17,7 @@ use Rattle.domains.proofs.ProductData.{product_board}
 
 -- as many pebbles are carried as there are labels of which each beats all others: each keeps its own
 each_its_own : (board : PlainBoard) (count : ℕ) → count ≤ board.labels
-    → ((x y : ℕ) → x < count → y < count → x ≢ y → Beats board x y) → Carries board count
+    → ((x y : ℕ) → x < count → y < count → x ≢ y → Dominates board x y) → Carries board count
 each_its_own board count some beats = (
   range_with_len 0 count,
   length-range_with_len 0 count,
@@ -27,7 +27,7 @@ each_its_own board count some beats = (
         record {
           is_label = omega (arith, below, some);
           dominates = λ other other_below differs low.
-              subst (Beats board pebble) (sym (good.1 other other_below))
+              subst (Dominates board pebble) (sym (good.1 other other_below))
               (beats pebble other below other_below (λ same. differs (sym same)));
         },
         (
@@ -45,21 +45,21 @@ each_its_own board count some beats = (
 abbrev both : PlainBoard
 both = plain_board 2 2 [] ((0, 1) ∷ (1, 0) ∷ [])
 
-others_beaten : (x y : ℕ) → x < 2 → y < 2 → x ≢ y → Beats both x y
+others_beaten : (x y : ℕ) → x < 2 → y < 2 → x ≢ y → Dominates both x y
 others_beaten x y x_low y_low differs =
     elim (cases_eq x 0) [
       | inl zero_is ↦
           let one_is : 1 ≡ y = omega (arith, zero_is, y_low, differs) in
-          subst (Beats both x) one_is
-          (subst (λ n. Beats both n 1) (sym zero_is) (contains_here (0, 1) ((1, 0) ∷ [])))
+          subst (Dominates both x) one_is
+          (subst (λ n. Dominates both n 1) (sym zero_is) (contains_here (0, 1) ((1, 0) ∷ [])))
       | inr not ↦
           let one_is : 1 ≡ x = omega (arith, not, x_low) in
           let zero_is : 0 ≡ y = omega (arith, one_is, y_low, differs) in
-          subst (Beats both x) zero_is
-          (subst (λ n. Beats both n 0) one_is (contains_later (0, 1) ((1, 0) ∷ []) (1, 0) (contains_here (1, 0) [])))
+          subst (Dominates both x) zero_is
+          (subst (λ n. Dominates both n 0) one_is (contains_later (0, 1) ((1, 0) ∷ []) (1, 0) (contains_here (1, 0) [])))
     ]
 
-none_itself : (x y : ℕ) → Beats both x y → x ≢ y
+none_itself : (x y : ℕ) → Dominates both x y → x ≢ y
 none_itself x y beats same =
     elim (contains_cases (0, 1) ((1, 0) ∷ []) (x, y) beats) [
       | inl one ↦ omega (arith, same, ap (λ (p : ℕ × ℕ). p.0) one, ap (λ (p : ℕ × ℕ). p.1) one)

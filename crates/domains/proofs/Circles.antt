@@ -3,7 +3,7 @@ use Rattle.std.proofs.Common.{◌≡◌, ℕ, zero, suc, ◌+◌, ◌-◌, ◌%�
 use Rattle.std.specs.Prelude.{Contains}
 use Rattle.std.proofs.lemmas.Bool.{cases_eq}
 use Rattle.std.proofs.lemmas.List.Elements.{All-cons, All-head, All-nil, All-tail}
-use Rattle.board_text.specs.PlainBoard.{PlainBoard, Beats}
+use Rattle.board_text.specs.PlainBoard.{PlainBoard, Dominates}
 use Rattle.domains.specs.Circles.{IsCircle}
 use Rattle.domains.specs.Dominated.{AreDominated}
 use Rattle.domains.proofs.ProductData.{rule_board}
@@ -18,9 +18,9 @@ cycle_dominated board circle (label ∷ []) long all =
     let step : 1 ≡ (answer + 3 - label) % 3 = omega (arith, low) in (
       answer,
       omega (arith, is_label, circle.labels_are),
-      All-cons (λ other. Beats board answer other) label []
+      All-cons (λ other. Dominates board answer other) label []
           ((circle.beats answer label is_label low).1 (subst (Contains (1 ∷ [])) step (contains_here 1 [])))
-          (All-nil (λ other. Beats board answer other)),
+          (All-nil (λ other. Dominates board answer other)),
     )
 cycle_dominated board circle (label ∷ second ∷ labels) long all = absurd (omega (arith, long))
 
@@ -90,9 +90,9 @@ residues_dominated board circle (x ∷ y ∷ []) long all =
     let label = found.label in (
       label,
       omega (arith, found.low, circle.labels_are),
-      All-cons (λ other. Beats board label other) x (y ∷ []) ((circle.beats label x found.low x_low).1 found.of_first)
-          (All-cons (λ other. Beats board label other) y []
-          ((circle.beats label y found.low y_low).1 found.of_second) (All-nil (λ other. Beats board label other))),
+      All-cons (λ other. Dominates board label other) x (y ∷ []) ((circle.beats label x found.low x_low).1 found.of_first)
+          (All-cons (λ other. Dominates board label other) y []
+          ((circle.beats label y found.low y_low).1 found.of_second) (All-nil (λ other. Dominates board label other))),
     )
 residues_dominated board circle (x ∷ y ∷ third ∷ labels) long all = absurd (omega (arith, long))
 

@@ -3,7 +3,7 @@ use Rattle.std.proofs.Common.{◌≡◌, ℕ, zero, suc, ◌<◌, List, ◌∷�
 use Rattle.std.proofs.Common.{◌∙◌, ap, arith}
 use Rattle.std.proofs.lemmas.List.{length-set}
 use Rattle.std.proofs.lemmas.List.Elements.{All-set, All-contains, All-get_or, All-from_get_or, All-cons}
-use Rattle.board_text.specs.PlainBoard.{PlainBoard, Beats}
+use Rattle.board_text.specs.PlainBoard.{PlainBoard, Dominates}
 use Rattle.positions.specs.Game.{LabellerTree, moved}
 use Rattle.nested_cycles.specs.NestedGame.{other_words}
 use Rattle.nested_cycles.proofs.Cited.{fewer_others, in_others, others_are_labels}
@@ -23,7 +23,7 @@ dominated_last board count (suc depth) configuration more dominated held =
       found.0,
       record {
         is_label = found.1;
-        dominates = λ other other_below differs low. All-contains (λ n. Beats board found.0 n) others
+        dominates = λ other other_below differs low. All-contains (λ n. Dominates board found.0 n) others
             (get_or configuration other 0) found.2
             (in_others configuration pebble other (omega (arith, held.0, other_below)) differs);
       },
@@ -46,7 +46,7 @@ lasting_dominated board count more some lasts = λ labels long all.
     ) 0 (omega (arith, more)) in (
       tree.0,
       tree.1.is_label,
-      All-from_get_or (λ other. Beats board tree.0 other) labels 0
+      All-from_get_or (λ other. Dominates board tree.0 other) labels 0
           (λ place inside. tree.1.dominates (suc place) (omega (arith, inside, long, more))
           (λ one. omega (arith, one))
           (All-get_or (λ label. label < board.labels) labels place 0 inside all)),

@@ -4,7 +4,7 @@ use Rattle.std.proofs.Common.{inr}
 use Rattle.std.specs.List.{remove}
 use Rattle.std.proofs.lemmas.Bool.{cases_lt}
 use Rattle.std.proofs.lemmas.List.Edits.{get_or-remove_above, get_or-remove_below, length-remove}
-use Rattle.board_text.specs.PlainBoard.{PlainBoard, Beats}
+use Rattle.board_text.specs.PlainBoard.{PlainBoard, Dominates}
 use Rattle.domains.specs.Embedding.{IsWithin, IsOnBoth, IsRenaming, IsRenamed, HasOnePebbleFewer}
 use Rattle.domains.specs.ValueOrder.{IsWorthAtMost, AreWorthTheSame}
 use Rattle.domains.proofs.Choices.{one_or, of_one_or}
@@ -61,8 +61,8 @@ module _ (board renamed : PlainBoard) (to back : ℕ → ℕ) (renaming : IsRena
             let x_back = renaming.again x (omega (arith, renaming.labels, x_low)) in
             let y_back = renaming.again y (omega (arith, renaming.labels, y_low)) in
             (renaming.beats (back x) (back y) x_back.0 y_back.0).1
-            (subst (λ n. Beats renamed n (to (back y))) (sym x_back.1)
-            (subst (Beats renamed x) (sym y_back.1) beats));
+            (subst (λ n. Dominates renamed n (to (back y))) (sym x_back.1)
+            (subst (Dominates renamed x) (sym y_back.1) beats));
         leaders = λ pebble below. omega (arith, renaming.pebbles, below);
         apart = λ pebble other below other_below one. one;
       })

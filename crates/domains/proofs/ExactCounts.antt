@@ -4,7 +4,7 @@ use Rattle.std.proofs.Common.{get_or, refl, sym, ◌∙◌, ap, subst, arith, in
 use Rattle.std.specs.Prelude.{All}
 use Rattle.std.proofs.lemmas.List.{get_or-set_same, length-replicate}
 use Rattle.std.proofs.lemmas.List.Elements.{All-cons, All-head, All-nil, All-replicate, All-tail}
-use Rattle.board_text.specs.PlainBoard.{PlainBoard, Beats, IsAntisymmetric}
+use Rattle.board_text.specs.PlainBoard.{PlainBoard, Dominates, IsAntisymmetric}
 use Rattle.positions.specs.Game.{moved}
 use Rattle.nested_cycles.specs.Words.{word_of}
 use Rattle.player.specs.NestedPlay.{IsNestedPlay}
@@ -73,7 +73,7 @@ product_carries_exactly outer inner board outer_count inner_count count one_way 
 -- ---- products of several domains
 
 -- two pebbles need more than one label that doesn't beat itself
-lone_no_more : (board : PlainBoard) → board.labels ≡ 1 → ((x : ℕ) → x < board.labels → Beats board x x → ⊥)
+lone_no_more : (board : PlainBoard) → board.labels ≡ 1 → ((x : ℕ) → x < board.labels → Dominates board x x → ⊥)
     → Carries board 2 → ⊥
 lone_no_more board one no_loop carried =
     let first = carried.2 2 0 (omega arith) in
@@ -83,7 +83,7 @@ lone_no_more board one no_loop carried =
     let low : place < board.labels = subst (λ n. n < board.labels) (sym here) first.1.is_label in
     let same : second.0 ≡ place = omega (arith, second.1.is_label, low, one) in
     no_loop place low
-    (subst (λ n. Beats board n place) same (second.1.dominates 0 (omega arith) (λ zero_is. omega (arith, zero_is)) low))
+    (subst (λ n. Dominates board n place) same (second.1.dominates 0 (omega arith) (λ zero_is. omega (arith, zero_is)) low))
 
 abbrev FitsExactly : PlainBoard → Type 0
 FitsExactly factor = IsAntisymmetric factor × (0 < factor.labels) × CarriesExactly factor factor.pebbles
@@ -103,7 +103,7 @@ several_carry_exactly [] board product all =
       no_more = λ carried. lone_no_more board product.0
           (λ x low beats.
           let zero_is : x ≡ 0 = omega (arith, low, product.0) in
-          product.2 (subst (λ n. Beats board n n) zero_is beats))
+          product.2 (subst (λ n. Dominates board n n) zero_is beats))
           (subst (λ n. Carries board (suc n)) product.1 carried);
     }
 several_carry_exactly (factor ∷ factors) board product all =
@@ -137,7 +137,7 @@ dominated_exactly board count some one_way dominated few =
 
 -- another outer domain with the same labels has the same product
 same_outer : (outer other inner board : PlainBoard) → outer.labels ≡ other.labels
-    → ((x y : ℕ) → x < outer.labels → y < outer.labels → Beats outer x y ↔ Beats other x y)
+    → ((x y : ℕ) → x < outer.labels → y < outer.labels → Dominates outer x y ↔ Dominates other x y)
     → IsProduct outer inner board → IsProduct other inner board
 same_outer outer other inner board same agree product =
     let copy_low : (label : ℕ) → label < board.labels → label / inner.labels < outer.labels
@@ -161,7 +161,7 @@ same_outer outer other inner board same agree product =
 -- of two labels one beats the other on both circles or on neither
 one_circle : (labels : ℕ) (steps : List ℕ) (board other : PlainBoard) → IsCircle labels steps board
     → IsCircle labels steps other
-    → (x y : ℕ) → x < board.labels → y < board.labels → Beats board x y ↔ Beats other x y
+    → (x y : ℕ) → x < board.labels → y < board.labels → Dominates board x y ↔ Dominates other x y
 one_circle labels steps board other circle other_circle x y x_low y_low =
     let x_label : x < labels = omega (arith, x_low, circle.labels_are) in
     let y_label : y < labels = omega (arith, y_low, circle.labels_are) in (
@@ -201,7 +201,7 @@ forty_nine_exactly residues board are_residues three product =
 -- ---- the nested boards
 
 -- the one label of the first level doesn't beat itself
-lone_beats_none : (board : PlainBoard) → IsNestedPlay 1 board → (x : ℕ) → x < board.labels → Beats board x x → ⊥
+lone_beats_none : (board : PlainBoard) → IsNestedPlay 1 board → (x : ℕ) → x < board.labels → Dominates board x x → ⊥
 unfolding word_of
 lone_beats_none board nested x low beats =
     let says = (nested.beats x x (low, low)).0 beats in

@@ -4,7 +4,7 @@ use Rattle.std.proofs.Common.{inr, replicate}
 use Rattle.std.specs.Prelude.{Contains}
 use Rattle.std.proofs.lemmas.Bool.{cases_eq}
 use Rattle.std.proofs.lemmas.List.{get_or-replicate, get_or-set_same, get_or-set_other, length-replicate, length-set}
-use Rattle.board_text.specs.PlainBoard.{PlainBoard, Beats}
+use Rattle.board_text.specs.PlainBoard.{PlainBoard, Dominates}
 use Rattle.positions.specs.Game.{Legal, LabellerTree, moved}
 use Rattle.domains.specs.Follows.{Follows, IsLed}
 
@@ -17,7 +17,7 @@ module _ (board leading : PlainBoard) (image leader : ℕ → ℕ) (follows : Fo
     dominates = λ other other_below differs low.
         elim (is.each other other_below) [
           | inr high ↦ let no : ⊥ = omega (arith, high, low) in absurd no
-          | inl held ↦ subst (Beats board (image label)) (sym held.1)
+          | inl held ↦ subst (Dominates board (image label)) (sym held.1)
               (follows.beats label (get_or configuration (leader other) 0) legal.is_label held.0
               (legal.dominates (leader other) (follows.leaders other other_below)
               (λ one. differs (follows.apart other pebble other_below below one)) held.0))

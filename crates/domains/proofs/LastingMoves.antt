@@ -5,7 +5,7 @@ use Rattle.std.proofs.lemmas.Bool.{cases_lt, cases_eq}
 use Rattle.std.proofs.lemmas.List.{get_or-set_other, length-set}
 use Rattle.std.proofs.lemmas.Grind.{get_or-set_at}
 use Rattle.board_text.specs.PlainBoard.{PlainBoard}
-use Rattle.positions.specs.Game.{Legal, Dominates, AdversaryTree, moved}
+use Rattle.positions.specs.Game.{Legal, DominatesOthers, AdversaryTree, moved}
 use Rattle.positions.specs.Value.{HasValue}
 use Rattle.positions.specs.declared.value.Value.{Value}
 use Rattle.positions.specs.declared.value.Value.TheVariants.{Finite, Forever}
@@ -35,12 +35,12 @@ lasts_or_ends board configuration long =
 
 module _ (board : PlainBoard) (configuration : List ℕ) (pebble : ℕ) where
   abbrev Ends : ℕ → Type 0
-  Ends label = Dominates board configuration pebble label
+  Ends label = DominatesOthers board configuration pebble label
       → (depth : ℕ) × AdversaryTree board depth (moved configuration pebble label)
 
   -- one depth serves all labels
   one_depth : (count : ℕ) → ((label : ℕ) → label < count → Ends label)
-      → (depth : ℕ) × ((label : ℕ) → label < count → Dominates board configuration pebble label
+      → (depth : ℕ) × ((label : ℕ) → label < count → DominatesOthers board configuration pebble label
       → AdversaryTree board depth (moved configuration pebble label))
   one_depth zero each = (0, λ label low dominates. absurd (omega (arith, low)))
   one_depth (suc count) each =
@@ -65,7 +65,7 @@ module _ (board : PlainBoard) (configuration : List ℕ) (pebble : ℕ) where
             | inl before ↦ rest.1 label before dominates
             | inr not ↦
                 let is : label ≡ count = omega (arith, low, not) in
-                absurd (not_here (subst (Dominates board configuration pebble) is dominates))
+                absurd (not_here (subst (DominatesOthers board configuration pebble) is dominates))
           ],
         )
       ]
@@ -75,7 +75,7 @@ module _ (board : PlainBoard) (configuration : List ℕ) (pebble : ℕ) where
       → (label : ℕ) × Legal board configuration pebble label × HasValue board (moved configuration pebble label) Forever
   lasting_answer long below lasts =
       elim (each_or_some Ends
-      (λ label. Dominates board configuration pebble label × HasValue board (moved configuration pebble label) Forever)
+      (λ label. DominatesOthers board configuration pebble label × HasValue board (moved configuration pebble label) Forever)
       board.labels
       (λ label low. elim (dominates_or_not board configuration pebble label) [
         | inr not ↦ inl (λ dominates. absurd (not dominates))

@@ -9,7 +9,7 @@ use Rattle.std.proofs.lemmas.Nat.{div-mul-add, mod-mul-add}
 use Rattle.std.proofs.lemmas.List.{get_or-set_other, get_or-replicate, length-set, length-replicate}
 use Rattle.std.proofs.lemmas.Grind.{get_or-set_at}
 use Rattle.std.proofs.lemmas.List.Elements.{All-set, All-get_or, All-replicate}
-use Rattle.board_text.specs.PlainBoard.{PlainBoard, Beats}
+use Rattle.board_text.specs.PlainBoard.{PlainBoard, Dominates}
 use Rattle.positions.specs.Game.{Legal, LabellerTree, moved}
 use Rattle.positions.proofs.Cited.{each_or_some, lasts_at_most}
 use Rattle.domains.specs.Dominated.{IsHeld}
@@ -80,7 +80,7 @@ record Stand (outer inner board : PlainBoard) (outer_at inner_at : List ℕ) (he
   parts : (i : ℕ) → i < board.pebbles → seat i ≡ head → (part i < inner.pebbles)
       × (get_or configuration i 0 % inner.labels ≡ get_or inner_at (part i) 0)
   beaten : (i : ℕ) → i < board.pebbles → seat i ≢ head
-      → Beats outer (get_or outer_at head 0) (get_or outer_at (seat i) 0)
+      → Dominates outer (get_or outer_at head 0) (get_or outer_at (seat i) 0)
 
 -- the number is the seat of another pebble
 abbrev Taken : PlainBoard → (ℕ → ℕ) → ℕ → ℕ → Type 0
@@ -174,9 +174,9 @@ record Reply (outer inner board : PlainBoard) (copy piece label : ℕ) : Type 0 
   is_label : label < board.labels
   in_copy : label / inner.labels ≡ copy
   in_part : label % inner.labels ≡ piece
-  between : (other : ℕ) → other < board.labels → Beats outer copy (other / inner.labels) → Beats board label other
-  within : (other : ℕ) → other < board.labels → other / inner.labels ≡ copy → Beats inner piece (other % inner.labels)
-      → Beats board label other
+  between : (other : ℕ) → other < board.labels → Dominates outer copy (other / inner.labels) → Dominates board label other
+  within : (other : ℕ) → other < board.labels → other / inner.labels ≡ copy → Dominates inner piece (other % inner.labels)
+      → Dominates board label other
 
 reply : (outer inner board : PlainBoard) (copy piece : ℕ) → IsProduct outer inner board → copy < outer.labels
     → piece < inner.labels
@@ -191,10 +191,10 @@ reply outer inner board copy piece product is_copy is_piece =
       in_copy = in_copy;
       in_part = in_part;
       between = λ other is_other beats. between outer inner board product label other is_label is_other
-          (subst (λ c. Beats outer c (other / inner.labels)) (sym in_copy) beats);
+          (subst (λ c. Dominates outer c (other / inner.labels)) (sym in_copy) beats);
       within = λ other is_other same beats. within outer inner board product label other is_label is_other
           (in_copy ∙ sym same)
-          (subst (λ n. Beats inner n (other % inner.labels)) (sym in_part) beats);
+          (subst (λ n. Dominates inner n (other % inner.labels)) (sym in_part) beats);
     }
 
 -- the asked pebble goes to a new copy, on a seat that no other pebble has; the parts begin anew
@@ -256,9 +256,9 @@ to_new_copy outer inner board outer_at inner_at head seat part configuration peb
         | inl same ↦ absurd (other (put_at pebble v seat i same))
         | inr differs ↦
             let there = put_other pebble v seat i differs in
-            subst (λ n. Beats outer n (get_or (set outer_at v copy) (put pebble v seat i) 0))
+            subst (λ n. Dominates outer n (get_or (set outer_at v copy) (put pebble v seat i) 0))
             (sym (get_or-set_at outer_at v v copy 0 refl outer_inside))
-            (subst (Beats outer copy) (sym (get_or-set_other outer_at v (put pebble v seat i) copy 0
+            (subst (Dominates outer copy) (sym (get_or-set_other outer_at v (put pebble v seat i) copy 0
             (seat_elsewhere i below differs)))
             (legal.dominates (put pebble v seat i) (subst (λ n. n < outer.pebbles) (sym there) (s.seats i below))
             (seat_elsewhere i below differs)
@@ -329,7 +329,7 @@ to_new_part outer inner board outer_at inner_at head seat part configuration peb
         | inl same ↦ absurd (other (put_at pebble head seat i same))
         | inr differs ↦
             let there = put_other pebble head seat i differs in
-            subst (λ n. Beats outer (get_or outer_at head 0) (get_or outer_at n 0)) (sym there)
+            subst (λ n. Dominates outer (get_or outer_at head 0) (get_or outer_at n 0)) (sym there)
             (s.beaten i below (λ one. other (there ∙ one)))
       ];
     }
@@ -362,7 +362,7 @@ stands_last outer inner board (suc depth) first outer_at inner_at head seat part
               is_label = stands.is_label;
               dominates = λ other below differs low. stands.between (get_or configuration other 0)
                   (is_other other below)
-                  (subst (Beats outer answer.0) (sym (s.copies other below))
+                  (subst (Dominates outer answer.0) (sym (s.copies other below))
                   (answer.1.dominates (seat other) (s.seats other below) (found.2 other below differs)
                   (s.outer_low (seat other) (s.seats other below))));
             },
@@ -393,11 +393,11 @@ stands_last outer inner board (suc depth) first outer_at inner_at head seat part
                           let there = s.parts other below same in
                           stands.within (get_or configuration other 0) (is_other other below)
                           (s.copies other below ∙ ap (λ n. get_or outer_at n 0) same)
-                          (subst (Beats inner answer.0) (sym there.1)
+                          (subst (Dominates inner answer.0) (sym there.1)
                           (answer.1.dominates (part other) there.0 (found.2 other below differs same)
                           (s.inner_low (part other) there.0)))
                       | inr elsewhere ↦ stands.between (get_or configuration other 0) (is_other other below)
-                          (subst (Beats outer copy) (sym (s.copies other below)) (s.beaten other below elsewhere))
+                          (subst (Dominates outer copy) (sym (s.copies other below)) (s.beaten other below elsewhere))
                     ];
                   },
                   stands_last outer inner board depth first outer_at (moved inner_at k answer.0) head
@@ -423,7 +423,7 @@ lasts_in_copy outer inner board depth copy piece product fewer is_copy is_piece 
       beats = λ x y x_low y_low beats. (reply outer inner board copy x product is_copy x_low).within
           (copy * inner.labels + y) (label_in outer inner board copy y product is_copy y_low)
           (div-mul-add copy inner.labels y y_low)
-          (subst (Beats inner x) (sym (mod-mul-add copy inner.labels y y_low)) beats);
+          (subst (Dominates inner x) (sym (mod-mul-add copy inner.labels y y_low)) beats);
       leaders = λ pebble below. omega (arith, fewer, below);
       apart = λ pebble other below other_below one. one;
     })
@@ -440,7 +440,7 @@ lasts_on_part outer inner board depth copy piece product fewer is_copy is_piece 
       labels = λ n low. label_in outer inner board n piece product low is_piece;
       beats = λ x y x_low y_low beats. (reply outer inner board x piece product x_low is_piece).between
           (y * inner.labels + piece) (label_in outer inner board y piece product y_low is_piece)
-          (subst (Beats outer x) (sym (div-mul-add y inner.labels piece is_piece)) beats);
+          (subst (Dominates outer x) (sym (div-mul-add y inner.labels piece is_piece)) beats);
       leaders = λ pebble below. omega (arith, fewer, below);
       apart = λ pebble other below other_below one. one;
     })

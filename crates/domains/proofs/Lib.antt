@@ -1,3 +1,4 @@
+mod BothVersions
 mod BothWays
 mod Choices
 mod Circles

@@ -5,7 +5,7 @@ use Rattle.std.specs.Prelude.{All}
 use Rattle.std.proofs.lemmas.Bool.{cases_lt, cases_eq}
 use Rattle.std.proofs.lemmas.List.{length-set}
 use Rattle.std.proofs.lemmas.List.Elements.{All-set, All-get_or}
-use Rattle.board_text.specs.PlainBoard.{PlainBoard, Beats}
+use Rattle.board_text.specs.PlainBoard.{PlainBoard, Dominates}
 use Rattle.positions.specs.Game.{Legal, LabellerTree, moved}
 use Rattle.domains.specs.Lowest.{HasLowest}
 use Rattle.domains.specs.Agreement.{AgreeBut}
@@ -27,7 +27,7 @@ to_lowest domain board (suc depth) configuration has long all tree =
               | inl held ↦ (has.others answer.0 place answer.1.is_label held).0
                   (answer.1.dominates other (omega (arith, has.pebbles, other_below)) differs held)
               | inr none ↦ let lowest : domain.labels ≡ place = omega (arith, none, low, has.labels) in subst
-                  (Beats board answer.0) lowest (has.beaten answer.0 answer.1.is_label)
+                  (Dominates board answer.0) lowest (has.beaten answer.0 answer.1.is_label)
             ];
       },
       to_lowest domain board depth (moved configuration pebble answer.0) has
@@ -53,7 +53,7 @@ from_lowest domain board (suc depth) configuration has two long all tree =
       | inl low ↦ low
       | inr high ↦ let lowest : answer.0 ≡ domain.labels = omega (arith, high, answer.1.is_label, has.labels) in
           absurd (has.beats_none (get_or configuration other.0 0)
-          (subst (λ n. Beats board n (get_or configuration other.0 0)) lowest beats))
+          (subst (λ n. Dominates board n (get_or configuration other.0 0)) lowest beats))
     ] in (
       answer.0,
       record {
@@ -80,7 +80,7 @@ pub legal_elsewhere : (board : PlainBoard) (first second : List ℕ) (pebble lab
 legal_elsewhere board first second pebble label agree legal = record {
   is_label = legal.is_label;
   dominates = λ other below differs low.
-      subst (Beats board label) (agree.others other differs)
+      subst (Dominates board label) (agree.others other differs)
       (legal.dominates other below differs
       (subst (λ n. n < board.labels) (sym (agree.others other differs)) low));
 }

@@ -6,13 +6,13 @@ use Rattle.std.proofs.lemmas.Bool.{cases_eq, eq-eqb, ne_eqb}
 use Rattle.std.proofs.lemmas.List.{length-replicate, length-set}
 use Rattle.std.proofs.lemmas.Grind.{get_or-set_at}
 use Rattle.std.proofs.lemmas.List.Elements.{All-contains, All-get_or, All-replicate, All-cons, All-nil}
-use Rattle.board_text.specs.PlainBoard.{PlainBoard, Beats}
+use Rattle.board_text.specs.PlainBoard.{PlainBoard, Dominates}
 use Rattle.positions.specs.Game.{LabellerTree, moved}
 use Rattle.nested_cycles.proofs.Cited.{contains_none, contains_here, contains_later, contains_cases}
 use Rattle.positions.proofs.Cited.{each_or_some}
 use Rattle.positions.specs.Value.{HasValue}
 use Rattle.positions.specs.declared.value.Value.TheVariants.{Forever}
-use Rattle.domains.specs.Cycles.{AreBeaten}
+use Rattle.domains.specs.Cycles.{HaveDominators}
 use Rattle.domains.specs.Dominated.{IsHeld}
 use Rattle.domains.proofs.TwoPebbles.{beaten_last}
 
@@ -77,7 +77,7 @@ record Rises (board : PlainBoard) (from depth : ℕ) : Type 0 where
   at : ℕ → ℕ
   start : at 0 ≡ from
   low : (t : ℕ) → t ≤ depth → at t < board.labels
-  beats : (t : ℕ) → t < depth → Beats board (at (suc t)) (at t)
+  beats : (t : ℕ) → t < depth → Dominates board (at (suc t)) (at t)
 
 abbrev shifted : ℕ → (ℕ → ℕ) → ℕ → ℕ
 shifted from at zero = from
@@ -105,7 +105,7 @@ rises board (suc depth) configuration asked other long asked_below other_below d
       at = shifted first more.at;
       start = refl;
       low = low first held more.at more.low;
-      beats = beats first more.at (subst (λ n. Beats board n first) (sym (more.start ∙ there))
+      beats = beats first more.at (subst (λ n. Dominates board n first) (sym (more.start ∙ there))
           (answer.1.dominates other other_below (λ one. differ (sym one)) held)) more.beats;
     }
   where
@@ -114,9 +114,9 @@ rises board (suc depth) configuration asked other long asked_below other_below d
     low first is at lows zero below = is
     low first is at lows (suc t) below = lows t (omega (arith, below))
 
-    beats : (first : ℕ) (at : ℕ → ℕ) → Beats board (at 0) first
-        → ((t : ℕ) → t < depth → Beats board (at (suc t)) (at t)) → (t : ℕ) → t < suc depth
-        → Beats board (shifted first at (suc t)) (shifted first at t)
+    beats : (first : ℕ) (at : ℕ → ℕ) → Dominates board (at 0) first
+        → ((t : ℕ) → t < depth → Dominates board (at (suc t)) (at t)) → (t : ℕ) → t < suc depth
+        → Dominates board (shifted first at (suc t)) (shifted first at t)
     beats first at here later zero below = here
     beats first at here later (suc t) below = later t (omega (arith, below))
 
@@ -154,7 +154,7 @@ all_row P at first (suc count) each = All-cons P (at first) (row at (suc first) 
 
 pub on_a_cycle : (board : PlainBoard) (configuration : List ℕ) → board.pebbles ≡ 2 → length configuration ≡ 2
     → get_or configuration 1 0 < board.labels
-    → LabellerTree board board.labels configuration → (labels : List ℕ) × (0 < length labels) × AreBeaten board labels
+    → LabellerTree board board.labels configuration → (labels : List ℕ) × (0 < length labels) × HaveDominators board labels
 on_a_cycle board configuration two long held tree =
     let up = rises board board.labels configuration 0 1 (long ∙ sym two) (omega (arith, two)) (omega (arith, two))
     (λ one. omega (arith, one)) held tree in
@@ -168,7 +168,7 @@ on_a_cycle board configuration two long held tree =
             (λ t below. up.low t (omega (arith, below, found.before, found.inside)));
         each = λ label has.
             let here = from_row up.at found.first count label has in
-            let beats = subst (Beats board (up.at (suc here.0))) here.3
+            let beats = subst (Dominates board (up.at (suc here.0))) here.3
             (up.beats here.0 (omega (arith, here.2, found.before, found.inside))) in
             elim (cases_eq (suc here.0) found.second) [
               | inl end ↦
@@ -176,7 +176,7 @@ on_a_cycle board configuration two long held tree =
                     up.at found.first,
                     in_row up.at found.first count found.first (omega arith)
                         (omega (arith, found.before)),
-                    subst (λ n. Beats board n label) again beats,
+                    subst (λ n. Dominates board n label) again beats,
                   )
               | inr on ↦ (
                 up.at (suc here.0),
@@ -200,7 +200,7 @@ first_of (label ∷ labels) some = (label, contains_here label labels)
 
 pub exactly_on_cycles : (board : PlainBoard) → board.pebbles ≡ 2
     → ((configuration : List ℕ) × IsHeld board configuration × HasValue board configuration Forever)
-    ↔ ((labels : List ℕ) × (0 < length labels) × AreBeaten board labels)
+    ↔ ((labels : List ℕ) × (0 < length labels) × HaveDominators board labels)
 exactly_on_cycles board two = (
   λ start.
       let held = All-get_or (λ place. place < board.labels) start.0 1 0 (omega (arith, start.1.0, two)) start.1.1 in

@@ -6,7 +6,7 @@ use Rattle.std.proofs.lemmas.Bool.{cases_lt, cases_eq}
 use Rattle.std.proofs.lemmas.List.{get_or-set_other, length-set}
 use Rattle.std.proofs.lemmas.Grind.{get_or-set_at}
 use Rattle.std.proofs.lemmas.Nat.{pow_pos}
-use Rattle.board_text.specs.PlainBoard.{PlainBoard, Beats, IsAntisymmetric}
+use Rattle.board_text.specs.PlainBoard.{PlainBoard, Dominates, IsAntisymmetric}
 use Rattle.positions.specs.Game.{Legal, moved}
 use Rattle.positions.specs.Value.{HasValue}
 use Rattle.positions.specs.declared.value.Value.{Value}
@@ -70,7 +70,7 @@ module _ (board : PlainBoard) (count : ℕ) (at : ℕ → ℕ) (Good : List ℕ 
   record Rests (beating : ℕ) (c : List ℕ) : Type 0 where
     good : Good c
     stays : get_or c (at idle) 0 ≡ label
-    beat : (q : ℕ) → q < beating → Beats board (get_or c (others q) 0) label
+    beat : (q : ℕ) → q < beating → Dominates board (get_or c (others q) 0) label
 
   beyond_below : (q : ℕ) → q < count → beyond idle q < suc count
   beyond_below q below =
@@ -108,16 +108,16 @@ module _ (board : PlainBoard) (count : ℕ) (at : ℕ → ℕ) (Good : List ℕ 
           let here : get_or (moved c (others q) answer) (others r) 0 ≡ answer
           = get_or-set_at c (others q) (others r) answer 0 (subst (λ n. others r ≡ others n) same refl)
           (omega (arith, last.long c rests.good, last.pebbles (beyond idle q) (beyond_below q below))) in
-          let beats : Beats board answer (get_or c (at idle) 0)
+          let beats : Dominates board answer (get_or c (at idle) 0)
           = legal.dominates (at idle) (last.pebbles idle idle_below) (idle_apart q below)
           (last.held c rests.good idle idle_below) in
-          subst (λ n. Beats board n label) (sym here) (subst (Beats board answer) rests.stays beats)
+          subst (λ n. Dominates board n label) (sym here) (subst (Dominates board answer) rests.stays beats)
       | inr differs ↦
           let old : r < before = those r r_beating differs in
           let here : get_or (moved c (others q) answer) (others r) 0 ≡ get_or c (others r) 0
           = get_or-set_other c (others q) (others r) answer 0
           (λ one. differs (others_apart r q (omega (arith, old, before_few)) below one)) in
-          subst (λ n. Beats board n label) (sym here) (rests.beat r old)
+          subst (λ n. Dominates board n label) (sym here) (rests.beat r old)
     ];
   }
 
@@ -153,7 +153,7 @@ module _ (board : PlainBoard) (count : ℕ) (at : ℕ → ℕ) (Good : List ℕ 
 
   -- labels that the others used are used, and beat the label
   used_by_others : (answer : ℕ) → Used board count others (Rests count) answer
-      → Used board (suc count) at Good answer × Beats board answer label
+      → Used board (suc count) at Good answer × Dominates board answer label
   used_by_others answer used = (
     record {
       low = used.low;
@@ -163,7 +163,7 @@ module _ (board : PlainBoard) (count : ℕ) (at : ℕ → ℕ) (Good : List ℕ 
       below = beyond_below used.by used.below;
       holds = used.holds;
     },
-    subst (λ n. Beats board n label) used.holds (used.good.beat used.by used.below),
+    subst (λ n. Dominates board n label) used.holds (used.good.beat used.by used.below),
   )
 
 -- ---- the labels in used are counted
@@ -171,7 +171,7 @@ module _ (board : PlainBoard) (count : ℕ) (at : ℕ → ℕ) (Good : List ℕ 
 module _ (board : PlainBoard) (one_way : IsAntisymmetric board) (Use : ℕ → Type 0)
     (use_or_not : (label : ℕ) → IsDecided (Use label)) where
   abbrev Both : ℕ → ℕ → Type 0
-  Both x y = Use x × Use y × Beats board x y
+  Both x y = Use x × Use y × Dominates board x y
 
   both_or_not : (x y : ℕ) → IsDecided (Both x y)
   both_or_not x y =
@@ -250,7 +250,7 @@ twice_power count = omega arith
 abbrev NeedsFewer : PlainBoard → ℕ → (ℕ → ℕ) → (List ℕ → Type 0) → Type 0
 NeedsFewer board count at Good =
     (label : ℕ) → Used board (suc count) at Good label → (weight : ℕ → ℕ)
-    → ((answer : ℕ) → Used board (suc count) at Good answer → Beats board answer label → 1 ≤ weight answer)
+    → ((answer : ℕ) → Used board (suc count) at Good answer → Dominates board answer label → 1 ≤ weight answer)
     → 2 ^ count ≤ suc (total weight board.labels)
 
 -- if it is decided which labels are in used

@@ -7,7 +7,7 @@ use Rattle.std.specs.Prelude.{Contains}
 use Rattle.std.proofs.lemmas.Bool.{cases_eq}
 use Rattle.std.proofs.lemmas.List.{get_or-replicate, length-replicate}
 use Rattle.std.proofs.lemmas.List.Elements.{All-replicate}
-use Rattle.board_text.specs.PlainBoard.{PlainBoard, plain_board, AreLabels, Beats}
+use Rattle.board_text.specs.PlainBoard.{PlainBoard, plain_board, AreLabels, Dominates}
 use Rattle.positions.specs.Game.{LabellerTree}
 use Rattle.positions.specs.Value.{HasValue}
 use Rattle.positions.specs.declared.value.Value.TheVariants.{Forever}
@@ -70,7 +70,7 @@ splits count x y = (
 
 -- each label of the three-cycle dominates just the one before it
 one_step : (board : PlainBoard) → IsCircle 3 (1 ∷ []) board → (x y : ℕ) → x < 3 → y < 3
-    → Beats board x y ↔ (x ≡ (y + 1) % 3)
+    → Dominates board x y ↔ (x ≡ (y + 1) % 3)
 one_step board circle x y x_low y_low = (
   λ beats. elim (contains_cases 1 [] ((x + 3 - y) % 3) ((circle.beats x y x_low y_low).0 beats)) [
     | inl one ↦ omega (arith, one, x_low, y_low)
@@ -95,12 +95,12 @@ wins_nested count cycle inner circle of_inner x y x_low y_low =
       subst (λ n. x % 3 ^ count < n) (sym size) (mod-lt x some),
       subst (λ n. y % 3 ^ count < n) (sym size) (mod-lt y some),
     ) in
-    let within = subst (λ (n : ℕ). Beats inner (x % 3 ^ count) (y % 3 ^ count)
+    let within = subst (λ (n : ℕ). Dominates inner (x % 3 ^ count) (y % 3 ^ count)
     ↔ WordDominates (word_of n (x % 3 ^ count)) (word_of n (y % 3 ^ count))) inner_digits
     (of_inner.beats (x % 3 ^ count) (y % 3 ^ count) parts) in
     let between = one_step cycle circle (x / 3 ^ count) (y / 3 ^ count) x_copy y_copy in
     let words = splits count x y in
-    subst (λ (n : ℕ). (Beats cycle (x / n) (y / n) ⊎ ((x / n ≡ y / n) × Beats inner (x % n) (y % n)))
+    subst (λ (n : ℕ). (Dominates cycle (x / n) (y / n) ⊎ ((x / n ≡ y / n) × Dominates inner (x % n) (y % n)))
     ↔ WordDominates (word_of (suc count) x) (word_of (suc count) y)) (sym size) (
       λ says. words.1 (elim says [
         | inl beats ↦ inl (between.0 beats)
@@ -126,7 +126,7 @@ nested_is_product count cycle inner board circle of_inner of_board =
           ∙ ap (λ (n : ℕ). cycle.labels * n) (sym size));
       some = omega (arith, size, some);
       beats = λ x y x_low y_low.
-          let nested = subst (λ (n : ℕ). Beats board x y ↔ WordDominates (word_of n x) (word_of n y)) digits
+          let nested = subst (λ (n : ℕ). Dominates board x y ↔ WordDominates (word_of n x) (word_of n y)) digits
           (of_board.beats x y (x_low, y_low)) in
           let wins = wins_nested count cycle inner circle of_inner x y (subst (λ n. x < n) labels x_low)
           (subst (λ n. y < n) labels y_low) in
@@ -147,7 +147,7 @@ product_is_nested count cycle inner board circle of_inner product pebbles =
     record {
       labels = labels ∙ (sym (pow-succ' 3 count) ∙ ap (λ (n : ℕ). 3 ^ n) (sym digits));
       pebbles = omega (arith, pebbles);
-      beats = λ x y are. subst (λ (n : ℕ). Beats board x y ↔ WordDominates (word_of n x) (word_of n y)) (sym digits)
+      beats = λ x y are. subst (λ (n : ℕ). Dominates board x y ↔ WordDominates (word_of n x) (word_of n y)) (sym digits)
           (let wins = wins_nested count cycle inner circle of_inner x y (subst (λ n. x < n) labels are.0)
           (subst (λ n. y < n) labels are.1) in
           let beats = product.beats x y are.0 are.1 in

@@ -11,7 +11,7 @@ use Rattle.std.proofs.lemmas.List.Elements.{All-set, All-contains, All-from_get_
 use Rattle.std.proofs.lemmas.List.Elements.{All-replicate, All-map, All-filter, All-take, All-drop}
 use Rattle.std.proofs.lemmas.List.Elements.{Contains-append_left, Contains-get_or}
 use Rattle.std.proofs.lemmas.List.Filters.{length-filter_both}
-use Rattle.board_text.specs.PlainBoard.{PlainBoard, Beats}
+use Rattle.board_text.specs.PlainBoard.{PlainBoard, Dominates}
 use Rattle.positions.specs.Game.{LabellerTree, moved}
 use Rattle.nested_cycles.specs.NestedGame.{other_words}
 use Rattle.nested_cycles.proofs.Cited.{contains_none, contains_here, contains_later, contains_cases, contains_map}
@@ -40,7 +40,7 @@ kept test (y ∷ xs) x has passes =
 dominated_few : (board : PlainBoard) (count : ℕ) (labels : List ℕ) → AreDominated board count → 0 < board.labels
     → length labels ≤ count
     → All (λ label. label < board.labels) labels → (label : ℕ) × (label < board.labels)
-    × ((other : ℕ) → Contains labels other → Beats board label other)
+    × ((other : ℕ) → Contains labels other → Dominates board label other)
 dominated_few board count labels dominated some few all =
     let more = replicate (count - length labels) 0 in
     let found = dominated (labels ++ more)
@@ -49,7 +49,7 @@ dominated_few board count labels dominated some few all =
     (All-replicate (λ label. label < board.labels) (count - length labels) 0 some)) in (
       found.0,
       found.1,
-      λ other has. All-contains (λ n. Beats board found.0 n) (labels ++ more) other found.2
+      λ other has. All-contains (λ n. Dominates board found.0 n) (labels ++ more) other found.2
           (Contains-append_left labels more other has),
     )
 
@@ -57,12 +57,12 @@ dominated_few board count labels dominated some few all =
 
 pub between : (outer inner board : PlainBoard) → IsProduct outer inner board → (x y : ℕ) → x < board.labels
     → y < board.labels
-    → Beats outer (x / inner.labels) (y / inner.labels) → Beats board x y
+    → Dominates outer (x / inner.labels) (y / inner.labels) → Dominates board x y
 between outer inner board product x y x_low y_low beats = (product.beats x y x_low y_low).1 (inl beats)
 
 pub within : (outer inner board : PlainBoard) → IsProduct outer inner board → (x y : ℕ) → x < board.labels
     → y < board.labels
-    → x / inner.labels ≡ y / inner.labels → Beats inner (x % inner.labels) (y % inner.labels) → Beats board x y
+    → x / inner.labels ≡ y / inner.labels → Dominates inner (x % inner.labels) (y % inner.labels) → Dominates board x y
 within outer inner board product x y x_low y_low same beats = (product.beats x y x_low y_low).1 (inr (same, beats))
 
 -- ---- one request
@@ -74,7 +74,7 @@ record Answer (outer inner board : PlainBoard) (others : List ℕ) : Type 0 wher
   label : ℕ
   is_label : label < board.labels
   in_copy : label / inner.labels ≡ copy
-  beats : (other : ℕ) → Contains others other → Beats board label other
+  beats : (other : ℕ) → Contains others other → Dominates board label other
   below : IsBelowCopy outer inner copy others
 
 -- whether the label is in the copy
@@ -109,9 +109,9 @@ from_another outer inner board count copy others product dominated is_copy all c
     let label = found.0 * inner.labels + 0 in
     let is_label = label_in outer inner board found.0 0 product found.1 product.some in
     let in_copy : label / inner.labels ≡ found.0 = div-mul-add found.0 inner.labels 0 product.some in
-    let copy_below : (other : ℕ) → Contains others other → Beats outer found.0 (other / inner.labels)
+    let copy_below : (other : ℕ) → Contains others other → Dominates outer found.0 (other / inner.labels)
     = λ other has. elim (cases_eq (other / inner.labels) copy) [
-      | inl same ↦ subst (Beats outer found.0) (sym same)
+      | inl same ↦ subst (Dominates outer found.0) (sym same)
           (found.2 copy (contains_here copy (map (λ label. label / inner.labels) outside)))
       | inr differs ↦ found.2 (other / inner.labels)
           (contains_later copy (map (λ label. label / inner.labels) outside) (other / inner.labels)
@@ -126,7 +126,7 @@ from_another outer inner board count copy others product dominated is_copy all c
       in_copy = in_copy;
       beats = λ other has. between outer inner board product label other is_label
           (All-contains (λ n. n < board.labels) others other all has)
-          (subst (λ c. Beats outer c (other / inner.labels)) (sym in_copy) (copy_below other has));
+          (subst (λ c. Dominates outer c (other / inner.labels)) (sym in_copy) (copy_below other has));
       below = λ place d inside. inr (copy_below (get_or others place d) (Contains-get_or others place d inside));
     }
 
@@ -156,13 +156,13 @@ from_within outer inner board count copy others product dominated is_copy all be
           let is_other = All-contains (λ n. n < board.labels) others other all has in
           elim (cases_eq (other / inner.labels) copy) [
             | inl same ↦ within outer inner board product label other is_label is_other (in_copy ∙ sym same)
-                (subst (λ n. Beats inner n (other % inner.labels)) (sym part) (found.2 (other % inner.labels)
+                (subst (λ n. Dominates inner n (other % inner.labels)) (sym part) (found.2 (other % inner.labels)
                 (contains_map (λ label. label % inner.labels) inside other
                 (kept (in_it inner copy) others other has (eq-eqb (other / inner.labels) copy same)))))
             | inr differs ↦ between outer inner board product label other is_label is_other
-                (subst (λ c. Beats outer c (other / inner.labels)) (sym in_copy)
+                (subst (λ c. Dominates outer c (other / inner.labels)) (sym in_copy)
                 (elim (All-contains (λ n. (n / inner.labels ≡ copy)
-                ⊎ Beats outer copy (n / inner.labels)) others other below has) [
+                ⊎ Dominates outer copy (n / inner.labels)) others other below has) [
                   | inl same ↦ absurd (differs same)
                   | inr beats ↦ beats
                 ]))
@@ -193,11 +193,11 @@ others_below : (outer inner : PlainBoard) (copy : ℕ) (configuration : List ℕ
     → IsBelowCopy outer inner copy configuration
     → IsBelowCopy outer inner copy (other_words pebble configuration)
 others_below outer inner copy configuration pebble below =
-    All-append (λ label. (label / inner.labels ≡ copy) ⊎ Beats outer copy (label / inner.labels))
+    All-append (λ label. (label / inner.labels ≡ copy) ⊎ Dominates outer copy (label / inner.labels))
     (take pebble configuration) (drop (pebble + 1) configuration)
     (All-take (λ label. (label / inner.labels ≡ copy)
-    ⊎ Beats outer copy (label / inner.labels)) pebble configuration below)
-    (All-drop (λ label. (label / inner.labels ≡ copy) ⊎ Beats outer copy (label / inner.labels))
+    ⊎ Dominates outer copy (label / inner.labels)) pebble configuration below)
+    (All-drop (λ label. (label / inner.labels ≡ copy) ⊎ Dominates outer copy (label / inner.labels))
     (pebble + 1) configuration below)
 
 copies_inside : (outer inner board : PlainBoard) (labels : List ℕ) → IsProduct outer inner board
@@ -239,19 +239,19 @@ product_lasts outer inner board outer_count inner_count
           )
           found.is_copy
           (All-from_get_or (λ label. (label / inner.labels ≡ found.copy)
-          ⊎ Beats outer found.copy (label / inner.labels)) (set configuration pebble found.label) 0
+          ⊎ Dominates outer found.copy (label / inner.labels)) (set configuration pebble found.label) 0
           (λ place place_inside. let there : place < length configuration = omega
           (arith, length-set configuration pebble found.label, place_inside) in
           elim (cases_eq place pebble) [
             | inl same ↦ subst (λ n. (get_or (set configuration pebble found.label) n 0 / inner.labels ≡ found.copy)
-                ⊎ Beats outer found.copy (get_or (set configuration pebble found.label) n 0 / inner.labels))
+                ⊎ Dominates outer found.copy (get_or (set configuration pebble found.label) n 0 / inner.labels))
                 (sym same)
                 (inl (ap (λ n. n / inner.labels) (get_or-set_same configuration pebble found.label 0 inside)
                 ∙ found.in_copy))
-            | inr differs ↦ subst (λ l. (l / inner.labels ≡ found.copy) ⊎ Beats outer found.copy (l / inner.labels))
+            | inr differs ↦ subst (λ l. (l / inner.labels ≡ found.copy) ⊎ Dominates outer found.copy (l / inner.labels))
                 (sym (get_or-set_other configuration pebble place found.label 0 differs))
                 (All-contains (λ label. (label / inner.labels ≡ found.copy)
-                ⊎ Beats outer found.copy (label / inner.labels)) others (get_or configuration place 0) found.below
+                ⊎ Dominates outer found.copy (label / inner.labels)) others (get_or configuration place 0) found.below
                 (in_others configuration pebble place there differs))
           ])),
     )

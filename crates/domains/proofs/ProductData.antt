@@ -4,7 +4,7 @@ use Rattle.std.specs.Prelude.{Contains}
 use Rattle.std.proofs.lemmas.Bool.{cases_eq}
 use Rattle.std.proofs.lemmas.List.Elements.{All-contains, All-weaker}
 use Rattle.std.proofs.lemmas.Nat.{row_fits}
-use Rattle.board_text.specs.PlainBoard.{PlainBoard, plain_board, AreLabels, ArePairs, Beats, IsAntisymmetric}
+use Rattle.board_text.specs.PlainBoard.{PlainBoard, plain_board, AreLabels, ArePairs, Dominates, IsAntisymmetric}
 use Rattle.nested_cycles.proofs.Cited.{same_pairs}
 use Rattle.positions.proofs.Cited.{beats_or_not}
 use Rattle.domains.specs.Products.{IsProduct}
@@ -18,7 +18,7 @@ pub record HasRule (labels : ℕ) (Rule : ℕ → ℕ → Type 0) (pebbles : ℕ
   pub labels_are : board.labels ≡ labels
   pub pebbles_are : board.pebbles ≡ pebbles
   pub start_is : board.start ≡ start
-  pub beats : (x y : ℕ) → x < labels → y < labels → Beats board x y ↔ Rule x y
+  pub beats : (x y : ℕ) → x < labels → y < labels → Dominates board x y ↔ Rule x y
   pub pairs : ((x y : ℕ) → Rule x y → Rule y x → ⊥) → ArePairs board.labels board.pairs
 
 all_places : (labels : ℕ) (pair : ℕ × ℕ) → AreLabels labels pair → pair.0 * labels + pair.1 < labels * labels
@@ -53,8 +53,8 @@ rule_board labels Rule pebbles start decided =
 
 abbrev pub Wins : PlainBoard → PlainBoard → ℕ → ℕ → Type 0
 Wins outer inner x y =
-    Beats outer (x / inner.labels) (y / inner.labels)
-    ⊎ ((x / inner.labels ≡ y / inner.labels) × Beats inner (x % inner.labels) (y % inner.labels))
+    Dominates outer (x / inner.labels) (y / inner.labels)
+    ⊎ ((x / inner.labels ≡ y / inner.labels) × Dominates inner (x % inner.labels) (y % inner.labels))
 
 wins_or_not : (outer inner : PlainBoard) (x y : ℕ) → Wins outer inner x y ⊎ (Wins outer inner x y → ⊥)
 wins_or_not outer inner x y =
@@ -75,10 +75,10 @@ one_way : (outer inner : PlainBoard) → IsAntisymmetric outer → IsAntisymmetr
 one_way outer inner outer_one inner_one x y (inl there) (inl back) =
     outer_one (x / inner.labels) (y / inner.labels) there back
 one_way outer inner outer_one inner_one x y (inl there) (inr back) =
-    let itself = subst (λ n. Beats outer (x / inner.labels) n) back.0 there in
+    let itself = subst (λ n. Dominates outer (x / inner.labels) n) back.0 there in
     outer_one (x / inner.labels) (x / inner.labels) itself itself
 one_way outer inner outer_one inner_one x y (inr there) (inl back) =
-    let itself = subst (λ n. Beats outer (y / inner.labels) n) there.0 back in
+    let itself = subst (λ n. Dominates outer (y / inner.labels) n) there.0 back in
     outer_one (y / inner.labels) (y / inner.labels) itself itself
 one_way outer inner outer_one inner_one x y (inr there) (inr back) =
     inner_one (x % inner.labels) (y % inner.labels) there.1 back.1
@@ -112,7 +112,7 @@ product_exists outer inner pebbles start some outer_one inner_one =
 pub products_agree : (outer inner first second : PlainBoard) → IsProduct outer inner first
     → IsProduct outer inner second
     → (first.labels ≡ second.labels)
-    × ((x y : ℕ) → x < first.labels → y < first.labels → Beats first x y ↔ Beats second x y)
+    × ((x y : ℕ) → x < first.labels → y < first.labels → Dominates first x y ↔ Dominates second x y)
 products_agree outer inner first second one other =
     let labels : first.labels ≡ second.labels = omega (arith, one.labels, other.labels) in (
       labels,

@@ -9,7 +9,7 @@ use Rattle.std.proofs.lemmas.Bool.{cases_lt, cases_eq}
 use Rattle.std.proofs.lemmas.List.{get_or-set_other, length-set, length-replicate}
 use Rattle.std.proofs.lemmas.List.FromFn.{get_or-map-range_with_len, length-map-range_with_len}
 use Rattle.std.proofs.lemmas.Grind.{get_or-set_at}
-use Rattle.board_text.specs.PlainBoard.{PlainBoard, Beats, IsAntisymmetric}
+use Rattle.board_text.specs.PlainBoard.{PlainBoard, Dominates, IsAntisymmetric}
 use Rattle.positions.specs.Game.{Legal, AdversaryTree, moved}
 use Rattle.positions.specs.Value.{HasValue}
 use Rattle.positions.specs.declared.value.Value.{Value}
@@ -58,7 +58,7 @@ module _ (outer inner board : PlainBoard) (one_way : IsAntisymmetric outer) (pro
 
   -- the copy is the other one or beats it
   abbrev Covers : ℕ → ℕ → Type 0
-  Covers copy other = (copy ≡ other) ⊎ Beats outer copy other
+  Covers copy other = (copy ≡ other) ⊎ Dominates outer copy other
 
   -- different numbers have different pebbles
   record AreNumbered (at : ℕ → ℕ) : Type 0 where
@@ -100,13 +100,13 @@ module _ (outer inner board : PlainBoard) (one_way : IsAntisymmetric outer) (pro
   beats_within : (held : List ℕ) (pebble label other : ℕ) → AreHeld board board.pebbles held
       → Legal board held pebble label → other < board.pebbles → other ≢ pebble
       → label / inner.labels ≡ copy_of held other
-      → Beats inner (label % inner.labels) (part_of held other)
+      → Dominates inner (label % inner.labels) (part_of held other)
   beats_within held pebble label other are legal below differs same =
       let low = are.each other below in
       elim ((product.beats label (get_or held other 0) legal.is_label low).0
       (legal.dominates other below differs low)) [
         | inl beats ↦
-            let itself = subst (λ n. Beats outer n (copy_of held other)) same beats in
+            let itself = subst (λ n. Dominates outer n (copy_of held other)) same beats in
             absurd (one_way (copy_of held other) (copy_of held other) itself itself)
         | inr both ↦ both.1
       ]
@@ -119,7 +119,7 @@ module _ (outer inner board : PlainBoard) (one_way : IsAntisymmetric outer) (pro
         → (answer : Answered board held (at j))
         → ((i : ℕ) → i < outer.pebbles → i ≢ pebble → i ≢ j → get_or c i 0 ≡ copy_of held (at i))
         → (j < outer.pebbles → j ≢ pebble → get_or c j 0 ≡ copy_of held (at pebble))
-        → ((i : ℕ) → i < outer.pebbles → i ≢ pebble → Beats outer (answer.label / inner.labels) (get_or c i 0))
+        → ((i : ℕ) → i < outer.pebbles → i ≢ pebble → Dominates outer (answer.label / inner.labels) (get_or c i 0))
         → Goes c pebble
     relabelled held j j_below are answer others stead beats =
         let copy = answer.label / inner.labels in
@@ -183,15 +183,15 @@ module _ (outer inner board : PlainBoard) (one_way : IsAntisymmetric outer) (pro
       crowd = get_or c q 0
 
       -- a copy that beats the crowd's and covers the others beats the others
-      beats_all : (copy : ℕ) → Beats outer copy crowd
+      beats_all : (copy : ℕ) → Dominates outer copy crowd
           → ((i : ℕ) → i < outer.pebbles → i ≢ pebble → Covers copy (get_or c i 0))
-          → (i : ℕ) → i < outer.pebbles → i ≢ pebble → Beats outer copy (get_or c i 0)
+          → (i : ℕ) → i < outer.pebbles → i ≢ pebble → Dominates outer copy (get_or c i 0)
       beats_all copy over all i below differs =
           elim (all i below differs) [
             | inr beats ↦ beats
             | inl same ↦ elim (covered i below differs) [
-              | inl one ↦ subst (Beats outer copy) one over
-              | inr back ↦ absurd (one_way copy crowd over (subst (Beats outer crowd) (sym same) back))
+              | inl one ↦ subst (Dominates outer copy) one over
+              | inr back ↦ absurd (one_way copy crowd over (subst (Dominates outer crowd) (sym same) back))
             ]
           ]
 
@@ -257,7 +257,7 @@ module _ (outer inner board : PlainBoard) (one_way : IsAntisymmetric outer) (pro
                   | inl own ↦
                       let is : i ≡ q = own ∙ seat_represents k (subst (λ n. n < outer.pebbles) own below)
                       (λ one. differs (own ∙ one)) in
-                      inr (subst (λ n. Beats outer copy (get_or c n 0)) (sym is) leaves)
+                      inr (subst (λ n. Dominates outer copy (get_or c n 0)) (sym is) leaves)
                   | inr other ↦
                       subst (Covers copy) (sym (crowded.others i below differs))
                       (covers held (at (seat k)) answer.label (at i) crowded.are answer.legal
@@ -347,7 +347,7 @@ module _ (outer inner board : PlainBoard) (one_way : IsAntisymmetric outer) (pro
                 let legal : Legal inner e k part = record {
                   is_label = mod-lt answer.label product.some;
                   dominates = λ l below differs low.
-                      subst (Beats inner part) (sym (parts l below))
+                      subst (Dominates inner part) (sym (parts l below))
                       (beats_within held (at (seat k)) answer.label (at (seat l)) crowded.are answer.legal
                       (numbered.below (seat l) (seat_below l below)) (apart l below differs)
                       (stays ∙ sym (crowded.in_it l below)));
@@ -387,7 +387,7 @@ module _ (outer inner board : PlainBoard) (one_way : IsAntisymmetric outer) (pro
         (λ one. differs (r.numbered.apart i pebble (represented_below i i_below) among one))) in
         let apart : (i : ℕ) → i < outer.pebbles → i ≢ pebble → r.at i ≢ r.at pebble = λ i i_below differs one.
         differs (r.numbered.apart i pebble (represented_below i i_below) among one) in
-        elim (each_or_some (λ i. i ≢ pebble → Beats outer copy (get_or c i 0))
+        elim (each_or_some (λ i. i ≢ pebble → Dominates outer copy (get_or c i 0))
         (λ i. (i ≢ pebble) × (copy ≡ get_or c i 0)) outer.pebbles
         (λ i i_below. elim (cases_eq i pebble) [
           | inl same ↦ inl (λ differs. absurd (differs same))

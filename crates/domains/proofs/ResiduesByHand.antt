@@ -2,7 +2,7 @@
 use Rattle.std.proofs.Common.{◌≡◌, ◌<◌, [], ◌∷◌, length, get_or, ◌∙◌, arith}
 use Rattle.std.proofs.lemmas.List.{length-set}
 use Rattle.std.proofs.lemmas.List.Elements.{All-set, All-contains}
-use Rattle.board_text.specs.PlainBoard.{PlainBoard, Beats}
+use Rattle.board_text.specs.PlainBoard.{PlainBoard, Dominates}
 use Rattle.nested_cycles.specs.NestedGame.{other_words}
 use Rattle.nested_cycles.proofs.Cited.{fewer_others, in_others, others_are_labels}
 use Rattle.domains.specs.Circles.{IsCircle}
@@ -21,7 +21,7 @@ held_kept board circle three configuration held pebble below =
       found.0,
       record {
         is_label = found.1;
-        dominates = λ other other_below differs low. All-contains (λ n. Beats board found.0 n) others
+        dominates = λ other other_below differs low. All-contains (λ n. Dominates board found.0 n) others
             (get_or configuration other 0) found.2
             (in_others configuration pebble other (omega (arith, held.0, other_below)) differs);
       },

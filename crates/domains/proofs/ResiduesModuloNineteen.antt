@@ -4,7 +4,7 @@ use Rattle.std.proofs.Common.{subst, arith, inl, inr}
 use Rattle.std.specs.Prelude.{Contains, cond, eqb}
 use Rattle.std.proofs.lemmas.Bool.{cases_eq, both_ways, eqb-false, eqb-true}
 use Rattle.std.proofs.lemmas.List.Elements.{All-cons, All-head, All-nil, All-tail}
-use Rattle.board_text.specs.PlainBoard.{PlainBoard, Beats}
+use Rattle.board_text.specs.PlainBoard.{PlainBoard, Dominates}
 use Rattle.nested_cycles.proofs.Cited.{contains_cases, contains_here, contains_later, contains_none}
 use Rattle.domains.specs.Circles.{IsCircle}
 use Rattle.domains.specs.Dominated.{AreDominated}
@@ -159,16 +159,16 @@ nineteen_dominated board circle (x ∷ y ∷ z ∷ []) long all =
     let from_x : (found.0 + 19 - first) % 19 ≡ (label + 19 - x) % 19 = omega (arith, x_low, z_low, found.1) in
     let from_y : (found.0 + 19 - second) % 19 ≡ (label + 19 - y) % 19 = omega (arith, y_low, z_low, found.1) in
     let from_z : found.0 ≡ (label + 19 - z) % 19 = omega (arith, z_low, found.1) in
-    let beats : (other : ℕ) → other < 19 → Contains squares ((label + 19 - other) % 19) → Beats board label other
+    let beats : (other : ℕ) → other < 19 → Contains squares ((label + 19 - other) % 19) → Dominates board label other
     = λ other other_low has. (circle.beats label other low other_low).1 has in (
       label,
       omega (arith, low, circle.labels_are),
-      All-cons (λ other. Beats board label other) x (y ∷ z ∷ [])
+      All-cons (λ other. Dominates board label other) x (y ∷ z ∷ [])
           (beats x x_low (subst (Contains squares) from_x (among squares ((found.0 + 19 - first) % 19) three.1)))
-          (All-cons (λ other. Beats board label other) y (z ∷ [])
+          (All-cons (λ other. Dominates board label other) y (z ∷ [])
           (beats y y_low (subst (Contains squares) from_y (among squares ((found.0 + 19 - second) % 19) three.2)))
-          (All-cons (λ other. Beats board label other) z []
+          (All-cons (λ other. Dominates board label other) z []
           (beats z z_low (subst (Contains squares) from_z (among squares found.0 three.0)))
-          (All-nil (λ other. Beats board label other)))),
+          (All-nil (λ other. Dominates board label other)))),
     )
 nineteen_dominated board circle (x ∷ y ∷ z ∷ fourth ∷ labels) long all = absurd (omega (arith, long))

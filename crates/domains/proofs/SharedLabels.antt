@@ -5,7 +5,7 @@ use Rattle.std.proofs.lemmas.Bool.{cases_lt, cases_eq}
 use Rattle.std.proofs.lemmas.List.{ext_get_or, get_or-replicate, get_or-set_other, length-replicate, length-set}
 use Rattle.std.proofs.lemmas.List.{set_past}
 use Rattle.std.proofs.lemmas.Grind.{get_or-set_at}
-use Rattle.board_text.specs.PlainBoard.{PlainBoard, Beats}
+use Rattle.board_text.specs.PlainBoard.{PlainBoard, Dominates}
 use Rattle.positions.specs.Game.{AdversaryTree, Legal, LabellerTree, moved}
 use Rattle.positions.specs.Value.{HasValue, HasValueAtMost}
 use Rattle.positions.specs.declared.value.Value.TheVariants.{Finite, Forever}
@@ -39,15 +39,15 @@ module _ (board : PlainBoard) (sharing other : ℕ) (sharing_below : sharing < b
     is_label = legal.is_label;
     dominates = λ place below differs low. elim (cases_eq place sharing) [
       | inl same ↦
-          let beats : Beats board label (get_or one other 0)
+          let beats : Dominates board label (get_or one other 0)
           = legal.dominates other other_below (λ is. shares.differ (sym is))
           (subst (λ n. n < board.labels) (sym (shares.agree.others other (λ is. shares.differ (sym is))))
           shares.is_label) in
           let there : get_or one other 0 ≡ get_or both place 0
           = shares.agree.others other (λ is. shares.differ (sym is))
           ∙ (sym shares.shared ∙ subst (λ n. get_or both sharing 0 ≡ get_or both n 0) (sym same) refl) in
-          subst (Beats board label) there beats
-      | inr apart ↦ subst (Beats board label) (shares.agree.others place apart)
+          subst (Dominates board label) there beats
+      | inr apart ↦ subst (Dominates board label) (shares.agree.others place apart)
           (legal.dominates place below apart
           (subst (λ n. n < board.labels) (sym (shares.agree.others place apart)) low))
     ];
@@ -107,10 +107,10 @@ module _ (board : PlainBoard) (sharing other : ℕ) (sharing_below : sharing < b
           let there : get_or one other 0 ≡ get_or both place 0
           = shares.agree.others other (λ is. shares.differ (sym is))
           ∙ (sym shares.shared ∙ subst (λ n. get_or both sharing 0 ≡ get_or both n 0) (sym same) refl) in
-          subst (Beats board label) there
+          subst (Dominates board label) there
           (legal.dominates other other_below (λ is. apart (sym is))
           (subst (λ n. n < board.labels) (sym there) low))
-      | inr not ↦ subst (Beats board label) (shares.agree.others place not)
+      | inr not ↦ subst (Dominates board label) (shares.agree.others place not)
           (legal.dominates place below differs
           (subst (λ n. n < board.labels) (sym (shares.agree.others place not)) low))
     ];

@@ -5,12 +5,12 @@ use Rattle.std.specs.Prelude.{All, Contains}
 use Rattle.std.proofs.lemmas.Bool.{cases_eq}
 use Rattle.std.proofs.lemmas.List.{length-set}
 use Rattle.std.proofs.lemmas.List.Elements.{All-set, All-contains, All-get_or}
-use Rattle.board_text.specs.PlainBoard.{PlainBoard, Beats}
+use Rattle.board_text.specs.PlainBoard.{PlainBoard, Dominates}
 use Rattle.positions.specs.Game.{LabellerTree, moved}
-use Rattle.domains.specs.Cycles.{AreBeaten}
+use Rattle.domains.specs.Cycles.{HaveDominators}
 use Rattle.domains.proofs.Heights.{another}
 
-pub beaten_last : (board : PlainBoard) (labels : List ℕ) (depth : ℕ) (configuration : List ℕ) → AreBeaten board labels
+pub beaten_last : (board : PlainBoard) (labels : List ℕ) (depth : ℕ) (configuration : List ℕ) → HaveDominators board labels
     → board.pebbles ≡ 2
     → length configuration ≡ 2 → All (Contains labels) configuration → LabellerTree board depth configuration
 beaten_last board labels zero configuration beaten two long all = tt
@@ -25,7 +25,7 @@ beaten_last board labels (suc depth) configuration beaten two long all =
         is_label = All-contains (λ label. label < board.labels) labels found.0 beaten.are_labels found.1;
         dominates = λ other other_below differs low.
             elim (cases_eq other rest.0) [
-              | inl same ↦ subst (λ n. Beats board found.0 (get_or configuration n 0)) (sym same) found.2
+              | inl same ↦ subst (λ n. Dominates board found.0 (get_or configuration n 0)) (sym same) found.2
               | inr other_differs ↦ let no : ⊥ = omega
                   (arith, two, other_below, below, rest.1, differs, other_differs, rest.2) in absurd no
             ];

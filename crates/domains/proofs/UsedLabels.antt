@@ -4,7 +4,7 @@ use Rattle.std.proofs.Common.{inl, inr}
 use Rattle.std.proofs.lemmas.Bool.{cases_lt, cases_eq}
 use Rattle.std.proofs.lemmas.Grind.{get_or-set_at}
 use Rattle.std.proofs.lemmas.List.{get_or-map, get_or-set_other, length-map, length-set}
-use Rattle.board_text.specs.PlainBoard.{PlainBoard, Beats}
+use Rattle.board_text.specs.PlainBoard.{PlainBoard, Dominates}
 use Rattle.positions.specs.Game.{moved}
 use Rattle.positions.specs.Value.{HasValue}
 use Rattle.positions.specs.declared.value.Value.TheVariants.{Forever}
@@ -72,7 +72,7 @@ module _ (board part : PlainBoard) (image : ℕ → ℕ) (keeps : KeepsUsed boar
             | inr none ↦ let no : ⊥ = omega (arith, none, low) in absurd no
             | inl held ↦
                 let there : other < board.pebbles = omega (arith, other_below, keeps.pebbles) in
-                subst (Beats part (image answer.0)) (sym held.1)
+                subst (Dominates part (image answer.0)) (sym held.1)
                 (keeps.beats answer.0 (get_or good.c other 0) answer_used
                 (used board good.c other (get_or good.c other 0) good.is.long good.lasts there held.0 refl)
                 (answer.1.dominates other there differs held.0))

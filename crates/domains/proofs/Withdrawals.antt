@@ -3,7 +3,7 @@ use Rattle.std.proofs.Common.{◌↔◌, ℕ, zero, suc, ◌<◌, ◌≤◌, Lis
 use Rattle.std.proofs.lemmas.Bool.{cases_lt, cases_eq}
 use Rattle.std.proofs.lemmas.List.{get_or-set_other, length-set, set_past}
 use Rattle.std.proofs.lemmas.Grind.{get_or-set_at}
-use Rattle.board_text.specs.PlainBoard.{PlainBoard, Beats}
+use Rattle.board_text.specs.PlainBoard.{PlainBoard, Dominates}
 use Rattle.positions.specs.Game.{LabellerTree, Legal, moved}
 use Rattle.domains.specs.Withdrawal.{IsFreed, WithdrawalTree}
 
@@ -14,7 +14,7 @@ freed_legal board held freed pebble label is legal = record {
   is_label = legal.is_label;
   dominates = λ other below differs low. elim (is.each other) [
     | inr none ↦ let no : ⊥ = omega (arith, none, low) in absurd no
-    | inl same ↦ subst (Beats board label) (sym same)
+    | inl same ↦ subst (Dominates board label) (sym same)
         (legal.dominates other below differs (subst (λ n. n < board.labels) same low))
   ];
 }

@@ -1,12 +1,12 @@
 -- Domains on a circle of numbers.
 use Rattle.std.specs.Prelude.{◌≡◌, ◌↔◌, ℕ, ◌+◌, ◌-◌, ◌%◌, ◌<◌, ◌⊎◌, List, [], ◌∷◌, Contains}
-use Rattle.board_text.specs.PlainBoard.{PlainBoard, Beats}
+use Rattle.board_text.specs.PlainBoard.{PlainBoard, Dominates}
 
 -- this many labels, of which one beats another if it is one of these steps ahead of it on a circle
 pub record IsCircle (labels : ℕ) (steps : List ℕ) (board : PlainBoard) : Type 0 where
   pub labels_are : board.labels ≡ labels
   pub beats : (x y : ℕ) → x < labels → y < labels
-      → Beats board x y ↔ Contains steps ((x + labels - y) % labels)
+      → Dominates board x y ↔ Contains steps ((x + labels - y) % labels)
 
 -- the residues modulo seven with three processes, or those modulo nineteen with four
 abbrev pub AreResidues : PlainBoard → Type 0

@@ -1,12 +1,12 @@
 -- Domains in which each short list of labels is dominated.
 use Rattle.std.specs.Prelude.{◌≡◌, ℕ, ◌<◌, List, length, All}
-use Rattle.board_text.specs.PlainBoard.{PlainBoard, Beats}
+use Rattle.board_text.specs.PlainBoard.{PlainBoard, Dominates}
 
 -- each list of this many labels has a label that beats them all
 abbrev pub AreDominated : PlainBoard → ℕ → Type 0
 AreDominated board count =
     (labels : List ℕ) → length labels ≡ count → All (λ label. label < board.labels) labels
-    → (label : ℕ) × (label < board.labels) × All (λ other. Beats board label other) labels
+    → (label : ℕ) × (label < board.labels) × All (λ other. Dominates board label other) labels
 
 -- each pebble holds a label
 abbrev pub IsHeld : PlainBoard → List ℕ → Type 0

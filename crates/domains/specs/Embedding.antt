@@ -1,12 +1,12 @@
 -- A domain within another one, with other names for its labels, and with one process fewer.
 use Rattle.std.specs.Prelude.{◌≡◌, ◌↔◌, ℕ, ◌+◌, ◌<◌, ◌≤◌, ◌⊎◌, List, length, slice_index}
-use Rattle.board_text.specs.PlainBoard.{PlainBoard, Beats}
+use Rattle.board_text.specs.PlainBoard.{PlainBoard, Dominates}
 
 -- the second board has all labels and all pairs of the first, and as many pebbles
 pub record IsWithin (board wider : PlainBoard) : Type 0 where
   pub labels : board.labels ≤ wider.labels
   pub pebbles : wider.pebbles ≡ board.pebbles
-  pub beats : (x y : ℕ) → x < board.labels → y < board.labels → Beats board x y → Beats wider x y
+  pub beats : (x y : ℕ) → x < board.labels → y < board.labels → Dominates board x y → Dominates wider x y
 
 -- each pebble holds a label of the first board, or no label of the second
 pub record IsOnBoth (board wider : PlainBoard) (configuration : List ℕ) : Type 0 where
@@ -25,7 +25,7 @@ pub record IsRenaming (board renamed : PlainBoard) (to back : ℕ → ℕ) : Typ
   pub again : (label : ℕ) → label < board.labels
       → (back label < board.labels) × (to (back label) ≡ label)
   pub beats : (x y : ℕ) → x < board.labels → y < board.labels
-      → Beats board x y ↔ Beats renamed (to x) (to y)
+      → Dominates board x y ↔ Dominates renamed (to x) (to y)
 
 -- each pebble holds the new name of its label, or none as before
 pub record IsRenamed (board : PlainBoard) (to : ℕ → ℕ)

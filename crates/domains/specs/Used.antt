@@ -1,6 +1,6 @@
 -- Labels from which a domain lasts for ever, and boards that keep them.
 use Rattle.std.specs.Prelude.{◌≡◌, ℕ, ◌<◌, replicate}
-use Rattle.board_text.specs.PlainBoard.{PlainBoard, Beats}
+use Rattle.board_text.specs.PlainBoard.{PlainBoard, Dominates}
 use Rattle.positions.specs.Value.{HasValue}
 use Rattle.positions.specs.declared.value.Value.TheVariants.{Forever}
 
@@ -13,5 +13,5 @@ IsUsed board label = (label < board.labels) × HasValue board (replicate board.p
 pub record KeepsUsed (board part : PlainBoard) (image : ℕ → ℕ) : Type 0 where
   pub pebbles : part.pebbles ≡ board.pebbles
   pub labels : (label : ℕ) → IsUsed board label → image label < part.labels
-  pub beats : (x y : ℕ) → IsUsed board x → IsUsed board y → Beats board x y
-      → Beats part (image x) (image y)
+  pub beats : (x y : ℕ) → IsUsed board x → IsUsed board y → Dominates board x y
+      → Dominates part (image x) (image y)

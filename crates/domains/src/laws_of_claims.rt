@@ -1,4 +1,4 @@
-//! The law of claims and documents, the contract of a function without a body.
+//! The laws of claims and documents, each the contract of a function without a body.
 
 ghost use Rattle.std.specs.Prelude.{◌≡◌, ◌↔◌, ◌≤◌};
 ghost use Rattle.board_text.specs.PlainBoard.{PlainBoard, IsConfiguration};
@@ -7,6 +7,8 @@ ghost use Rattle.positions.specs.Ranks.{configurations};
 ghost use Rattle.positions.specs.declared.claim.Claim.{Claim as ClaimData};
 ghost use Rattle.proof_text.specs.Proof.{PlainProof, IsClaim, IsProof};
 ghost use Rattle.proof_text.specs.Rules.{BreaksNoRule};
+ghost use Rattle.class_documents.specs.ClassProof.{IsClassProof};
+ghost use Rattle.class_documents.specs.ClassRules.{BreaksNoClassRule};
 
 use positions::MAX_CONFIGURATIONS;
 
@@ -18,5 +20,18 @@ pub fn claims_hold_where_documents_show_them()
     ensures { (board : PlainBoard) → (claim : ClaimData) → IsConfiguration board board.start
         → configurations board ≤ MAX_CONFIGURATIONS → IsClaim claim → Holds board claim
         ↔ ((proof : PlainProof) × IsProof board proof × BreaksNoRule board proof
+        × (proof.claim ≡ claim)) }
+{}
+
+/// Both versions of the format show the same claims: on a board of at most `MAX_CONFIGURATIONS`
+/// configurations some document with a row for each configuration breaks no rule and makes a claim
+/// exactly if some document with a row for each class does.
+#[tactic(auto, using(crate::proofs::BothVersions::both_versions))]
+pub fn both_versions_show_the_same_claims()
+    ensures { (board : PlainBoard) → (claim : ClaimData)
+        → IsConfiguration board board.start → configurations board ≤ MAX_CONFIGURATIONS
+        → ((proof : PlainProof) × IsProof board proof × BreaksNoRule board proof
+        × (proof.claim ≡ claim))
+        ↔ ((proof : PlainProof) × IsClassProof board proof × BreaksNoClassRule board proof
         × (proof.claim ≡ claim)) }
 {}

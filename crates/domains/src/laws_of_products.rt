@@ -2,7 +2,7 @@
 
 ghost use Rattle.std.specs.Prelude.{◌≡◌, ◌↔◌, ◌⊎◌, ◌+◌, ◌*◌, ◌<◌, ℕ, suc};
 ghost use Rattle.std.specs.Prelude.{All, List, [], ◌∷◌, length, replicate};
-ghost use Rattle.board_text.specs.PlainBoard.{PlainBoard, ArePairs, Beats, IsAntisymmetric};
+ghost use Rattle.board_text.specs.PlainBoard.{PlainBoard, ArePairs, Dominates, IsAntisymmetric};
 ghost use Rattle.positions.specs.Game.{LabellerTree};
 ghost use Rattle.positions.specs.Value.{HasValue};
 ghost use Rattle.positions.specs.declared.value.Value.{Value as ValueData};
@@ -115,7 +115,7 @@ pub fn products_exist()
         → IsProduct outer inner first → IsProduct outer inner second
         → (first.labels ≡ second.labels)
         × ((x : ℕ) → (y : ℕ) → x < first.labels → y < first.labels
-        → Beats first x y ↔ Beats second x y) }
+        → Dominates first x y ↔ Dominates second x y) }
     ensures one { (outer : PlainBoard) → (inner : PlainBoard)
         → (first : PlainBoard) → (second : PlainBoard)
         → IsProduct outer inner first → IsProduct outer inner second

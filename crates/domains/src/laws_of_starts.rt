@@ -7,7 +7,7 @@ ghost use Rattle.board_text.specs.PlainBoard.{PlainBoard, ArePairs, IsAntisymmet
 ghost use Rattle.positions.specs.Game.{LabellerTree};
 ghost use Rattle.positions.specs.Value.{HasValue, HasValueAtMost};
 ghost use Rattle.positions.specs.declared.value.Value.TheVariants.{Finite, Forever};
-ghost use Rattle.domains.specs.Cycles.{AreBeaten};
+ghost use Rattle.domains.specs.Cycles.{HaveDominators};
 ghost use Rattle.domains.specs.Dominated.{AreDominated, IsHeld};
 ghost use Rattle.domains.specs.Orders.{HasHeights, IsChain};
 ghost use Rattle.domains.specs.ValueOrder.{IsWorthAtMost};
@@ -54,16 +54,16 @@ pub fn chains_have_their_value()
 /// labels, and the second pebble holds a label, there are such labels.
 pub fn two_pebbles_last_on_cycles()
     ensures last { (board : PlainBoard) → (labels : List ℕ) → (configuration : List ℕ)
-        → AreBeaten board labels → board.pebbles ≡ 2 → length configuration ≡ 2
+        → HaveDominators board labels → board.pebbles ≡ 2 → length configuration ≡ 2
         → All (Contains labels) configuration → HasValue board configuration Forever }
     ensures only { (board : PlainBoard) → (configuration : List ℕ) → board.pebbles ≡ 2
         → length configuration ≡ 2 → slice_index configuration 1 < board.labels
         → LabellerTree board board.labels configuration
-        → (labels : List ℕ) × (0 < length labels) × AreBeaten board labels }
+        → (labels : List ℕ) × (0 < length labels) × HaveDominators board labels }
     ensures exactly { (board : PlainBoard) → board.pebbles ≡ 2
         → ((configuration : List ℕ) × IsHeld board configuration
         × HasValue board configuration Forever)
-        ↔ ((labels : List ℕ) × (0 < length labels) × AreBeaten board labels) }
+        ↔ ((labels : List ℕ) × (0 < length labels) × HaveDominators board labels) }
 {}
 
 /// Many processes need many labels: a board on which n processes last for ever from some start has

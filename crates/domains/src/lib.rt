@@ -15,7 +15,9 @@ mod solving;
 pub use laws_of_answers::{
     answers_depend_on_others, dominators_are_not_asked, no_label_is_a_lowest_label,
 };
-pub use laws_of_claims::claims_hold_where_documents_show_them;
+pub use laws_of_claims::{
+    both_versions_show_the_same_claims, claims_hold_where_documents_show_them,
+};
 pub use laws_of_followers::{
     exchanged_labels_keep_values, fewer_pebbles_last, followers_last, freed_labels_last,
     renamed_labels_keep_values, shared_labels_count_once, unused_labels_can_go, wider_domains_last,

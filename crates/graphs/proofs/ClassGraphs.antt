@@ -11,7 +11,8 @@ use Rattle.board_text.proofs.Cited.{label_is_place}
 use Rattle.positions.specs.Game.{LabellerTree, moved}
 use Rattle.classes.specs.Classes.{put, class_of, Falls, IsClass}
 use Rattle.classes.specs.Numbers.{ways, class_number}
-use Rattle.classes.specs.ClassGaps.{gap_at, AnswersGap}
+use Rattle.positions.specs.Gaps.{AnswersGap}
+use Rattle.classes.specs.ClassGaps.{gap_at}
 use Rattle.classes.proofs.Cited.{is-below, with-is, with-number, put-none, put-past, put-here, put-is, length-put}
 use Rattle.classes.proofs.Cited.{length-class_of, falls-class_of, put-cancel, place-cancel, class_of-set, class_of-own}
 use Rattle.classes.proofs.Cited.{IsIn, in-put, HasPebble, pebble_of_place, place-below, AreLike, labeller-like}
@@ -265,8 +266,11 @@ module _ (b : PlainBoard) (is : IsBoard b) where
         let own = legal-answers b c p label ok.each_pebble low in (
           λ legal.
               let place = label_is_place b label legal.is_label in
-              (place, struck-there g label i place (subst (λ h. AnswersGap b h label) (sym gap_is) (own.0 legal))),
-          λ has. own.1 (subst (λ h. AnswersGap b h label) gap_is (there-struck g label i has.0 has.1)),
+              record {
+                is_place = place;
+                struck = struck-there g label i place (subst (λ h. AnswersGap b h label) (sym gap_is) (own.0 legal));
+              },
+          λ has. own.1 (subst (λ h. AnswersGap b h label) gap_is (there-struck g label i has.is_place has.struck)),
         );
     after = λ depth label legal.
         let place = label_is_place b label legal.is_label in

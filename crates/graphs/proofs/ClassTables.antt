@@ -5,7 +5,7 @@ use Rattle.board_text.specs.Domination.{has_bit}
 use Rattle.board_text.specs.declared.board.TheConstants.{MAX_LABELS}
 use Rattle.board_text.proofs.Cited.{label_is_place}
 use Rattle.classes.specs.Classes.{put, IsClass}
-use Rattle.classes.specs.ClassGaps.{AnswersGap}
+use Rattle.positions.specs.Gaps.{AnswersGap}
 use Rattle.classes.specs.Numbers.{ways, class_number}
 use Rattle.classes.specs.Rows.{AreGapRows}
 use Rattle.classes.specs.Walks.{GapMembers, TakesMember}
@@ -19,12 +19,12 @@ use Rattle.graphs.proofs.ClassGraphs.{gap-is, struck-there, there-struck}
 -- the answers of a gap are its answers in the graph
 module _ (b : PlainBoard) (is : IsBoard b) (g : ℕ) (i : g < ways (b.pebbles - 1) (places b)) where
   pub answer-of : (v : ℕ) → IsAnswerIn (classes b) g v → AnswersGap b (gap_class b g) v
-  answer-of v is_in = there-struck b is g v i is_in.0 is_in.1
+  answer-of v is_in = there-struck b is g v i is_in.is_place is_in.struck
 
   pub answer-in : (v : ℕ) → AnswersGap b (gap_class b g) v → IsAnswerIn (classes b) g v
   answer-in v answer =
       let place = label_is_place b v answer.is_label in
-      (place, struck-there b is g v i place answer)
+      record { is_place = place; struck = struck-there b is g v i place answer }
 
   -- the row of the gap has the answers as bits
   bits-of-row : (rows : List (List ℕ)) (row : List ℕ) → AreGapRows b (b.pebbles - 1) rows → row ≡ get_or rows g row

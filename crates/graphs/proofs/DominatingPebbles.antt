@@ -7,7 +7,7 @@ use Rattle.std.proofs.lemmas.List.Elements.{All-from_get_or, All-weaker}
 use Rattle.std.proofs.lemmas.List.Folds.{list_any_at, list_any_none}
 use Rattle.std.proofs.lemmas.List.Sums.{AllPass-from_list_all, list_all-from_AllPass}
 use Rattle.std.specs.List.{list_all, remove}
-use Rattle.board_text.specs.PlainBoard.{PlainBoard, Beats, BeatsPlace}
+use Rattle.board_text.specs.PlainBoard.{PlainBoard, Dominates, DominatesPlace}
 use Rattle.positions.specs.Game.{Legal}
 use Rattle.positions.specs.Gaps.{IsDominator}
 use Rattle.positions.proofs.Cited.{beats_or_not}
@@ -29,7 +29,7 @@ pair_test a b e =
     and_true (a.0 == b.0) (a.1 == b.1) (same_is a.0 b.0 (ap (λ (p : ℕ × ℕ). p.0) e))
     (same_is a.1 b.1 (ap (λ (p : ℕ × ℕ). p.1) e))
 
-beats_is : (b : PlainBoard) (x y : ℕ) → (beats b x y ≡ true) ↔ Beats b x y
+beats_is : (b : PlainBoard) (x y : ℕ) → (beats b x y ≡ true) ↔ Dominates b x y
 beats_is b x y = (
   λ e. elim (beats_or_not b x y) [
     | inl found ↦ found
@@ -45,14 +45,14 @@ beats_is b x y = (
       (pair_test (get_or b.pairs found.0 (x, y)) (x, y) found.2),
 )
 
-beats_place_is : (b : PlainBoard) (label place : ℕ) → (beats_place b label place ≡ true) ↔ BeatsPlace b label place
+beats_place_is : (b : PlainBoard) (label place : ℕ) → (beats_place b label place ≡ true) ↔ DominatesPlace b label place
 beats_place_is b label place = elim (cases_lt place b.labels) [
-  | inl held ↦ subst (λ (t : Bool). (not t || beats b label place ≡ true) ↔ BeatsPlace b label place)
+  | inl held ↦ subst (λ (t : Bool). (not t || beats b label place ≡ true) ↔ DominatesPlace b label place)
       (sym (lt-ltb place b.labels held)) (
         λ e _. (beats_is b label place).0 e,
         λ beaten. (beats_is b label place).1 (beaten held),
       )
-  | inr blank ↦ subst (λ (t : Bool). (not t || beats b label place ≡ true) ↔ BeatsPlace b label place)
+  | inr blank ↦ subst (λ (t : Bool). (not t || beats b label place ≡ true) ↔ DominatesPlace b label place)
       (sym (le-ltb place b.labels blank)) (
         λ e held. absurd (omega arith),
         λ beaten. refl,
@@ -69,8 +69,8 @@ is_dominator_is b c p size low =
           let parts = both_true (nat_lt label b.labels) (list_all (beats_place b label) others) e in
           told.1 (record {
             is_label = ltb-true label b.labels parts.0;
-            beats = all-class_of (BeatsPlace b label) others
-                (All-weaker (λ y. beats_place b label y ≡ true) (BeatsPlace b label)
+            dominates = all-class_of (DominatesPlace b label) others
+                (All-weaker (λ y. beats_place b label y ≡ true) (DominatesPlace b label)
                 (λ y h. (beats_place_is b label y).0 h) others
                 (AllPass-from_list_all (beats_place b label) others parts.1));
           }),
@@ -79,8 +79,8 @@ is_dominator_is b c p size low =
           and_true (nat_lt label b.labels) (list_all (beats_place b label) others)
           (lt-ltb label b.labels answer.is_label)
           (list_all-from_AllPass (beats_place b label) others
-          (All-weaker (BeatsPlace b label) (λ y. beats_place b label y ≡ true)
-          (λ y h. (beats_place_is b label y).1 h) others (of-all-class_of (BeatsPlace b label) others answer.beats))),
+          (All-weaker (DominatesPlace b label) (λ y. beats_place b label y ≡ true)
+          (λ y h. (beats_place_is b label y).1 h) others (of-all-class_of (DominatesPlace b label) others answer.dominates))),
     )
 
 -- ---- a pebble dominates exactly if its label is legal for it

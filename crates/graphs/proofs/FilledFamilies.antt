@@ -7,12 +7,12 @@ use Rattle.std.proofs.lemmas.Bool.{cases_lt}
 use Rattle.std.proofs.lemmas.List.{take_more, take_all}
 use Rattle.std.proofs.lemmas.List.Edits.{length-remove, get_or-remove_below, get_or-remove_above}
 use Rattle.std.proofs.lemmas.List.Elements.{All-from_get_or, All-get_or}
-use Rattle.board_text.specs.PlainBoard.{PlainBoard, IsBoard, BeatsPlace, places}
+use Rattle.board_text.specs.PlainBoard.{PlainBoard, IsBoard, DominatesPlace, places}
 use Rattle.board_text.specs.Domination.{has_bit}
 use Rattle.board_text.specs.declared.board.TheConstants.{MAX_LABELS}
 use Rattle.classes.specs.Classes.{Falls, IsClass}
 use Rattle.classes.specs.Numbers.{ways}
-use Rattle.classes.specs.ClassGaps.{AnswersGap}
+use Rattle.positions.specs.Gaps.{AnswersGap}
 use Rattle.graphs.specs.Graph.{PlainGraph}
 use Rattle.graphs.specs.Answers.{AreAnswerBits}
 use Rattle.graphs.specs.ClassGraph.{gap_class, classes}
@@ -20,7 +20,7 @@ use Rattle.graphs.specs.declared.graph.Numbering.TheVariants.{Classes}
 use Rattle.graphs.specs.Numbered.{numbered, graph_of, graph_by}
 use Rattle.graphs.specs.declared.families.Dominator.{Dominator}
 use Rattle.graphs.specs.declared.families.Family.{Family}
-use Rattle.graphs.specs.Inside.Families.{family_start, family_size, DominatesOthers, HasNoDominator, IsFamilyDominator}
+use Rattle.graphs.specs.Inside.Families.{family_start, family_size, IsDominatorAt, HasNoDominator, IsFamilyDominator}
 use Rattle.graphs.specs.Inside.Families.{IsFamily}
 use Rattle.graphs.specs.Inside.Families.{IsFilledTo}
 use Rattle.graphs.specs.Inside.Tables.{IsStruckTable}
@@ -58,15 +58,15 @@ others-of P list index inside all k low differs =
 
 pub dominates-all : (b : PlainBoard) (list : List ℕ) (index : ℕ) → index < length list
     → get_or list index 0 < b.labels
-    → ((k : ℕ) → k < length list → k ≢ index → BeatsPlace b (get_or list index 0) (get_or list k 0))
-    → DominatesOthers b list index
+    → ((k : ℕ) → k < length list → k ≢ index → DominatesPlace b (get_or list index 0) (get_or list k 0))
+    → IsDominatorAt b list index
 dominates-all b list index inside low each =
-    record { is_label = low; beats = of-others (BeatsPlace b (get_or list index 0)) list index inside each }
+    record { is_label = low; dominates = of-others (DominatesPlace b (get_or list index 0)) list index inside each }
 
-pub dominated : (b : PlainBoard) (list : List ℕ) (index k : ℕ) → index < length list → DominatesOthers b list index
-    → k < length list → k ≢ index → BeatsPlace b (get_or list index 0) (get_or list k 0)
+pub dominated : (b : PlainBoard) (list : List ℕ) (index k : ℕ) → index < length list → IsDominatorAt b list index
+    → k < length list → k ≢ index → DominatesPlace b (get_or list index 0) (get_or list k 0)
 dominated b list index k inside dominates low differs =
-    others-of (BeatsPlace b (get_or list index 0)) list index inside dominates.beats k low differs
+    others-of (DominatesPlace b (get_or list index 0)) list index inside dominates.dominates k low differs
 
 label_in : Option Dominator → ℕ
 label_in None = 0
@@ -100,11 +100,11 @@ module _ (b : PlainBoard) (is : IsBoard b) where
   -- no other place than the dominator dominates the others
   no-other : (h : List ℕ) (v : ℕ) → Falls (places b) h → (o : Option Dominator)
       → MatchOption o (HasNoDominator b h) (IsFamilyDominator b h)
-      → ((d : Dominator) → o ≡ Some d → BeatsPlace b d.label v → ⊥)
-      → (p : ℕ) → p < length h → DominatesOthers b h p → BeatsPlace b (get_or h p 0) v → ⊥
+      → ((d : Dominator) → o ≡ Some d → DominatesPlace b d.label v → ⊥)
+      → (p : ℕ) → p < length h → IsDominatorAt b h p → DominatesPlace b (get_or h p 0) v → ⊥
   no-other h v falls None none not_beaten p inside dominates beaten = none p inside dominates
   no-other h v falls (Some d) found not_beaten p inside dominates beaten =
-      not_beaten d refl (subst (λ x. BeatsPlace b x v)
+      not_beaten d refl (subst (λ x. DominatesPlace b x v)
       (one-dominator b is h p found.index falls inside found.inside dominates found.dominates
       ∙ sym found.label_is) beaten)
 
@@ -129,16 +129,16 @@ module _ (b : PlainBoard) (is : IsBoard b) where
     pub found-own : AnswersGap b h v → k.gap ≡ (classes b).struck x
     found-own answer = sym (struck-own b is k.gap v ok.is_gap inside answer) ∙ ap (classes b).struck here
 
-    pub found-rest : (d : Dominator) → k.dominator ≡ Some d → BeatsPlace b d.label v
+    pub found-rest : (d : Dominator) → k.dominator ≡ Some d → DominatesPlace b d.label v
         → d.rest + v ≡ (classes b).struck x
     found-rest d e beaten =
         let found = dominator-of k.dominator d e ok.dominator_is in
         ap (λ n. n + v) found.rest_is
         ∙ sym (struck-left b is k.gap v ok.is_gap inside found.index found.inside found.dominates
-        (subst (λ n. BeatsPlace b n v) found.label_is beaten))
+        (subst (λ n. DominatesPlace b n v) found.label_is beaten))
         ∙ ap (classes b).struck here
 
-    pub rest-most : (d : Dominator) → k.dominator ≡ Some d → BeatsPlace b d.label v → d.rest + v ≤ k.none
+    pub rest-most : (d : Dominator) → k.dominator ≡ Some d → DominatesPlace b d.label v → d.rest + v ≤ k.none
     rest-most d e beaten =
         let same = found-rest d e beaten in
         let at = here in
@@ -149,7 +149,7 @@ module _ (b : PlainBoard) (is : IsBoard b) where
         let none = ok.none_is in
         omega arith
 
-    pub found-none : (AnswersGap b h v → ⊥) → ((d : Dominator) → k.dominator ≡ Some d → BeatsPlace b d.label v → ⊥)
+    pub found-none : (AnswersGap b h v → ⊥) → ((d : Dominator) → k.dominator ≡ Some d → DominatesPlace b d.label v → ⊥)
         → k.none ≡ (classes b).struck x
     found-none no_answer not_beaten =
         ok.none_is

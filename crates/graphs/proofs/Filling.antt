@@ -51,7 +51,7 @@ noted-more a gap label rank old now is answer low n = record {
   others = λ x. elim (same_or_not x rank) [
     | inl here ↦ inr (
       ap (slice_index (slice_set now rank gap)) here ∙ get_or-set_same now rank gap 0 low,
-      ap a.struck (here ∙ is) ∙ answer.1,
+      ap a.struck (here ∙ is) ∙ answer.struck,
     )
     | inr other ↦
         let same = get_or-set_other now rank x gap 0 other in
@@ -75,11 +75,11 @@ struck-more a gap old now n s = record {
   settled = λ g v low is. elim (cases_lt g gap) [
     | inl before ↦ elim (n.others (a.member g v)) [
       | inl kept ↦ kept ∙ s.settled g v before is
-      | inr there ↦ there.0 ∙ sym there.1 ∙ is.1
+      | inr there ↦ there.0 ∙ sym there.1 ∙ is.struck
     ]
     | inr last ↦
         let here : g ≡ gap = omega arith in
-        ap (λ h. slice_index now (a.member h v)) here ∙ n.noted v is.0 (subst (λ h. IsAnswerIn a h v) here is)
+        ap (λ h. slice_index now (a.member h v)) here ∙ n.noted v is.is_place (subst (λ h. IsAnswerIn a h v) here is)
         ∙ sym here
   ];
   sound = λ x i. elim (n.others x) [
@@ -93,7 +93,8 @@ pub struck-all : (a : PlainGraph) → IsGraph a → (struck : List ℕ) → AreS
 struck-all a is struck s x i = elim (cases_lt (a.struck x) a.gaps) [
   | inl low ↦
       let w = is.struck_in x i low in
-      ap (slice_index struck) (sym w.2) ∙ s.settled (a.struck x) w.0 low (w.1, ap a.struck w.2)
+      ap (slice_index struck) (sym w.2) ∙ s.settled (a.struck x) w.0 low
+      (record { is_place = w.1; struck = ap a.struck w.2 })
   | inr high ↦
       let none : a.struck x ≡ a.gaps = (let most = is.struck_most x i in omega arith) in
       elim (s.sound x i) [ inl gone ↦ gone ∙ sym none | inr same ↦ same ]

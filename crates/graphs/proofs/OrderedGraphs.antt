@@ -149,8 +149,11 @@ asked b is c p g ok low g_is i = record {
       let own = legal_is_answer b c p label ok low in (
         λ legal.
             let place = label_is_place b label legal.is_label in
-            (place, struck-there b is g label i place (subst (λ h. IsAnswer b h label) (sym g_is) (own.0 legal))),
-        λ has. own.1 (subst (λ h. IsAnswer b h label) g_is (there-struck b is g label i has.0 has.1)),
+            record {
+              is_place = place;
+              struck = struck-there b is g label i place (subst (λ h. IsAnswer b h label) (sym g_is) (own.0 legal));
+            },
+        λ has. own.1 (subst (λ h. IsAnswer b h label) g_is (there-struck b is g label i has.is_place has.struck)),
       );
   after = λ depth label legal.
       let place = label_is_place b label legal.is_label in

@@ -16,12 +16,12 @@ use Rattle.graphs.proofs.OrderedGraphs.{struck-there, there-struck}
 -- the answers of a gap are its answers in the graph
 module _ (b : PlainBoard) (is : IsBoard b) (g : ℕ) (i : g < gaps b) where
   answer-of : (v : ℕ) → IsAnswerIn (ordered b) g v → IsAnswer b g v
-  answer-of v is_in = there-struck b is g v i is_in.0 is_in.1
+  answer-of v is_in = there-struck b is g v i is_in.is_place is_in.struck
 
   answer-in : (v : ℕ) → IsAnswer b g v → IsAnswerIn (ordered b) g v
   answer-in v answer =
       let place = label_is_place b v answer.is_label in
-      (place, struck-there b is g v i place answer)
+      record { is_place = place; struck = struck-there b is g v i place answer }
 
   bits-of-answers : (row : List ℕ) → ((v : ℕ) → v < MAX_LABELS → (has_bit row v ≡ true) ↔ IsAnswer b g v)
       → AreAnswerBits (ordered b) g row

@@ -24,7 +24,8 @@ module _ (b : PlainBoard) (a : PlainGraph) (at : ℕ → List ℕ) (is : IsGraph
       let some = next-gives a (lasts a k) c g.0 g.2.0 e g.1 g.2.1 g.2.2 in
       let w = some_below a.places (λ v. a.struck (a.member g.0 v) == g.0 && lasts a k (a.member g.0 v)) some in
       let both = both_true _ _ w.2 in
-      let legal = (g.3.legal w.0).1 (w.1, test_same (a.struck (a.member g.0 w.0)) g.0 both.0) in
+      let legal = (g.3.legal w.0).1
+      (record { is_place = w.1; struck = test_same (a.struck (a.member g.0 w.0)) g.0 both.0 }) in
       (w.0, legal, (g.3.after k w.0 legal).1 (tree-of-lasts k (a.member g.0 w.0) (is.member_in g.0 w.0 g.1 w.1) both.1))
 
   pub lasts-of-tree : (k c : ℕ) → c < a.configurations → LabellerTree b k (at c) → lasts a k c ≡ true
@@ -34,9 +35,9 @@ module _ (b : PlainBoard) (a : PlainGraph) (at : ℕ → List ℕ) (is : IsGraph
       let asked : IsAsked b a at (at c) p.0 g = subst (λ x. IsAsked b a at (at x) p.0 g) e p.2 in
       let t = tree p.0 p.1 in
       let answer = (asked.legal t.0).0 t.1 in
-      count_below-some a.places (λ w. a.struck (a.member g w) == g && lasts a k (a.member g w)) t.0 answer.0
-      (and_true _ _ (same_is (a.struck (a.member g t.0)) g answer.1)
-      (lasts-of-tree k (a.member g t.0) (is.member_in g t.0 j answer.0) ((asked.after k t.0 t.1).0 t.2))))
+      count_below-some a.places (λ w. a.struck (a.member g w) == g && lasts a k (a.member g w)) t.0 answer.is_place
+      (and_true _ _ (same_is (a.struck (a.member g t.0)) g answer.struck)
+      (lasts-of-tree k (a.member g t.0) (is.member_in g t.0 j answer.is_place) ((asked.after k t.0 t.1).0 t.2))))
 
   stops-of-fails : (k c : ℕ) → c < a.configurations → lasts a k c ≡ false → AdversaryTree b k (at c)
   stops-of-fails k c i e = elim (some_tree b k (at c)) [

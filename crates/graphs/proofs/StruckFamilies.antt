@@ -6,10 +6,11 @@ use Rattle.std.proofs.lemmas.Bool.{cases_lt}
 use Rattle.std.proofs.lemmas.List.{get_or_append_left, get_or-append_right, length-append, append-nil}
 use Rattle.std.proofs.lemmas.List.Edits.{remove-append_left, remove-append_right, length-remove}
 use Rattle.std.proofs.lemmas.List.Elements.{All-append, All-nil, All-cons, All-head, All-tail}
-use Rattle.board_text.specs.PlainBoard.{PlainBoard, IsBoard, IsConfiguration, BeatsPlace, places}
+use Rattle.board_text.specs.PlainBoard.{PlainBoard, IsBoard, IsConfiguration, DominatesPlace, places}
 use Rattle.classes.specs.Classes.{put, Falls, IsClass}
 use Rattle.classes.specs.Numbers.{ways, class_number}
-use Rattle.classes.specs.ClassGaps.{gap_at, index_in, AnswersGap}
+use Rattle.positions.specs.Gaps.{AnswersGap}
+use Rattle.classes.specs.ClassGaps.{gap_at, index_in}
 use Rattle.classes.proofs.Places.{falls-more, put-none, put-past, put-here, index-past, index-here, others-put}
 use Rattle.classes.proofs.Ways.{ways-one}
 use Rattle.classes.proofs.Cited.{is-below, with-is, with-number, class_of-class, class_of-own, one-gap, place-cancel}
@@ -18,7 +19,7 @@ use Rattle.classes.proofs.Cited.{least-some, least-within, length-put, number-of
 use Rattle.board_text.proofs.Cited.{label_is_place}
 use Rattle.graphs.specs.ClassGraph.{class_at, gap_class, gap_number, classes}
 use Rattle.graphs.specs.Struck.{struck_among}
-use Rattle.graphs.specs.Inside.Families.{family_start, family_size, DominatesOthers}
+use Rattle.graphs.specs.Inside.Families.{family_start, family_size, IsDominatorAt}
 use Rattle.graphs.proofs.ClassGraphs.{gap-is, gap-below, gap-at-number, own-class, class-configuration, member-own}
 use Rattle.graphs.proofs.ClassGraphs.{answering, struck-there, classes-is}
 use Rattle.graphs.proofs.DominatingPebbles.{struck-found}
@@ -61,20 +62,20 @@ of-all-append P (x ∷ xs) ys all =
     let rest = of-all-append P xs ys (All-tail P x (xs ++ ys) all) in
     (All-cons P x xs (All-head P x (xs ++ ys) all) rest.0, rest.1)
 
-answers-more : (b : PlainBoard) (list : List ℕ) (v label : ℕ) → AnswersGap b list label → BeatsPlace b label v
+answers-more : (b : PlainBoard) (list : List ℕ) (v label : ℕ) → AnswersGap b list label → DominatesPlace b label v
     → AnswersGap b (with_least list v) label
 answers-more b list v label answer beaten = record {
   is_label = answer.is_label;
-  beats = All-append (BeatsPlace b label) list (v ∷ []) answer.beats
-      (All-cons (BeatsPlace b label) v [] beaten (All-nil (BeatsPlace b label)));
+  dominates = All-append (DominatesPlace b label) list (v ∷ []) answer.dominates
+      (All-cons (DominatesPlace b label) v [] beaten (All-nil (DominatesPlace b label)));
 }
 
 answers-less : (b : PlainBoard) (list : List ℕ) (v label : ℕ) → AnswersGap b (with_least list v) label
-    → AnswersGap b list label × BeatsPlace b label v
+    → AnswersGap b list label × DominatesPlace b label v
 answers-less b list v label answer =
-    let parts = of-all-append (BeatsPlace b label) list (v ∷ []) answer.beats in (
-      record { is_label = answer.is_label; beats = parts.0 },
-      All-head (BeatsPlace b label) v [] parts.1,
+    let parts = of-all-append (DominatesPlace b label) list (v ∷ []) answer.dominates in (
+      record { is_label = answer.is_label; dominates = parts.0 },
+      All-head (DominatesPlace b label) v [] parts.1,
     )
 
 -- a class without the place at an index, which is put back
@@ -126,8 +127,8 @@ module _ (b : PlainBoard) (is : IsBoard b) where
   gaps = ways (P - 1) bound
 
   -- two places that dominate the others of their list are one
-  pub one-dominator : (h : List ℕ) (p q : ℕ) → Falls bound h → p < length h → q < length h → DominatesOthers b h p
-      → DominatesOthers b h q → get_or h p 0 ≡ get_or h q 0
+  pub one-dominator : (h : List ℕ) (p q : ℕ) → Falls bound h → p < length h → q < length h → IsDominatorAt b h p
+      → IsDominatorAt b h q → get_or h p 0 ≡ get_or h q 0
   one-dominator h p q falls p_in q_in one other =
       let back = put-back bound h p falls p_in in
       let again = put-back bound h q falls q_in in
@@ -223,7 +224,7 @@ module _ (b : PlainBoard) (is : IsBoard b) where
         (subst (λ l. AnswersGap b l v) (sym (last-gap h v)) answer))
         ∙ ap class_number (last-gap h v) ∙ (with-is bound (P - 1) g i).number_is
 
-    pub struck-left : (p : ℕ) → p < length h → DominatesOthers b h p → BeatsPlace b (get_or h p 0) v
+    pub struck-left : (p : ℕ) → p < length h → IsDominatorAt b h p → DominatesPlace b (get_or h p 0) v
         → (classes b).struck x ≡ class_number (put 0 (remove h p)) + v
     struck-left p inside dominates beaten =
         ap (classes b).struck (sym number)
@@ -235,7 +236,7 @@ module _ (b : PlainBoard) (is : IsBoard b) where
         ∙ ap (λ l. class_number l + v) (sym (put-zero b is (remove h p) (falls-remove bound p h own.falls)))
 
     pub struck-no : (AnswersGap b h v → ⊥)
-        → ((p : ℕ) → p < length h → DominatesOthers b h p → BeatsPlace b (get_or h p 0) v → ⊥)
+        → ((p : ℕ) → p < length h → IsDominatorAt b h p → DominatesPlace b (get_or h p 0) v → ⊥)
         → (classes b).struck x ≡ gaps
     struck-no no_answer none =
         ap (classes b).struck (sym number)

@@ -1,6 +1,6 @@
 -- Words that become 0 where a configuration is stuck, part by part.
 use Rattle.std.proofs.Common.{◌≡◌, ◌≢◌, ◌⊎◌, ℕ, zero, suc, ◌+◌, ◌-◌, ◌<◌, ◌≤◌, inl, inr, refl, sym, ap, ◌∙◌, subst, arith}
-use Rattle.std.proofs.Common.{List, [], ◌∷◌, ◌++◌, length, get_or, set, take, drop, replicate}
+use Rattle.std.proofs.Common.{List, ◌++◌, length, get_or, set, take, drop}
 use borrow.Rule.Slice.PartMut.{put_mid, post_of, same_len_mid}
 use Rattle.std.specs.List.{remove}
 use Rattle.std.proofs.lemmas.Bool.{cases_lt, cases_eq}
@@ -8,10 +8,9 @@ use Rattle.std.proofs.lemmas.List.{length-set, get_or-set_same, get_or-set_other
 use Rattle.std.proofs.lemmas.List.{length-take-le, length-drop, get_or-take, get_or-drop}
 use Rattle.std.proofs.lemmas.Slice.{drop-put_mid}
 use Rattle.board_text.specs.PlainBoard.{PlainBoard, IsBoard, places}
-use Rattle.classes.specs.Classes.{put, IsClass}
+use Rattle.classes.specs.Classes.{put}
 use Rattle.classes.specs.Numbers.{class_number, ways}
 use Rattle.classes.proofs.Cited.{ways-zero, ways-suc, first-family, last-family, next-family, least-some, least-within, place-below}
-use Rattle.graphs.specs.Graph.{PlainGraph}
 use Rattle.graphs.specs.ClassGraph.{classes, gap_class}
 use Rattle.graphs.specs.Inside.Families.{family_start, family_size}
 use Rattle.graphs.specs.Stuck.{IsStuckBy, AreStuckZeroed, IsPartZeroed, AreZeroedWhere}

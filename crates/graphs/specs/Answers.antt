@@ -4,9 +4,10 @@ use Rattle.board_text.specs.Domination.{has_bit}
 use Rattle.board_text.specs.declared.board.TheConstants.{MAX_LABELS}
 use Rattle.graphs.specs.Graph.{PlainGraph}
 
--- the label is an answer of the gap
-abbrev pub IsAnswerIn : PlainGraph → ℕ → ℕ → Type 0
-IsAnswerIn a gap label = (label < a.places) × (a.struck (a.member gap label) ≡ gap)
+-- the label is an answer of the gap: the member with it is struck there
+pub record IsAnswerIn (a : PlainGraph) (gap label : ℕ) : Type 0 where
+  pub is_place : label < a.places
+  pub struck : a.struck (a.member gap label) ≡ gap
 
 -- the bits are those of the answers of the gap, all of which are labels
 pub record AreAnswerBits (a : PlainGraph) (gap : ℕ) (row : List ℕ) : Type 0 where

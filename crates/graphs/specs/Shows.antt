@@ -2,14 +2,14 @@
 use Rattle.std.specs.Prelude.{◌≡◌, ℕ, ◌<◌, ◌↔◌, List}
 use Rattle.board_text.specs.PlainBoard.{PlainBoard}
 use Rattle.positions.specs.Game.{Legal, LabellerTree, moved}
+use Rattle.graphs.specs.Answers.{IsAnswerIn}
 use Rattle.graphs.specs.Graph.{PlainGraph}
 
 -- a request of the pebble at the configuration is answered in the gap: its answers are the legal
 -- labels, and a labeller lasts as long at the member with a label as after a move there
 pub record IsAsked (b : PlainBoard) (a : PlainGraph) (at : ℕ → List ℕ) (configuration : List ℕ)
     (pebble gap : ℕ) : Type 0 where
-  pub legal : (label : ℕ) → Legal b configuration pebble label
-      ↔ ((label < a.places) × (a.struck (a.member gap label) ≡ gap))
+  pub legal : (label : ℕ) → Legal b configuration pebble label ↔ IsAnswerIn a gap label
   pub after : (depth label : ℕ) → Legal b configuration pebble label
       → LabellerTree b depth (moved configuration pebble label)
       ↔ LabellerTree b depth (at (a.member gap label))

@@ -1,5 +1,5 @@
 -- Configurations that are stuck before the first round: members of a gap without answers.
-use Rattle.std.specs.Prelude.{◌≡◌, ℕ, ◌+◌, ◌<◌, ◌≤◌, ◌⊎◌, List, length, slice_index}
+use Rattle.std.specs.Prelude.{◌≡◌, ℕ, ◌+◌, ◌<◌, ◌⊎◌, List, length, slice_index}
 use Rattle.graphs.specs.Graph.{PlainGraph}
 
 -- the configuration is a member of a gap with the count 0

@@ -9,6 +9,7 @@ ghost use Rattle.positions.specs.Value.{HasValue};
 ghost use Rattle.positions.specs.declared.value.Value.{Value as ValueData};
 ghost use Rattle.positions.specs.declared.value.Value.TheVariants.{Finite, Forever};
 ghost use Rattle.classes.specs.Sums.{sum_below};
+ghost use Rattle.graphs.specs.Answers.{IsAnswerIn};
 ghost use Rattle.graphs.specs.Graph.{PlainGraph, IsGraph};
 ghost use Rattle.graphs.specs.Lasting.{LastsExactly, LastsForever};
 ghost use Rattle.graphs.specs.Numbered.{Numbered, graph_of, configuration_of};
@@ -69,9 +70,8 @@ pub fn gaps_answer_requests()
         ≡ number_in n (moved configuration pebble label) }
     ensures legal { (n : Numbered) → (configuration : List ℕ) → (pebble : ℕ) → (label : ℕ)
         → IsBoard n.board → IsConfiguration n.board configuration → pebble < n.board.pebbles
-        → Legal n.board configuration pebble label ↔ ((label < (graph_of n).places)
-        × ((graph_of n).struck ((graph_of n).member (gap_in n configuration pebble) label)
-        ≡ gap_in n configuration pebble)) }
+        → Legal n.board configuration pebble label
+        ↔ IsAnswerIn (graph_of n) (gap_in n configuration pebble) label }
 {}
 
 /// The weights of the numbers that pass a test count the configurations whose number passes it, and

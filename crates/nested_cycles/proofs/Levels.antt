@@ -5,7 +5,7 @@ use Rattle.std.proofs.Math.Nat.{one-le-pow, pow-succ'}
 use Rattle.std.proofs.lemmas.Nat.{div-mul-add, mod-mul-add, mul-add-lt}
 use Rattle.std.proofs.lemmas.List.{map-append, length-map}
 use Rattle.nested_cycles.specs.Words.{word_of}
-use Rattle.nested_cycles.specs.Domination.{labels_of, label_word, NestedBeats}
+use Rattle.nested_cycles.specs.Domination.{labels_of, label_word, NestedDominates}
 use Rattle.nested_cycles.specs.GoodWords.{next_digit, first_digits, rests_in, AreInOneCopy, AreInTwoCopies, AreGood}
 use Rattle.nested_cycles.specs.GoodWords.{label_words, NestedGood}
 use Rattle.nested_cycles.specs.Reply.{IsReply, NestedReply}
@@ -166,10 +166,10 @@ reply_to_two digits rest_digits size digit next rest others rests at two is rest
 
 pub reply_beats : (levels : ℕ) (others : List ℕ) (reply : ℕ) → length others < levels
     → All (λ n. n < labels_of levels) others → NestedReply levels others reply
-    → All (λ other. NestedBeats levels reply other) others
+    → All (λ other. NestedDominates levels reply other) others
 reply_beats levels others reply few labels is =
     let long = length-map others (λ n. word_of (levels - 1) n) in
-    each_of (λ other. NestedBeats levels reply other) others (λ other has.
+    each_of (λ other. NestedDominates levels reply other) others (λ other has.
     reply_dominates (levels - 1) (label_words levels others) (label_word levels reply)
     (are_words (levels - 1) others labels) (omega arith) is (label_word levels other)
     (contains_map (λ n. word_of (levels - 1) n) others other has))
@@ -187,6 +187,6 @@ good_with levels others reply few is before after parts =
     (subst (λ ws. IsReply (levels - 1) ws (word reply)) split is))
 
 pub reply_does : (levels n : ℕ) (others : List ℕ) → length others < levels → All (λ o. o < labels_of levels) others
-    → NestedReply levels others n → All (λ other. NestedBeats levels n other) others
+    → NestedReply levels others n → All (λ other. NestedDominates levels n other) others
     × ((before after : List ℕ) → others ≡ before ++ after → NestedGood levels (before ++ n ∷ after))
 reply_does levels n others few labels is = (reply_beats levels others n few labels is, good_with levels others n few is)

@@ -11,7 +11,7 @@ use Rattle.std.proofs.lemmas.List.Elements.{All-map, All-replicate, All-append, 
 use Rattle.std.proofs.lemmas.List.Elements.{All-contains, Contains-get_or, Contains-append_left, Contains-append_right}
 use Rattle.board_text.specs.Ranges.{InRange}
 use Rattle.nested_cycles.specs.Words.{word_of}
-use Rattle.nested_cycles.specs.Domination.{labels_of, NestedBeats}
+use Rattle.nested_cycles.specs.Domination.{labels_of, NestedDominates}
 use Rattle.nested_cycles.specs.GoodWords.{AreGood, label_words, NestedGood}
 use Rattle.nested_cycles.specs.NestedGame.{plain_game, IsGood, other_words}
 use Rattle.nested_cycles.specs.declared.game.TheConstants.{MAX_LEVELS}
@@ -113,10 +113,10 @@ request_keeps levels words others pebble reply is inside others_are label good =
 }
 
 pub request_dominates : (levels : ℕ) (words others : List ℕ) (pebble reply : ℕ) → length words ≡ levels
-    → others ≡ other_words pebble words → All (λ other. NestedBeats levels reply other) others
-    → (other : ℕ) → other < levels → other ≢ pebble → NestedBeats levels reply (get_or words other 0)
+    → others ≡ other_words pebble words → All (λ other. NestedDominates levels reply other) others
+    → (other : ℕ) → other < levels → other ≢ pebble → NestedDominates levels reply (get_or words other 0)
 request_dominates levels words others pebble reply long others_are each other inside differ =
-    All-contains (λ n. NestedBeats levels reply n) others (get_or words other 0) each
+    All-contains (λ n. NestedDominates levels reply n) others (get_or words other 0) each
     (rw others_are (in_others words pebble other (omega arith) differ))
 
 -- the words before a place and those after it, put together, are the other words

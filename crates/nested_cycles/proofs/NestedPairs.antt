@@ -7,7 +7,7 @@ use Rattle.std.proofs.lemmas.List.Elements.{Contains-append_left}
 use Rattle.std.proofs.lemmas.List.Quantifiers.{all_pairs_push}
 use Rattle.std.proofs.lemmas.Nat.{row_fits, same_from_place, div_below, mod_below, div-add-mod'}
 use Rattle.board_text.specs.PlainBoard.{AreLabels, Precedes, ArePairs}
-use Rattle.nested_cycles.specs.Domination.{labels_of, label_word, NestedBeats}
+use Rattle.nested_cycles.specs.Domination.{labels_of, label_word, NestedDominates}
 use Rattle.nested_cycles.specs.Inside.Pairs.{IsAmong, AreNestedPairs}
 use Rattle.nested_cycles.proofs.Dominations.{each_other}
 
@@ -24,7 +24,7 @@ precedes_from_place labels p q small lt =
 -- a pair of labels below the bound of which the first dominates the second
 abbrev Fits : ℕ → ℕ → ℕ × ℕ → Type 0
 Fits levels places pair =
-    AreLabels (labels_of levels) pair × IsAmong (labels_of levels) places pair × NestedBeats levels pair.0 pair.1
+    AreLabels (labels_of levels) pair × IsAmong (labels_of levels) places pair × NestedDominates levels pair.0 pair.1
 
 pub pairs_none : (levels : ℕ) → AreNestedPairs levels 0 []
 pairs_none levels = record {
@@ -41,7 +41,7 @@ still levels places pairs only =
 -- the pair of the next place is not among the pairs
 pub pairs_skip : (levels places x y : ℕ) (pairs : List (ℕ × ℕ)) → AreNestedPairs levels places pairs
     → AreLabels (labels_of levels) (x, y) → x * labels_of levels + y ≡ places
-    → (NestedBeats levels x y → ⊥) → AreNestedPairs levels (places + 1) pairs
+    → (NestedDominates levels x y → ⊥) → AreNestedPairs levels (places + 1) pairs
 pairs_skip levels places x y pairs are labels here not = record {
   ascending = are.ascending;
   only = still levels places pairs are.only;
@@ -49,15 +49,15 @@ pairs_skip levels places x y pairs are labels here not = record {
     | inl before ↦ are.all v w labels_vw before beats
     | inr at ↦
         let same = same_from_place v w x y (labels_of levels) labels_vw.1 labels.1 (omega arith) in
-        absurd (not (subst (λ (n : ℕ). NestedBeats levels n y) same.0
-        (subst (λ (n : ℕ). NestedBeats levels v n) same.1 beats)))
+        absurd (not (subst (λ (n : ℕ). NestedDominates levels n y) same.0
+        (subst (λ (n : ℕ). NestedDominates levels v n) same.1 beats)))
   ];
 }
 
 -- the pair of the next place is among them
 pub pairs_push : (levels places x y : ℕ) (pairs : List (ℕ × ℕ)) → AreNestedPairs levels places pairs
     → AreLabels (labels_of levels) (x, y) → x * labels_of levels + y ≡ places
-    → NestedBeats levels x y → AreNestedPairs levels (places + 1) (pairs ++ (x, y) ∷ [])
+    → NestedDominates levels x y → AreNestedPairs levels (places + 1) (pairs ++ (x, y) ∷ [])
 pairs_push levels places x y pairs are labels here beats = record {
   ascending = all_pairs_push Precedes pairs (x, y) are.ascending
       (λ k d lt. precedes_from_place (labels_of levels) (get_or pairs k d) (x, y) labels.1
@@ -91,7 +91,7 @@ all_places labels pair are = omega (arith, row_fits pair.0 labels labels labels 
 pub beats_exactly : (levels : ℕ) (pairs : List (ℕ × ℕ))
     → AreNestedPairs levels (labels_of levels * labels_of levels) pairs → (x y : ℕ)
     → AreLabels (labels_of levels) (x, y)
-    → Contains pairs (x, y) ↔ NestedBeats levels x y
+    → Contains pairs (x, y) ↔ NestedDominates levels x y
 beats_exactly levels pairs are x y labels = (
   λ one. (All-contains (Fits levels (labels_of levels * labels_of levels)) pairs (x, y) are.only one).2,
   λ beats. are.all x y labels (all_places (labels_of levels) (x, y) labels) beats,
@@ -111,7 +111,7 @@ pair_at (suc n) place lt = record {
 
 pub next_pair : (levels labels place x y : ℕ) (pairs new : List (ℕ × ℕ)) → labels ≡ labels_of levels
     → place < labels * labels → x ≡ place / labels → y ≡ place % labels
-    → AreNestedPairs levels place pairs → NestedBeats levels x y → new ≡ pairs ++ (place / labels, place % labels) ∷ []
+    → AreNestedPairs levels place pairs → NestedDominates levels x y → new ≡ pairs ++ (place / labels, place % labels) ∷ []
     → AreNestedPairs levels (place + 1) new
 next_pair levels labels place x y pairs new e lt is_x is_y are beats is_new =
     let at : PairAt (labels_of levels) place = rw e at (pair_at labels place lt) in
@@ -120,7 +120,7 @@ next_pair levels labels place x y pairs new e lt is_x is_y are beats is_new =
 
 pub no_pair : (levels labels place x y : ℕ) (pairs new : List (ℕ × ℕ)) → labels ≡ labels_of levels
     → place < labels * labels → x ≡ place / labels → y ≡ place % labels
-    → AreNestedPairs levels place pairs → (NestedBeats levels x y → ⊥) → new ≡ pairs
+    → AreNestedPairs levels place pairs → (NestedDominates levels x y → ⊥) → new ≡ pairs
     → AreNestedPairs levels (place + 1) new
 no_pair levels labels place x y pairs new e lt is_x is_y are not is_new =
     let at : PairAt (labels_of levels) place = rw e at (pair_at labels place lt) in

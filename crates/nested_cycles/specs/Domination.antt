@@ -19,5 +19,5 @@ abbrev pub label_word : ℕ → ℕ → List ℕ
 label_word levels label = word_of (levels - 1) label
 
 -- the label x dominates the label y on the nested board of a level
-abbrev pub NestedBeats : ℕ → ℕ → ℕ → Type 0
-NestedBeats levels x y = WordDominates (label_word levels x) (label_word levels y)
+abbrev pub NestedDominates : ℕ → ℕ → ℕ → Type 0
+NestedDominates levels x y = WordDominates (label_word levels x) (label_word levels y)

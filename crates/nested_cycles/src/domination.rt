@@ -3,7 +3,7 @@
 ghost use Rattle.std.specs.Prelude.{◌≡◌, ◌+◌, ◌%◌, ◌<◌, ◌↔◌, IsTrue};
 ghost use Rattle.board_text.specs.Ranges.{InRange};
 ghost use Rattle.board_text.specs.PlainBoard.{AreLabels};
-ghost use Rattle.nested_cycles.specs.Domination.{labels_of, NestedBeats};
+ghost use Rattle.nested_cycles.specs.Domination.{labels_of, NestedDominates};
 
 use crate::game::MAX_LEVELS;
 
@@ -15,7 +15,7 @@ use crate::game::MAX_LEVELS;
 pub fn nested_beats(levels: u8, mut a: u64, mut b: u64) -> bool
     requires level { InRange 1 MAX_LEVELS levels }
     requires labels { AreLabels (labels_of levels) (a, b) }
-    ensures { IsTrue result ↔ NestedBeats levels a b }
+    ensures { IsTrue result ↔ NestedDominates levels a b }
 {
     for _ in 1..levels {
         // Without their last digits the words are those of a / 3 and b / 3.

@@ -2,7 +2,7 @@
 
 ghost use Rattle.std.specs.Prelude.{◌≡◌, ◌≢◌, ◌+◌, ◌<◌, ℕ, replicate, slice_index, slice_set, IfOk};
 ghost use Rattle.board_text.specs.Ranges.{InRange};
-ghost use Rattle.nested_cycles.specs.Domination.{labels_of, NestedBeats};
+ghost use Rattle.nested_cycles.specs.Domination.{labels_of, NestedDominates};
 ghost use Rattle.nested_cycles.specs.NestedGame.{PlainGame, plain_game, IsGood, other_words};
 ghost use Rattle.nested_cycles.specs.Reply.{NestedReply};
 
@@ -56,7 +56,7 @@ impl NestedGame {
         ensures label { result < labels_of self.old.levels }
         ensures reply { NestedReply self.old.levels (other_words pebble self.old.words) result }
         ensures dominates { (other : ℕ) → other < self.old.levels → other ≢ pebble
-            → NestedBeats self.old.levels result (slice_index self.old.words other) }
+            → NestedDominates self.old.levels result (slice_index self.old.words other) }
         ensures moved { self.new ≡ plain_game self.old.levels
             (slice_set self.old.words pebble result) }
         ensures good { IsGood self.new }

@@ -4,7 +4,7 @@ ghost use Rattle.std.specs.Prelude.{◌≡◌, ◌≢◌, ℕ, ◌+◌, ◌*◌,
 ghost use Rattle.std.specs.Prelude.{length};
 ghost use Rattle.board_text.specs.PlainBoard.{PlainBoard, AreLabels, IsAntisymmetric};
 ghost use Rattle.nested_cycles.specs.Words.{IsWord, word_number, word_of};
-ghost use Rattle.nested_cycles.specs.Domination.{WordDominates, labels_of, NestedBeats};
+ghost use Rattle.nested_cycles.specs.Domination.{WordDominates, labels_of, NestedDominates};
 ghost use Rattle.nested_cycles.specs.NestedBoard.{IsNestedBoard};
 ghost use Rattle.nested_cycles.specs.Reply.{IsReply, NestedReply};
 
@@ -48,7 +48,7 @@ pub fn one_of_two()
         → IsWord count other → word ≢ other
         → WordDominates word other ⊎ WordDominates other word }
     ensures labels { (levels : ℕ) → (x : ℕ) → (y : ℕ) → AreLabels (labels_of levels) (x, y) → x ≢ y
-        → NestedBeats levels x y ⊎ NestedBeats levels y x }
+        → NestedDominates levels x y ⊎ NestedDominates levels y x }
 {}
 
 /// A nested board of n labels has n * (n - 1) / 2 pairs: half of all pairs of different labels.

@@ -2,7 +2,7 @@
 
 ghost use Rattle.std.specs.Prelude.{◌≡◌, ◌<◌, ◌≤◌, ◌↔◌, ℕ, List, ◌∷◌, ◌++◌, length, All, IsTrue};
 ghost use Rattle.board_text.specs.Ranges.{InRange};
-ghost use Rattle.nested_cycles.specs.Domination.{labels_of, NestedBeats};
+ghost use Rattle.nested_cycles.specs.Domination.{labels_of, NestedDominates};
 ghost use Rattle.nested_cycles.specs.GoodWords.{NestedGood};
 ghost use Rattle.nested_cycles.specs.Reply.{NestedReply};
 
@@ -46,7 +46,7 @@ pub fn nested_reply(levels: u8, others: &[u64]) -> u64
     requires good { NestedGood levels others.now }
     ensures label { result < labels_of levels }
     ensures reply { NestedReply levels others.now result }
-    ensures dominates { All (λ other. NestedBeats levels result other) others.now }
+    ensures dominates { All (λ other. NestedDominates levels result other) others.now }
     ensures good { (before : List ℕ) → (after : List ℕ) → others.now ≡ before ++ after
         → NestedGood levels (before ++ result ∷ after) }
 {

@@ -8,7 +8,7 @@ use Rattle.std.proofs.lemmas.List.Elements.{All-set, All-replicate, All-contains
 use Rattle.board_text.specs.PlainBoard.{PlainBoard, plain_board, AreLabels}
 use Rattle.positions.specs.Game.{Legal, LabellerTree, moved}
 use Rattle.nested_cycles.specs.Words.{word_number}
-use Rattle.nested_cycles.specs.Domination.{labels_of, label_word, NestedBeats}
+use Rattle.nested_cycles.specs.Domination.{labels_of, label_word, NestedDominates}
 use Rattle.nested_cycles.specs.Inside.Pairs.{AreNestedPairs}
 use Rattle.nested_cycles.specs.NestedBoard.{IsNestedBoard}
 use Rattle.nested_cycles.specs.GoodWords.{NestedGood, label_words}
@@ -64,7 +64,7 @@ is_legal levels board configuration pebble label nested good inside low reply =
       dominates = λ other other_inside differ is_label.
           let there : other < length configuration = omega (arith, good.are_labels.0) in
           (nested.beats label (get_or configuration other 0) (rw nested.labels low, is_label)).1
-          (All-contains (λ n. NestedBeats levels label n) (other_words pebble configuration)
+          (All-contains (λ n. NestedDominates levels label n) (other_words pebble configuration)
           (get_or configuration other 0) beats (in_others configuration pebble other there differ));
     }
 
@@ -154,11 +154,11 @@ module _ (levels : ℕ) (board : PlainBoard) (nested : IsNestedPlay levels board
 
 -- x dominates y, or not
 pub beats_or_not : (levels x y : ℕ) → AreLabels (labels_of levels) (x, y)
-    → NestedBeats levels x y ⊎ (NestedBeats levels x y → ⊥)
+    → NestedDominates levels x y ⊎ (NestedDominates levels x y → ⊥)
 beats_or_not levels x y are =
     elim (cases_eq x y) [
-      | inl same ↦ inr (λ beats. let itself : NestedBeats levels y y =
-          subst (λ (n : ℕ). NestedBeats levels n y) same beats in
+      | inl same ↦ inr (λ beats. let itself : NestedDominates levels y y =
+          subst (λ (n : ℕ). NestedDominates levels n y) same beats in
           each_other (label_word levels y) (label_word levels y) itself itself)
       | inr differ ↦ elim (one_of_two_labels (levels - 1) x y are.0 are.1 differ) [
         | inl one ↦ inl one

@@ -4,7 +4,7 @@ use Rattle.std.proofs.Common.{sym, ap, ◌∙◌, subst, arith}
 use Rattle.std.specs.List.{All}
 use Rattle.std.proofs.lemmas.List.{take_all, take-take, length-take-le, get_or-take}
 use Rattle.std.proofs.lemmas.List.Elements.{All-more, All-take, All-get_or}
-use Rattle.board_text.specs.PlainBoard.{PlainBoard, IsBoard, Beats, BeatsPlace, places}
+use Rattle.board_text.specs.PlainBoard.{PlainBoard, IsBoard, Dominates, DominatesPlace, places}
 use Rattle.board_text.proofs.Cited.{some_places}
 use Rattle.board_text.specs.Domination.{has_bit}
 use Rattle.board_text.specs.declared.board.TheConstants.{MAX_LABELS}
@@ -14,13 +14,13 @@ use Rattle.positions.specs.Counts.{IsSmallest}
 use Rattle.positions.proofs.CountsBelow.{smallest_of}
 use Rattle.positions.proofs.LabelBits.{HasBitFrom}
 use Rattle.positions.proofs.DigitRests.{IsRest, IsNextRest, rest_next}
-use Rattle.positions.proofs.GapLaws.{others_of_gap, answer_beats_others}
+use Rattle.positions.proofs.GapLaws.{others_of_gap}
 
 -- the bits of the labels that beat those of the first other pebbles, and the rest of the gap
 pub record IsNarrowed (board : PlainBoard) (gap place rest : ℕ) (words : List ℕ) : Type 0 where
   pub rest_is : IsRest (places board) (board.pebbles - 1) (others_of board gap) place rest
   pub bits : (x : ℕ) → x < MAX_LABELS
-      → (has_bit words x ≡ true) ↔ ((x < board.labels) × All (BeatsPlace board x) (take place (others_of board gap)))
+      → (has_bit words x ≡ true) ↔ ((x < board.labels) × All (DominatesPlace board x) (take place (others_of board gap)))
 
 -- the label of the next other pebble, by its weight
 pub next_other : (board : PlainBoard) (gap place rest weight : ℕ) → IsBoard board → gap < gaps board
@@ -37,7 +37,7 @@ pub narrowed_more : (board : PlainBoard) (gap place rest label next : ℕ) (word
     → place < board.pebbles - 1 → label < board.labels
     → IsNarrowed board gap place rest words
     → IsNextRest (places board) (board.pebbles - 1) (others_of board gap) place label next
-    → ((x : ℕ) → x < MAX_LABELS → (has_bit row x ≡ true) ↔ Beats board x label)
+    → ((x : ℕ) → x < MAX_LABELS → (has_bit row x ≡ true) ↔ Dominates board x label)
     → ((x : ℕ) → x < MAX_LABELS → (has_bit new x ≡ true) ↔ ((has_bit words x ≡ true) × (has_bit row x ≡ true)))
     → IsNarrowed board gap (place + 1) next new
 narrowed_more board gap place rest label next words row new below inside is_label narrowed is beaten both =
@@ -50,23 +50,23 @@ narrowed_more board gap place rest label next words row new below inside is_labe
             let each = (both x small).0 set in
             let before = (narrowed.bits x small).0 each.0 in (
               before.0,
-              All-more (BeatsPlace board x) others place 0 within before.1
-                  (subst (BeatsPlace board x) is.digit_is (λ _. (beaten x small).0 each.1)),
+              All-more (DominatesPlace board x) others place 0 within before.1
+                  (subst (DominatesPlace board x) is.digit_is (λ _. (beaten x small).0 each.1)),
             ),
         λ is_one.
             let front : take place (take (place + 1) others) ≡ take place others =
             take-take place (place + 1) others (omega arith) in
             let longer : length (take (place + 1) others) ≡ place + 1 =
             length-take-le (place + 1) others (omega arith) in
-            let before : All (BeatsPlace board x) (take place others) =
-            subst (All (BeatsPlace board x)) front
-            (All-take (BeatsPlace board x) place (take (place + 1) others) is_one.1) in
-            let last : BeatsPlace board x (get_or others place 0) =
-            subst (BeatsPlace board x) (get_or-take (place + 1) others place 0 (omega arith))
-            (All-get_or (BeatsPlace board x) (take (place + 1) others) place 0 (omega arith) is_one.1) in
+            let before : All (DominatesPlace board x) (take place others) =
+            subst (All (DominatesPlace board x)) front
+            (All-take (DominatesPlace board x) place (take (place + 1) others) is_one.1) in
+            let last : DominatesPlace board x (get_or others place 0) =
+            subst (DominatesPlace board x) (get_or-take (place + 1) others place 0 (omega arith))
+            (All-get_or (DominatesPlace board x) (take (place + 1) others) place 0 (omega arith) is_one.1) in
             (both x small).1 (
               (narrowed.bits x small).1 (is_one.0, before),
-              (beaten x small).1 (subst (BeatsPlace board x) (sym is.digit_is) last is_label),
+              (beaten x small).1 (subst (DominatesPlace board x) (sym is.digit_is) last is_label),
             ),
       );
     }
@@ -88,13 +88,13 @@ narrowed_blank board gap place rest label next words below inside blank narrowed
         λ set.
             let before = (narrowed.bits x small).0 set in (
               before.0,
-              All-more (BeatsPlace board x) others place 0 (omega arith) before.1
-                  (subst (BeatsPlace board x) is.digit_is (λ held. absurd (omega arith))),
+              All-more (DominatesPlace board x) others place 0 (omega arith) before.1
+                  (subst (DominatesPlace board x) is.digit_is (λ held. absurd (omega arith))),
             ),
         λ is_one. (narrowed.bits x small).1 (
           is_one.0,
-          subst (All (BeatsPlace board x)) front
-              (All-take (BeatsPlace board x) place (take (place + 1) others) is_one.1),
+          subst (All (DominatesPlace board x)) front
+              (All-take (DominatesPlace board x) place (take (place + 1) others) is_one.1),
         ),
       );
     }
@@ -106,11 +106,11 @@ pub answer_bits : (board : PlainBoard) (gap place rest : ℕ) (words : List ℕ)
 answer_bits board gap place rest words below all narrowed x small =
     let others : List ℕ = others_of board gap in
     let long : length others ≡ board.pebbles - 1 = (others_of_gap board gap below).size in
-    let whole : take place others ≡ others = take_all place others (omega arith) in
-    let answer = answer_beats_others board gap x below in (
-      λ set. let is = (narrowed.bits x small).0 set in answer.1 (is.0, subst (All (BeatsPlace board x)) whole is.1),
-      λ is. let each = answer.0 is in
-          (narrowed.bits x small).1 (each.0, subst (All (BeatsPlace board x)) (sym whole) each.1),
+    let whole : take place others ≡ others = take_all place others (omega arith) in (
+      λ set. let is = (narrowed.bits x small).0 set in
+          record { is_label = is.0; dominates = subst (All (DominatesPlace board x)) whole is.1 },
+      λ answer. (narrowed.bits x small).1
+          (answer.is_label, subst (All (DominatesPlace board x)) (sym whole) answer.dominates),
     )
 
 -- if bits show a fact, the smallest bit from a bound on is the smallest number from there on for which it holds

@@ -9,8 +9,8 @@ use Rattle.std.proofs.lemmas.List.{get_or-set_other}
 use Rattle.std.proofs.lemmas.List.Edits.{length-insert, length-remove, get_or-insert_at, get_or-insert_below}
 use Rattle.std.proofs.lemmas.List.Edits.{get_or-insert_above}
 use Rattle.std.proofs.lemmas.List.Elements.{All-take, All-drop, All-append, All-cons, All-from_get_or, All-get_or}
-use Rattle.board_text.specs.PlainBoard.{PlainBoard, IsConfiguration, IsAntisymmetric, BeatsPlace, places}
-use Rattle.positions.specs.Game.{Legal, Dominates, moved}
+use Rattle.board_text.specs.PlainBoard.{PlainBoard, IsConfiguration, IsAntisymmetric, DominatesPlace, places}
+use Rattle.positions.specs.Game.{Legal, DominatesOthers, moved}
 use Rattle.positions.specs.Ranks.{number_of, digits_of}
 use Rattle.positions.specs.Gaps.{gaps_each, gaps, gap_of, pebble_of, others_of, member_of, IsAnswer, IsDominator}
 use Rattle.positions.proofs.Digits.{length-digits_of, number_of-digits_of, digits_of-number_of, number_below}
@@ -181,63 +181,30 @@ gap_of-member_of board gap label below =
 
 -- ---- answers
 
--- the legal labels of a pebble don't depend on its own label
-legal_after_move : (board : PlainBoard) (configuration : List ℕ) (pebble old label : ℕ)
-    → Legal board configuration pebble label ↔ Legal board (moved configuration pebble old) pebble label
-legal_after_move board configuration pebble old label = (
+-- the label that a pebble is put on is legal there exactly if it answers the gap of the places that stay
+pub legal_at_member : (board : PlainBoard) (gap label : ℕ) → gap < gaps board
+    → Legal board (member_of board gap label) (pebble_of board gap) label ↔ IsAnswer board gap label
+legal_at_member board gap label below = (
   λ legal. record {
     is_label = legal.is_label;
-    dominates = λ other below differs.
-        subst (BeatsPlace board label) (sym (get_or-set_other configuration pebble other old 0 differs))
-        (legal.dominates other below differs);
+    dominates = All-from_get_or (DominatesPlace board label) others 0 (λ k inside. elim (cases_lt k pebble) [
+      | inl before ↦ subst (DominatesPlace board label) (get_or-insert_below others pebble label 0 k before place)
+          (legal.dominates k (omega (arith, size)) (omega arith))
+      | inr behind ↦ subst (DominatesPlace board label) (get_or-insert_above others pebble label 0 k behind place)
+          (legal.dominates (k + 1) (omega (arith, size)) (omega arith))
+    ]);
   },
-  λ legal. record {
-    is_label = legal.is_label;
-    dominates = λ other below differs.
-        subst (BeatsPlace board label) (get_or-set_other configuration pebble other old 0 differs)
-        (legal.dominates other below differs);
-  },
-)
-
-pub legal_is_answer : (board : PlainBoard) (configuration : List ℕ) (pebble label : ℕ)
-    → IsConfiguration board configuration → pebble < board.pebbles
-    → Legal board configuration pebble label ↔ IsAnswer board (gap_of board configuration pebble) label
-legal_is_answer board configuration pebble label is inside =
-    let member = member_of-gap_of board configuration pebble label is inside in
-    let same = pebble_of-gap_of board configuration pebble is inside in
-    let after = legal_after_move board configuration pebble label label in (
-      λ legal. subst (λ (p : ℕ). Legal board (member_of board (gap_of board configuration pebble) label) p label)
-          (sym same)
-          (subst (λ (c : List ℕ). Legal board c pebble label) (sym member) (after.0 legal)),
-      λ answer. after.1 (subst (λ (c : List ℕ). Legal board c pebble label) member
-          (subst (λ (p : ℕ). Legal board
-          (member_of board (gap_of board configuration pebble) label) p label) same answer)),
-    )
-
--- an answer is a label that beats the places of all other pebbles
-pub answer_beats_others : (board : PlainBoard) (gap label : ℕ) → gap < gaps board
-    → IsAnswer board gap label ↔ ((label < board.labels) × All (BeatsPlace board label) (others_of board gap))
-answer_beats_others board gap label below = (
-  λ answer. (
-    answer.is_label,
-    All-from_get_or (BeatsPlace board label) others 0 (λ k inside. elim (cases_lt k pebble) [
-      | inl before ↦ subst (BeatsPlace board label) (get_or-insert_below others pebble label 0 k before place)
-          (answer.dominates k (omega (arith, size)) (omega arith))
-      | inr behind ↦ subst (BeatsPlace board label) (get_or-insert_above others pebble label 0 k behind place)
-          (answer.dominates (k + 1) (omega (arith, size)) (omega arith))
-    ]),
-  ),
-  λ all. record {
-    is_label = all.0;
+  λ answer. record {
+    is_label = answer.is_label;
     dominates = λ other inside differs. elim (cases_lt other pebble) [
-      | inl before ↦ subst (BeatsPlace board label) (sym (get_or-insert_below others pebble label 0 other before place))
-          (All-get_or (BeatsPlace board label) others other 0 (omega (arith, size, place)) all.1)
+      | inl before ↦ subst (DominatesPlace board label) (sym (get_or-insert_below others pebble label 0 other before place))
+          (All-get_or (DominatesPlace board label) others other 0 (omega (arith, size, place)) answer.dominates)
       | inr behind ↦
           let one_more : other - 1 + 1 ≡ other = omega arith in
-          subst (BeatsPlace board label)
+          subst (DominatesPlace board label)
           (sym (get_or-insert_above others pebble label 0 (other - 1) (omega arith) place)
           ∙ ap (λ (k : ℕ). get_or (insert others pebble label) k 0) one_more)
-          (All-get_or (BeatsPlace board label) others (other - 1) 0 (omega (arith, size, place)) all.1)
+          (All-get_or (DominatesPlace board label) others (other - 1) 0 (omega (arith, size, place)) answer.dominates)
     ];
   },
 )
@@ -254,6 +221,39 @@ answer_beats_others board gap label below = (
     size : length others ≡ board.pebbles - 1
     size = (others_of_gap board gap below).size
 
+-- the legal labels of a pebble don't depend on its own label
+legal_after_move : (board : PlainBoard) (configuration : List ℕ) (pebble old label : ℕ)
+    → Legal board configuration pebble label ↔ Legal board (moved configuration pebble old) pebble label
+legal_after_move board configuration pebble old label = (
+  λ legal. record {
+    is_label = legal.is_label;
+    dominates = λ other below differs.
+        subst (DominatesPlace board label) (sym (get_or-set_other configuration pebble other old 0 differs))
+        (legal.dominates other below differs);
+  },
+  λ legal. record {
+    is_label = legal.is_label;
+    dominates = λ other below differs.
+        subst (DominatesPlace board label) (get_or-set_other configuration pebble other old 0 differs)
+        (legal.dominates other below differs);
+  },
+)
+
+pub legal_is_answer : (board : PlainBoard) (configuration : List ℕ) (pebble label : ℕ)
+    → IsConfiguration board configuration → pebble < board.pebbles
+    → Legal board configuration pebble label ↔ IsAnswer board (gap_of board configuration pebble) label
+legal_is_answer board configuration pebble label is inside =
+    let gap : ℕ = gap_of board configuration pebble in
+    let member = member_of-gap_of board configuration pebble label is inside in
+    let same = pebble_of-gap_of board configuration pebble is inside in
+    let after = legal_after_move board configuration pebble label label in
+    let there = legal_at_member board gap label (gap_below board configuration pebble is inside) in (
+      λ legal. there.0 (subst (λ (p : ℕ). Legal board (member_of board gap label) p label) (sym same)
+          (subst (λ (c : List ℕ). Legal board c pebble label) (sym member) (after.0 legal))),
+      λ answer. after.1 (subst (λ (c : List ℕ). Legal board c pebble label) member
+          (subst (λ (p : ℕ). Legal board (member_of board gap label) p label) same (there.1 answer))),
+    )
+
 -- at the member that an answer leads to, the gap's pebble dominates
 answer_dominates : (board : PlainBoard) (gap label : ℕ) → gap < gaps board → IsAnswer board gap label
     → IsDominator board (member_of board gap label) (pebble_of board gap)
@@ -262,7 +262,8 @@ answer_dominates board gap label below answer =
     record {
       is_pebble = pebble_below board gap below;
       has_label = subst (λ l. l < board.labels) (sym held) answer.is_label;
-      dominates = subst (Dominates board (member_of board gap label) (pebble_of board gap)) (sym held) answer.dominates;
+      dominates = subst (DominatesOthers board (member_of board gap label) (pebble_of board gap)) (sym held)
+          ((legal_at_member board gap label below).1 answer).dominates;
     }
 
 -- a configuration is an answer's member of one gap at most

@@ -1,7 +1,7 @@
 -- The moves from a configuration by the places of its pebbles.
 use Rattle.std.proofs.Common.{◌≡◌, ◌≢◌, ℕ, ◌+◌, ◌-◌, ◌*◌, ◌<◌, ◌≤◌, ◌↔◌, true, List, get_or, sym, ap, ◌∙◌, subst}
 use Rattle.std.proofs.Common.{below_more, arith}
-use Rattle.board_text.specs.PlainBoard.{PlainBoard, Beats, BeatsPlace, places}
+use Rattle.board_text.specs.PlainBoard.{PlainBoard, Dominates, DominatesPlace, places}
 use Rattle.board_text.specs.Domination.{has_bit}
 use Rattle.board_text.specs.declared.board.TheConstants.{MAX_LABELS, MAX_PEBBLES}
 use Rattle.positions.specs.Game.{Legal, moved}
@@ -15,28 +15,28 @@ use Rattle.positions.proofs.NumberParts.{Parts, parts_at}
 use Rattle.positions.proofs.Ranks.{rank_below, rank_of-configuration_at, configuration_at_is}
 
 -- the label beats the labels of all pebbles below a bound, but for one of them
-abbrev pub BeatsOthers : PlainBoard → List ℕ → ℕ → ℕ → ℕ → Type 0
-BeatsOthers board held pebble bound label =
-    (other : ℕ) → other < bound → other ≢ pebble → BeatsPlace board label (get_or held other 0)
+abbrev pub DominatesOthersBelow : PlainBoard → List ℕ → ℕ → ℕ → ℕ → Type 0
+DominatesOthersBelow board held pebble bound label =
+    (other : ℕ) → other < bound → other ≢ pebble → DominatesPlace board label (get_or held other 0)
 
 -- the bits are those of such labels
-abbrev pub AreBeating : PlainBoard → List ℕ → ℕ → ℕ → List ℕ → Type 0
-AreBeating board held pebble bound words =
+abbrev pub AreDominating : PlainBoard → List ℕ → ℕ → ℕ → List ℕ → Type 0
+AreDominating board held pebble bound words =
     (label : ℕ) → label < MAX_LABELS → (has_bit words label ≡ true)
-    ↔ ((label < board.labels) × BeatsOthers board held pebble bound label)
+    ↔ ((label < board.labels) × DominatesOthersBelow board held pebble bound label)
 
 -- a further pebble holds a label
 pub beating_more : (board : PlainBoard) (held words row new : List ℕ) (pebble bound : ℕ) → bound ≢ pebble
     → get_or held bound 0 < board.labels
-    → ((x : ℕ) → x < MAX_LABELS → (has_bit row x ≡ true) ↔ Beats board x (get_or held bound 0))
+    → ((x : ℕ) → x < MAX_LABELS → (has_bit row x ≡ true) ↔ Dominates board x (get_or held bound 0))
     → ((x : ℕ) → x < MAX_LABELS → (has_bit new x ≡ true) ↔ ((has_bit words x ≡ true) × (has_bit row x ≡ true)))
-    → AreBeating board held pebble bound words → AreBeating board held pebble (bound + 1) new
+    → AreDominating board held pebble bound words → AreDominating board held pebble (bound + 1) new
 beating_more board held words row new pebble bound differs is_label beaten both are label small = (
   λ set.
       let each = (both label small).0 set in
       let before = (are label small).0 each.0 in (
         before.0,
-        below_more (λ k. k ≢ pebble → BeatsPlace board label (get_or held k 0)) bound before.1
+        below_more (λ k. k ≢ pebble → DominatesPlace board label (get_or held k 0)) bound before.1
             (λ _ _. (beaten label small).0 each.1),
       ),
   λ is. (both label small).1 (
@@ -48,12 +48,12 @@ beating_more board held words row new pebble bound differs is_label beaten both 
 -- a further pebble is the one that moves, or holds no label
 pub beating_same : (board : PlainBoard) (held words : List ℕ) (pebble bound : ℕ)
     → (bound ≢ pebble → board.labels ≤ get_or held bound 0)
-    → AreBeating board held pebble bound words → AreBeating board held pebble (bound + 1) words
+    → AreDominating board held pebble bound words → AreDominating board held pebble (bound + 1) words
 beating_same board held words pebble bound blank are label small = (
   λ set.
       let before = (are label small).0 set in (
         before.0,
-        below_more (λ k. k ≢ pebble → BeatsPlace board label (get_or held k 0)) bound before.1
+        below_more (λ k. k ≢ pebble → DominatesPlace board label (get_or held k 0)) bound before.1
             (λ differs low. let high = blank differs in absurd (omega arith)),
       ),
   λ is. (are label small).1 (is.0, λ other low. is.1 other (omega arith)),
@@ -63,18 +63,18 @@ module _ (position : Position) (board space : PlainBoard) (rank : ℕ) (held : L
     (is : position_at board rank ≡ position) (has : HasPlaces board space rank held) where
   -- a label is legal exactly if it beats the labels of all other pebbles
   pub legal_is : (pebble label : ℕ)
-      → ((label < board.labels) × BeatsOthers board held pebble board.pebbles label)
+      → ((label < board.labels) × DominatesOthersBelow board held pebble board.pebbles label)
       ↔ Legal position.board position.configuration pebble label
-  legal_is pebble label = subst (λ p. ((label < board.labels) × BeatsOthers board held pebble board.pebbles label)
+  legal_is pebble label = subst (λ p. ((label < board.labels) × DominatesOthersBelow board held pebble board.pebbles label)
       ↔ Legal p.board p.configuration pebble label) is (
         λ beats. record {
           is_label = beats.0;
-          dominates = λ other inside differs. subst (BeatsPlace board label) (has.each other inside)
+          dominates = λ other inside differs. subst (DominatesPlace board label) (has.each other inside)
               (beats.1 other inside differs);
         },
         λ legal. (
           legal.is_label,
-          λ other inside differs. subst (BeatsPlace board label) (sym (has.each other inside))
+          λ other inside differs. subst (DominatesPlace board label) (sym (has.each other inside))
               (legal.dominates other inside differs),
         ),
       )

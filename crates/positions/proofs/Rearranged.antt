@@ -1,20 +1,20 @@
 -- Configurations with the same places in another order: pebbles are alike, so the values are the same.
 use Rattle.std.proofs.Common.{◌≡◌, ◌≢◌, ℕ, zero, suc, ◌+◌, ◌-◌, ◌%◌, ◌<◌, ◌≤◌, ◌⊎◌, cond, nat_eq, inl, inr}
 use Rattle.std.proofs.Common.{List, length, get_or, set, sym, ap, ◌∙◌, subst, arith}
-use Rattle.std.specs.List.{All, insert}
+use Rattle.std.specs.List.{insert}
 use Rattle.std.proofs.lemmas.Bool.{cases_eq, cases_lt, eq-eqb, ne_eqb}
 use Rattle.std.proofs.lemmas.List.{get_or-set_same, get_or-set_other, length-set}
 use Rattle.std.proofs.lemmas.List.Edits.{length-insert, get_or-insert_at, get_or-insert_below, get_or-insert_above}
-use Rattle.board_text.specs.PlainBoard.{PlainBoard, BeatsPlace, places}
+use Rattle.board_text.specs.PlainBoard.{PlainBoard, DominatesPlace, places}
 use Rattle.positions.specs.declared.value.Value.{Value}
 use Rattle.positions.specs.declared.value.Value.TheVariants.{Finite, Forever}
 use Rattle.positions.specs.Game.{Legal, LabellerTree, AdversaryTree, moved}
 use Rattle.positions.specs.Value.{HasValue}
 use Rattle.positions.specs.Ranks.{digits_of}
-use Rattle.positions.specs.Gaps.{gaps, gaps_each, pebble_of, others_of, member_of, IsAnswer}
+use Rattle.positions.specs.Gaps.{gaps, gaps_each, pebble_of, others_of, member_of, AnswersGap, IsAnswer}
 use Rattle.positions.specs.Tuples.{tuple_of}
 use Rattle.positions.proofs.Digits.{length-digits_of}
-use Rattle.positions.proofs.GapLaws.{pebble_below, answer_beats_others}
+use Rattle.positions.proofs.GapLaws.{pebble_below}
 
 -- each pebble of the second configuration has the place that `to` of it has at the first, and
 -- `from` is the inverse of `to`
@@ -40,7 +40,7 @@ module _ (board : PlainBoard) (to from : ℕ → ℕ) where
     legal_there legal = record {
       is_label = legal.is_label;
       dominates = λ other low differs.
-          subst (BeatsPlace board label) (sym (are.places_are other low))
+          subst (DominatesPlace board label) (sym (are.places_are other low))
           (legal.dominates (to other) (are.to_in other low) (to_other other low differs));
     }
 
@@ -49,8 +49,8 @@ module _ (board : PlainBoard) (to from : ℕ → ℕ) where
       is_label = legal.is_label;
       dominates = λ other low differs.
           let back : from other < board.pebbles = are.from_in other low in
-          subst (λ p. BeatsPlace board label (get_or first p 0)) (are.to_from other low)
-          (subst (BeatsPlace board label) (are.places_are (from other) back)
+          subst (λ p. DominatesPlace board label (get_or first p 0)) (are.to_from other low)
+          (subst (DominatesPlace board label) (are.places_are (from other) back)
           (legal.dominates (from other) back (λ same. differs (sym (are.to_from other low) ∙ ap to same))));
     }
 
@@ -221,7 +221,4 @@ module _ (board : PlainBoard) (first second : ℕ) (first_in : first < gaps boar
       (value_too board (shifted p q) (shifted q p) (insert others p place) (insert others q place) are value has)
 
   pub same_answers : (label : ℕ) → IsAnswer board first label → IsAnswer board second label
-  same_answers label answer =
-      (answer_beats_others board second label second_in).1
-      (subst (λ l. (label < board.labels) × All (BeatsPlace board label) l) others_same
-      ((answer_beats_others board first label first_in).0 answer))
+  same_answers label answer = subst (λ l. AnswersGap board l label) others_same answer

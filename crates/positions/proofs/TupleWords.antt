@@ -9,16 +9,15 @@ use Rattle.std.proofs.lemmas.Nat.{div-mul-add, mod-mul-add}
 use Rattle.std.proofs.lemmas.Nat.Bits.{bit_at_and, bit_at-lt}
 use Rattle.std.proofs.lemmas.List.{length_push, get_or_push, get_or_append_left}
 use Rattle.std.proofs.lemmas.List.Elements.{All-nil, All-cons, All-head, All-tail}
-use Rattle.board_text.specs.PlainBoard.{PlainBoard, IsBoard, Beats, BeatsPlace, places}
+use Rattle.board_text.specs.PlainBoard.{PlainBoard, IsBoard, Dominates, DominatesPlace, places}
 use Rattle.board_text.specs.Domination.{has_bit}
 use Rattle.board_text.specs.declared.board.TheConstants.{MAX_LABELS}
 use Rattle.board_text.proofs.Cited.{some_places}
 use Rattle.positions.specs.Ranks.{configurations, digits_of}
-use Rattle.positions.specs.Gaps.{gaps, gaps_each, IsAnswer}
+use Rattle.positions.specs.Gaps.{gaps, gaps_each, AnswersGap, IsAnswer}
 use Rattle.positions.specs.Tuples.{tuple_of}
-use Rattle.positions.specs.Inside.Tuples.{AreBeating, AreTupleWords, AreAllWords, IsColumn, AreColumns}
+use Rattle.positions.specs.Inside.Tuples.{AreDominating, AreTupleWords, AreAllWords, IsColumn, AreColumns}
 use Rattle.positions.specs.declared.space.TheConstants.{MAX_CONFIGURATIONS}
-use Rattle.positions.proofs.GapLaws.{answer_beats_others}
 
 -- the bit of a label in a row is one of the word of its column
 pub bit_of_word : (row : List ℕ) (number bit : ℕ) → bit < 64
@@ -48,10 +47,10 @@ abbrev pub IsEvery : PlainBoard → ℕ → ℕ → Type 0
 IsEvery board number word = (bit : ℕ) → bit < 64 → (bit_at word bit ≡ 1) ↔ (64 * number + bit < board.labels)
 
 -- the labels of a column that dominate the label of a place, or all if it holds none
-abbrev pub BeatsOne : PlainBoard → ℕ → ℕ → ℕ → Type 0
-BeatsOne board number place word =
+abbrev pub DominatesOne : PlainBoard → ℕ → ℕ → ℕ → Type 0
+DominatesOne board number place word =
     (bit : ℕ) → bit < 64 → (bit_at word bit ≡ 1)
-    ↔ ((64 * number + bit < board.labels) × BeatsPlace board (64 * number + bit) place)
+    ↔ ((64 * number + bit < board.labels) × DominatesPlace board (64 * number + bit) place)
 
 -- the word of a column in the row of all labels
 pub word_of_every : (board : PlainBoard) (number : ℕ) (every : List ℕ) → number < 4
@@ -65,8 +64,8 @@ word_of_every board number every inside labels bit small = (
 -- the labels of a column that dominate a label
 pub beating_label : (board : PlainBoard) (number place every : ℕ) (row : List ℕ) → number < 4 → place < board.labels
     → IsEvery board number every
-    → ((x : ℕ) → x < MAX_LABELS → (has_bit row x ≡ true) ↔ Beats board x place)
-    → BeatsOne board number place (bit_and every (get_or row number 0))
+    → ((x : ℕ) → x < MAX_LABELS → (has_bit row x ≡ true) ↔ Dominates board x place)
+    → DominatesOne board number place (bit_and every (get_or row number 0))
 beating_label board number place every row inside held labels beats bit small = (
   λ set.
       let both = (bit_of_both_words every (get_or row number 0) bit).0 set in (
@@ -82,7 +81,7 @@ beating_label board number place every row inside held labels beats bit small = 
 
 -- a place that holds no label is dominated by each
 pub beating_blank : (board : PlainBoard) (number place every : ℕ) → board.labels ≤ place → IsEvery board number every
-    → BeatsOne board number place every
+    → DominatesOne board number place every
 beating_blank board number place every none labels bit small = (
   λ set. ((labels bit small).0 set, λ held. absurd (omega arith)),
   λ is. (labels bit small).1 is.0,
@@ -94,8 +93,8 @@ pub no_places : (board : PlainBoard) (number every : ℕ) (words : List ℕ) →
 no_places board number every words is labels = subst (AreAllWords board number 0) (sym is) (record {
   each = λ tuple inside.
       let first : tuple ≡ 0 = omega arith in
-      subst (λ (n : ℕ). AreBeating board number [] (get_or (every ∷ []) n 0)) (sym first) (λ bit small. (
-        λ set. ((labels bit small).0 set, All-nil (BeatsPlace board (64 * number + bit))),
+      subst (λ (n : ℕ). AreDominating board number [] (get_or (every ∷ []) n 0)) (sym first) (λ bit small. (
+        λ set. ((labels bit small).0 set, All-nil (DominatesPlace board (64 * number + bit))),
         λ is. (labels bit small).1 is.0,
       ));
   so_many = sym (pow-zero (places board));
@@ -103,16 +102,16 @@ no_places board number every words is labels = subst (AreAllWords board number 0
 
 -- the labels that dominate one more place
 pub one_more_place : (board : PlainBoard) (number : ℕ) (held : List ℕ) (word beating place : ℕ)
-    → AreBeating board number held word
-    → BeatsOne board number place beating → AreBeating board number (place ∷ held) (bit_and word beating)
+    → AreDominating board number held word
+    → DominatesOne board number place beating → AreDominating board number (place ∷ held) (bit_and word beating)
 one_more_place board number held word beating place before beats bit small = (
   λ set.
       let each = (bit_of_both_words word beating bit).0 set in
       let others = (before bit small).0 each.0 in
-      (others.0, All-cons (BeatsPlace board (64 * number + bit)) place held ((beats bit small).0 each.1).1 others.1),
+      (others.0, All-cons (DominatesPlace board (64 * number + bit)) place held ((beats bit small).0 each.1).1 others.1),
   λ is. (bit_of_both_words word beating bit).1 (
-    (before bit small).1 (is.0, All-tail (BeatsPlace board (64 * number + bit)) place held is.1),
-    (beats bit small).1 (is.0, All-head (BeatsPlace board (64 * number + bit)) place held is.1),
+    (before bit small).1 (is.0, All-tail (DominatesPlace board (64 * number + bit)) place held is.1),
+    (beats bit small).1 (is.0, All-head (DominatesPlace board (64 * number + bit)) place held is.1),
   ),
 )
 
@@ -120,11 +119,11 @@ one_more_place board number held word beating place before beats bit small = (
 pub one_more_word : (board : PlainBoard) (number count : ℕ) (fewer more : List ℕ) (place at beating : ℕ)
     → AreAllWords board number count fewer → AreTupleWords board number (suc count) more
     → length more ≡ place * length fewer + at → at < length fewer
-    → BeatsOne board number place beating
+    → DominatesOne board number place beating
     → AreTupleWords board number (suc count) (more ++ bit_and (get_or fewer at 0) beating ∷ [])
 one_more_word board number count fewer more place at beating all so_far size inside beats tuple below =
     elim (cases_lt tuple (length more)) [
-      | inl old ↦ subst (λ (w : ℕ). AreBeating board number (digits_of (places board) (suc count) tuple) w)
+      | inl old ↦ subst (λ (w : ℕ). AreDominating board number (digits_of (places board) (suc count) tuple) w)
           (sym (get_or_append_left more (new ∷ []) 0 tuple old)) (so_far tuple old)
       | inr late ↦
           let each : ℕ = places board ^ count in
@@ -138,8 +137,8 @@ one_more_word board number count fewer more place at beating all so_far size ins
           let held : digits_of (places board) (suc count) tuple ≡ place ∷ digits_of (places board) count at =
           ap (λ n. n ∷ digits_of (places board) count (tuple % each)) first
           ∙ ap (λ n. place ∷ digits_of (places board) count n) rest in
-          subst (λ (h : List ℕ). AreBeating board number h (get_or (more ++ new ∷ []) tuple 0)) (sym held)
-          (subst (λ (w : ℕ). AreBeating board number (place ∷ digits_of (places board) count at) w)
+          subst (λ (h : List ℕ). AreDominating board number h (get_or (more ++ new ∷ []) tuple 0)) (sym held)
+          (subst (λ (w : ℕ). AreDominating board number (place ∷ digits_of (places board) count at) w)
           (sym (get_or_push more new 0 tuple last))
           (one_more_place board number (digits_of (places board) count at) (get_or fewer at 0) beating place
           (all.each at inside) beats))
@@ -205,19 +204,17 @@ answers_of_tuple board columns tuple row all inside words gap below same label s
     let bit : ℕ = label % 64 in
     let spelled : 64 * number + bit ≡ label = omega arith in
     let word = words number (omega arith) in
-    let beating : AreBeating board number held (get_or row number 0) =
-    subst (λ (w : ℕ). AreBeating board number held w) (sym word.1) (all number word.0 (omega arith) tuple inside) in
-    let here : (has_bit row label ≡ true) ↔ ((label < board.labels) × All (BeatsPlace board label) held) =
-    subst (λ (x : ℕ). (has_bit row x ≡ true) ↔ ((x < board.labels) × All (BeatsPlace board x) held)) spelled (
+    let beating : AreDominating board number held (get_or row number 0) =
+    subst (λ (w : ℕ). AreDominating board number held w) (sym word.1) (all number word.0 (omega arith) tuple inside) in
+    let here : (has_bit row label ≡ true) ↔ ((label < board.labels) × All (DominatesPlace board label) held) =
+    subst (λ (x : ℕ). (has_bit row x ≡ true) ↔ ((x < board.labels) × All (DominatesPlace board x) held)) spelled (
       λ set. (beating bit (omega arith)).0 ((bit_of_word row number bit (omega arith)).0 set),
       λ is. (bit_of_word row number bit (omega arith)).1 ((beating bit (omega arith)).1 is),
     ) in
-    let answer : IsAnswer board gap label ↔ ((label < board.labels) × All (BeatsPlace board label) held) =
-    subst (λ (t : ℕ). IsAnswer board gap label
-    ↔ ((label < board.labels) × All (BeatsPlace board label) (digits_of (places board) (board.pebbles - 1) t))) same
-    (answer_beats_others board gap label below) in (
-      λ is. answer.1 (here.0 is),
-      λ is. here.1 (answer.0 is),
+    subst (λ (t : ℕ). (has_bit row label ≡ true)
+    ↔ AnswersGap board (digits_of (places board) (board.pebbles - 1) t) label) (sym same) (
+      λ set. let is = here.0 set in record { is_label = is.0; dominates = is.1 },
+      λ answer. here.1 (answer.is_label, answer.dominates),
     )
 
 -- there are no more tuples of one more place than configurations

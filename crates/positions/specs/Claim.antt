@@ -1,4 +1,4 @@
--- The claims of strategy documents on the start, and when their tables show them.
+-- The claims of strategy documents on the start, when their tables show them, and when they hold.
 use Rattle.std.specs.Prelude.{ℕ, ◌≤◌, ◌⊎◌, List}
 use Rattle.board_text.specs.PlainBoard.{PlainBoard}
 use Rattle.positions.specs.declared.claim.Claim.{Claim}
@@ -24,10 +24,14 @@ Shows board labeller adversary (claims.AtMost number) =
 Shows board labeller adversary claims.Forever =
     IsClosed board labeller × IsListed labeller board.start
 
+-- the claim holds of the configuration's value
+abbrev pub HoldsAt : PlainBoard → List ℕ → Claim → Type 0
+HoldsAt board configuration (claims.Exactly number) = HasValue board configuration (Finite number)
+HoldsAt board configuration (claims.AtLeast number) = HasValue board configuration Forever
+    ⊎ ((depth : ℕ) × (number ≤ depth) × HasValue board configuration (Finite depth))
+HoldsAt board configuration (claims.AtMost number) = HasValueAtMost board configuration number
+HoldsAt board configuration claims.Forever = HasValue board configuration Forever
+
 -- the claim holds of the start's value
 abbrev pub Holds : PlainBoard → Claim → Type 0
-Holds board (claims.Exactly number) = HasValue board board.start (Finite number)
-Holds board (claims.AtLeast number) = HasValue board board.start Forever
-    ⊎ ((depth : ℕ) × (number ≤ depth) × HasValue board board.start (Finite depth))
-Holds board (claims.AtMost number) = HasValueAtMost board board.start number
-Holds board claims.Forever = HasValue board board.start Forever
+Holds board claim = HoldsAt board board.start claim

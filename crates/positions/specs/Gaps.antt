@@ -1,8 +1,8 @@
 -- Gaps: a pebble, with places for all other pebbles.
 use Rattle.std.specs.Prelude.{ℕ, ◌+◌, ◌-◌, ◌*◌, ◌/◌, ◌%◌, ◌^◌, ◌<◌, List, slice_index}
-use Rattle.std.specs.List.{remove, insert}
-use Rattle.board_text.specs.PlainBoard.{PlainBoard, places}
-use Rattle.positions.specs.Game.{Legal, Dominates}
+use Rattle.std.specs.List.{All, remove, insert}
+use Rattle.board_text.specs.PlainBoard.{PlainBoard, DominatesPlace, places}
+use Rattle.positions.specs.Game.{DominatesOthers}
 use Rattle.positions.specs.Ranks.{number_of, digits_of}
 
 -- the number of gaps of each pebble
@@ -31,12 +31,17 @@ others_of board gap = digits_of (places board) (board.pebbles - 1) (gap % gaps_e
 abbrev pub member_of : PlainBoard → ℕ → ℕ → List ℕ
 member_of board gap place = insert (others_of board gap) (pebble_of board gap) place
 
--- the label may answer a request of the gap's pebble at the gap's members
+-- the label may answer a request of a pebble while the others have these places
+pub record AnswersGap (board : PlainBoard) (others : List ℕ) (label : ℕ) : Type 0 where
+  pub is_label : label < board.labels
+  pub dominates : All (DominatesPlace board label) others
+
+-- the label may answer a request of the gap's pebble
 abbrev pub IsAnswer : PlainBoard → ℕ → ℕ → Type 0
-IsAnswer board gap label = Legal board (member_of board gap label) (pebble_of board gap) label
+IsAnswer board gap label = AnswersGap board (others_of board gap) label
 
 -- the pebble holds a label that dominates all others at the configuration
 pub record IsDominator (board : PlainBoard) (configuration : List ℕ) (pebble : ℕ) : Type 0 where
   pub is_pebble : pebble < board.pebbles
   pub has_label : slice_index configuration pebble < board.labels
-  pub dominates : Dominates board configuration pebble (slice_index configuration pebble)
+  pub dominates : DominatesOthers board configuration pebble (slice_index configuration pebble)

@@ -3,7 +3,7 @@
 ghost use Rattle.std.specs.Prelude.{◌≡◌, ℕ, ◌+◌, ◌*◌, ◌<◌, ◌≤◌, ◌↔◌, suc, length, slice_index_or};
 ghost use Rattle.std.specs.Prelude.{IfOk};
 ghost use Rattle.std.specs.Int.{bit_at};
-ghost use Rattle.board_text.specs.PlainBoard.{BeatsPlace, places};
+ghost use Rattle.board_text.specs.PlainBoard.{DominatesPlace, places};
 ghost use Rattle.positions.specs.Ranks.{configurations};
 ghost use Rattle.positions.specs.Inside.Tuples.{IsColumn, AreAllWords};
 
@@ -90,7 +90,7 @@ fn word_beating(board: &Board, number: usize, place: u16) -> u64
     requires place { place < places board.now }
     ensures { (bit : ℕ) → bit < 64
         → (bit_at result bit ≡ 1) ↔ ((64 * number + bit < board.now.labels)
-        × BeatsPlace board.now (64 * number + bit) place) }
+        × DominatesPlace board.now (64 * number + bit) place) }
 {
     let every_label = LabelSet::below(board.labels()).word(number);
     if place < board.labels() {

@@ -10,7 +10,7 @@ ghost use Rattle.positions.specs.Table.{AnswerRow, RequestRow, Answers, IsClosed
 ghost use Rattle.positions.specs.Table.{StopsAfter};
 ghost use Rattle.positions.specs.declared.claim.Claim.{Claim as ClaimData};
 ghost use Rattle.positions.specs.Claim.{Shows, Holds};
-ghost use Rattle.positions.specs.Laws.{HasOneTree, HasOneValue, LastsLess, HasRequestTo, Occurs};
+ghost use Rattle.positions.specs.Laws.{HasOneTree, HasOneValue, HasRequestTo, Occurs};
 
 use crate::space::MAX_CONFIGURATIONS;
 
@@ -24,7 +24,7 @@ pub fn one_has_a_tree()
 #[tactic(auto, using(crate::proofs::Trees::lasts_less))]
 pub fn lasts_less()
     ensures { (board : PlainBoard) → (depth : ℕ) → (configuration : List ℕ)
-        → LastsLess board depth configuration }
+        → LabellerTree board (suc depth) configuration → LabellerTree board depth configuration }
 {}
 
 /// A value is at most `most + 1` exactly if, for some pebble,

@@ -1,12 +1,11 @@
 -- From the words of a row to the row, or to its fault.
 use Rattle.std.proofs.Common.{◌≡◌, ℕ, ◌+◌, ◌-◌, ◌<◌, ◌≤◌, ◌⊎◌, Bool, true, false, List, [], ◌∷◌, ◌++◌, Option, Some}
-use Rattle.std.proofs.Common.{None, length, take, drop, get_or, All, refl, sym, ap, subst, ◌∙◌, append_assoc, cond}
+use Rattle.std.proofs.Common.{None, length, take, drop, get_or, All, refl, sym, ap, subst, ◌∙◌, append_assoc}
 use Rattle.std.proofs.Common.{arith, inl, inr}
 use Rattle.std.proofs.lemmas.List.{length-map, length-take, take_at, get_or-append_right, get_or-drop, get_or-replicate}
 use Rattle.std.proofs.lemmas.List.{get_or_past}
 use Rattle.std.proofs.lemmas.Bool.{cases_lt}
 use Rattle.std.specs.Prelude.{not, Result, Ok, Err, OnOk}
-use Rattle.std.specs.Result.{is_ok}
 use Rattle.board_text.specs.LineForms.{with_line_feed}
 use Rattle.board_text.specs.Ranges.{AreNumbers}
 use Rattle.board_text.specs.PlaceForms.{place_word, SpellsPlace, SpellPlaces}

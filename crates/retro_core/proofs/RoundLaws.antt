@@ -9,10 +9,11 @@ use Rattle.board_text.specs.PlainBoard.{IsBoard}
 use Rattle.positions.specs.declared.value.Value.TheVariants.{Finite}
 use Rattle.positions.specs.Counts.{HasSize}
 use Rattle.positions.proofs.Cited.{same_size, same_value}
+use Rattle.graphs.specs.Answers.{IsAnswerIn}
 use Rattle.graphs.specs.Graph.{PlainGraph, live_answers, lasts}
 use Rattle.graphs.specs.Numbered.{Numbered, graph_of, configuration_of}
 use Rattle.graphs.proofs.Cited.{numbered-is, same_or_not, some_same}
-use Rattle.solver.specs.Solving.{Solving, IsSolving, IsAnswerAt, AnswerLasts, source, IsWorth}
+use Rattle.solver.specs.Solving.{Solving, IsSolving, AnswerLasts, source, IsWorth}
 use Rattle.solver.specs.Striking.{stands, tally}
 use Rattle.retro_core.specs.Round.{PlainSeat, Round, spent_seat, all_todo, all_owed, all_won, IsDue, IsLawful}
 use Rattle.retro_core.proofs.Rules.{Fits, value_before, rules_of, held_in, AreKept}
@@ -48,11 +49,11 @@ RoundKept round = AreKept (rules_of round.solving round.width) (slice_index roun
 -- the tally of a gap is the number of its answers that lead into the list
 pub waiting-size : (n : Numbered) → IsBoard n.board → (ranks : List ℕ) (g : ℕ) → g < (graph_of n).gaps
     → ((x : ℕ) → 0 < times x ranks → x < (graph_of n).configurations) → ((x : ℕ) → times x ranks ≤ 1)
-    → HasSize (λ place. IsAnswerAt (graph_of n) g place × (0 < times ((graph_of n).member g place) ranks))
+    → HasSize (λ place. IsAnswerIn (graph_of n) g place × (0 < times ((graph_of n).member g place) ranks))
     (tally (graph_of n).struck g ranks)
 waiting-size n board_is ranks g i inside once =
     let a : PlainGraph = graph_of n in
-    subst (HasSize (λ place. IsAnswerAt a g place × (0 < times (a.member g place) ranks)))
+    subst (HasSize (λ place. IsAnswerIn a g place × (0 < times (a.member g place) ranks)))
     (live-tally a (numbered-is n board_is) g ranks i inside once)
     (live-size a g (stands ranks) (λ v. 0 < times (a.member g v) ranks) (λ v j. (
       λ e. stands-some ranks (a.member g v) e,
@@ -151,7 +152,7 @@ count-is round sol law g i =
     let above = same_size (AnswerLasts n g (suc round.solving.rounds)) count.above
     (live_answers (graph_of n) (lasts (graph_of n) (suc round.solving.rounds)) g) count.are_above
     (above-size n sol.is_board (suc round.solving.rounds) g i) in
-    let waiting = same_size (λ place. IsAnswerAt (graph_of n) g place
+    let waiting = same_size (λ place. IsAnswerIn (graph_of n) g place
     × (0 < times ((graph_of n).member g place) (all_todo round))) count.waiting
     (tally (graph_of n).struck g (all_todo round)) count.are_waiting
     (waiting-size n sol.is_board (all_todo round) g i (λ x h. (law.due x h).worth.is_rank) law.due_once) in

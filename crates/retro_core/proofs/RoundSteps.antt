@@ -11,10 +11,11 @@ use Rattle.index_lists.specs.Lists.{times}
 use Rattle.board_text.specs.PlainBoard.{IsBoard}
 use Rattle.positions.specs.Game.{LabellerTree}
 use Rattle.positions.proofs.Cited.{same_size, size_zero}
+use Rattle.graphs.specs.Answers.{IsAnswerIn}
 use Rattle.graphs.specs.Graph.{PlainGraph, live_answers, lasts}
 use Rattle.graphs.specs.Numbered.{Numbered, graph_of, configuration_of}
 use Rattle.graphs.proofs.Cited.{next-fails, tree_of_lasts, lasts_of_value}
-use Rattle.solver.specs.Solving.{Solving, IsSolving, IsAnswerAt, AnswerLasts, to_strike}
+use Rattle.solver.specs.Solving.{Solving, IsSolving, AnswerLasts, to_strike}
 use Rattle.solver.specs.Words.{value_of_word, AreFirstCounts, AreFirstValues}
 use Rattle.retro_core.specs.Round.{PlainSeat, Round, spent_seat, seat_at, all_todo, all_owed, all_won, IsDue, IsLawful}
 use Rattle.retro_core.specs.Round.{round_of}
@@ -218,9 +219,9 @@ worked-off round board_is law off = λ rank. (
         let no_owed : (x : ℕ) → times x (all_owed round) ≡ 0 =
         none-together (λ u. u.owed) refl round.seats off.no_owed in
         let waiting : count.waiting ≡ 0 =
-        same_size (λ place. IsAnswerAt a g place
+        same_size (λ place. IsAnswerIn a g place
         × (0 < times (a.member g place) (all_todo round))) count.waiting 0 count.are_waiting
-        ((size_zero (λ place. IsAnswerAt a g place × (0 < times (a.member g place) (all_todo round)))).1
+        ((size_zero (λ place. IsAnswerIn a g place × (0 < times (a.member g place) (all_todo round)))).1
         (λ place h. let none = no_todo (a.member g place) in let some = h.1 in omega arith)) in
         let sum = count.sum in
         let tree = tree_of_lasts n board_is (suc r) rank worth.is_rank last.0 in

@@ -10,9 +10,10 @@ use Rattle.positions.specs.declared.value.Value.TheVariants.{Finite}
 use Rattle.positions.specs.Game.{LabellerTree}
 use Rattle.positions.specs.Value.{HasValue}
 use Rattle.positions.specs.Counts.{HasSize}
+use Rattle.graphs.specs.Answers.{IsAnswerIn}
 use Rattle.graphs.specs.Graph.{PlainGraph}
 use Rattle.graphs.specs.Numbered.{Numbered, graph_of, configuration_of}
-use Rattle.solver.specs.Solving.{Solving, AnswerLasts, IsAnswerAt, IsWorth, source, to_strike}
+use Rattle.solver.specs.Solving.{Solving, AnswerLasts, IsWorth, source, to_strike}
 
 -- a seat's width, and the configurations that it has to strike, that it owes, and that it has won
 pub record PlainSeat : Type 0 where
@@ -80,7 +81,7 @@ pub record IsCount (round : Round) (gap count : ℕ) : Type 0 where
   pub above : ℕ
   pub waiting : ℕ
   pub are_above : HasSize (AnswerLasts (game_of round) gap (next_value round)) above
-  pub are_waiting : HasSize (λ place. IsAnswerAt (round_graph round) gap place
+  pub are_waiting : HasSize (λ place. IsAnswerIn (round_graph round) gap place
       × (0 < times ((round_graph round).member gap place) (all_todo round))) waiting
   pub sum : count ≡ above + waiting
 

@@ -4,7 +4,6 @@ use Rattle.board_text.specs.PlainBoard.{PlainBoard, IsBoard, IsConfiguration}
 use Rattle.board_text.specs.BoardText.{board_text}
 use Rattle.board_text.specs.BoardFaults as board_faults
 use Rattle.board_text.specs.declared.fault.BoardKind.TheVariants as board_kinds
-use Rattle.class_documents.specs.ClaimAt.{HoldsAt}
 use Rattle.class_documents.specs.ClassFaults.{IsFirstClassFault}
 use Rattle.class_documents.specs.ClassProof.{IsClassProof}
 use Rattle.class_documents.specs.ClassRules.{BreaksNoClassRule}
@@ -13,7 +12,7 @@ use Rattle.classes.specs.Classes.{class_of}
 use Rattle.graphs.specs.Numbered.{IsFewBy}
 use Rattle.graphs.specs.declared.graph.Numbering.{Numbering}
 use Rattle.graphs.specs.declared.graph.Numbering.TheVariants.{Ordered, Classes}
-use Rattle.positions.specs.Claim.{Holds, Shows}
+use Rattle.positions.specs.Claim.{Holds, Shows, HoldsAt}
 use Rattle.proof_text.specs.Proof.{PlainProof, IsProof}
 use Rattle.proof_text.specs.ProofText.{proof_text}
 use Rattle.proof_text.specs.Rules.{BreaksNoRule}

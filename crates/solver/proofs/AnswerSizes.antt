@@ -14,7 +14,7 @@ use Rattle.graphs.specs.Answers.{IsAnswerIn, AreAnswerBits}
 use Rattle.graphs.specs.Graph.{PlainGraph, count_below, live_answers, lasts}
 use Rattle.graphs.specs.Numbered.{Numbered, graph_of, configuration_of}
 use Rattle.graphs.proofs.Cited.{both_true, and_true, true_not_false, same_is, numbered-is, tree_of_lasts, lasts_of_tree}
-use Rattle.solver.specs.Solving.{IsAnswerAt, AnswerLasts}
+use Rattle.solver.specs.Solving.{AnswerLasts}
 
 only_zero : (k : ℕ) → Contains (0 ∷ []) k → 0 ≡ k
 only_zero k (zero, inside, same) = same
@@ -58,11 +58,11 @@ test_same m n e = grind (arith, nat_tests)
 -- if the test says whether P holds, the count is the number of answers for which P holds
 pub live-size : (a : PlainGraph) (g : ℕ) (above : ℕ → Bool) (P : ℕ → Type 0)
     → ((v : ℕ) → v < a.places → (above (a.member g v) ≡ true) ↔ P v)
-    → HasSize (λ v. IsAnswerAt a g v × P v) (live_answers a above g)
+    → HasSize (λ v. IsAnswerIn a g v × P v) (live_answers a above g)
 live-size a g above P means =
     let test : ℕ → Bool = λ v. a.struck (a.member g v) == g && above (a.member g v) in
-    subst (HasSize (λ v. IsAnswerAt a g v × P v)) (count-same test a.places)
-    (size_of (λ v. IsAnswerAt a g v × P v) test a.places (λ v. (
+    subst (HasSize (λ v. IsAnswerIn a g v × P v)) (count-same test a.places)
+    (size_of (λ v. IsAnswerIn a g v × P v) test a.places (λ v. (
       λ holds. let low : v < a.places = holds.0.is_place in (
         low,
         and_true (a.struck (a.member g v) == g) (above (a.member g v))
@@ -81,15 +81,14 @@ pub live-all : (a : PlainGraph) (g : ℕ) (row : List ℕ) (size : ℕ) → AreA
 live-all a g row size bits is =
     let all = live-size a g (lasts a 0) (λ v. v < a.places) (λ v low. (λ _. low, λ _. refl)) in
     same_size (λ v. (v < MAX_LABELS) × (has_bit row v ≡ true)) size (live_answers a (lasts a 0) g) is
-    (same_fact_size (λ v. IsAnswerAt a g v × (v < a.places)) (λ v. (v < MAX_LABELS) × (has_bit row v ≡ true))
+    (same_fact_size (λ v. IsAnswerIn a g v × (v < a.places)) (λ v. (v < MAX_LABELS) × (has_bit row v ≡ true))
     (live_answers a (lasts a 0) g) (λ v. (
       λ answer.
-          let here : IsAnswerIn a g v = (answer.0.is_place, answer.0.struck) in
-          let few = bits.few v here in
-          (few, (bits.each v few).1 here),
+          let few = bits.few v answer.0 in
+          (few, (bits.each v few).1 answer.0),
       λ set.
           let here = (bits.each v set.0).0 set.1 in
-          (record { is_place = here.0; struck = here.1 }, here.0),
+          (here, here.is_place),
     )) all)
 
 -- the count is the number of answers after which a labeller lasts `depth` requests

@@ -72,7 +72,7 @@ module _ (n : Numbered) (is : IsBoard n.board) (gap : ℕ) (c : List ℕ) (p : �
 pub answer-inside : (n : Numbered) (gap : ℕ) (labels : List ℕ) → AreAnswerBits (graph_of n) gap labels
     → (label : ℕ) → IsInSet labels label → label < places n.board
 answer-inside n gap labels are label set =
-    subst (λ m. label < m) (places_are n) ((are.each label set.0).0 set.1).0
+    subst (λ m. label < m) (places_are n) ((are.each label set.0).0 set.1).is_place
 
 -- a place is one of the graph's
 pub inside-graph : (n : Numbered) (place : ℕ) → place < places n.board → place < (graph_of n).places

@@ -7,7 +7,8 @@ use Rattle.classes.specs.declared.counting.TheConstants.{MAX_CLASSES}
 use Rattle.positions.specs.declared.value.Value.TheVariants.{Finite, Forever}
 use Rattle.positions.specs.Game.{LabellerTree}
 use Rattle.positions.specs.Value.{HasValue}
-use Rattle.graphs.specs.Graph.{PlainGraph, is_struck}
+use Rattle.graphs.specs.Answers.{IsAnswerIn}
+use Rattle.graphs.specs.Graph.{is_struck}
 use Rattle.graphs.specs.Numbered.{Numbered, graph_of, configuration_of, IsFewBy}
 
 -- a board and what its numbers stand for, the last round that filed something, whether a later one
@@ -95,17 +96,12 @@ abbrev pub HasFoundNone : Solving → Solving → Type 0
 HasFoundNone before after = NoneHas before.game.board (suc before.rounds)
     × (after.rounds ≡ before.rounds) × (after.is_done ≡ true)
 
--- the member of the gap at the place is an answer there
-pub record IsAnswerAt (a : PlainGraph) (gap place : ℕ) : Type 0 where
-  pub is_place : place < a.places
-  pub struck : a.struck (a.member gap place) ≡ gap
-
 -- the place is an answer, and a labeller lasts `depth` requests more after it
 abbrev pub AnswerLasts : Numbered → ℕ → ℕ → ℕ → Type 0
-AnswerLasts n gap depth place = IsAnswerAt (graph_of n) gap place
+AnswerLasts n gap depth place = IsAnswerIn (graph_of n) gap place
     × LabellerTree n.board depth (configuration_of n ((graph_of n).member gap place))
 
 -- the place is an answer, and a labeller lasts forever after it
 abbrev pub AnswerForever : Numbered → ℕ → ℕ → Type 0
-AnswerForever n gap place = IsAnswerAt (graph_of n) gap place
+AnswerForever n gap place = IsAnswerIn (graph_of n) gap place
     × HasValue n.board (configuration_of n ((graph_of n).member gap place)) Forever

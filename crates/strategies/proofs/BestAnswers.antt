@@ -4,7 +4,7 @@ use Rattle.std.proofs.Common.{subst, arith}
 use Rattle.std.proofs.lemmas.Bool.{cases_lt}
 use Rattle.board_text.specs.PlainBoard.{PlainBoard, IsConfiguration}
 use Rattle.positions.specs.declared.value.Value.{Value}
-use Rattle.positions.specs.Game.{Legal, Dominates, LabellerTree, moved}
+use Rattle.positions.specs.Game.{Legal, DominatesOthers, LabellerTree, moved}
 use Rattle.positions.specs.Value.{HasValue}
 use Rattle.positions.proofs.Cited.{dominates_or_not, moved_is_configuration, some_value, same_value}
 use Rattle.strategies.specs.declared.gap_best.Best.{Best}
@@ -127,7 +127,7 @@ module _ (board : PlainBoard) (configuration : List ℕ) (pebble : ℕ) where
           before.0,
           widen bound (suc bound) before.0 (omega arith) (λ label late early legal.
               let same : label ≡ bound = omega arith in
-              not (subst (Dominates board configuration pebble) same legal.dominates)) before.1,
+              not (subst (DominatesOthers board configuration pebble) same legal.dominates)) before.1,
         )
         | inl dominates ↦
             let legal : Legal board configuration pebble bound =

@@ -4,7 +4,7 @@ use Rattle.std.proofs.lemmas.Bool.{cases_lt}
 use Rattle.board_text.specs.PlainBoard.{PlainBoard, IsConfiguration}
 use Rattle.positions.specs.declared.value.Value.{Value}
 use Rattle.positions.specs.declared.value.Value.TheVariants.{Finite, Forever}
-use Rattle.positions.specs.Game.{Legal, Dominates, LabellerTree, AdversaryTree, moved}
+use Rattle.positions.specs.Game.{Legal, DominatesOthers, LabellerTree, AdversaryTree, moved}
 use Rattle.positions.specs.Ranks.{configurations}
 use Rattle.positions.specs.Value.{HasValue}
 use Rattle.positions.proofs.Cited.{each_or_some, dominates_or_not, some_tree, moved_is_configuration, some_value}
@@ -43,9 +43,9 @@ lowers_or_some : (board : PlainBoard) (number : ℕ) (configuration : List ℕ)
     ⊎ ((label : ℕ) × Legal board configuration pebble label
     × LabellerTree board number (moved configuration pebble label))
 lowers_or_some board number configuration has pebble is_pebble =
-    elim (each_or_some (λ label. Dominates board configuration pebble label
+    elim (each_or_some (λ label. DominatesOthers board configuration pebble label
     → AdversaryTree board number (moved configuration pebble label))
-    (λ label. Dominates board configuration pebble label
+    (λ label. DominatesOthers board configuration pebble label
     × LabellerTree board number (moved configuration pebble label)) board.labels
     (λ label below. elim (dominates_or_not board configuration pebble label) [
       | inr not ↦ inl (λ dominates. absurd (not dominates))

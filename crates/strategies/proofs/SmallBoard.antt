@@ -4,7 +4,7 @@ use Rattle.std.proofs.Common.{arith}
 use Rattle.std.specs.List.{Contains}
 use Rattle.std.proofs.lemmas.List.Elements.{All-cons, All-nil}
 use Rattle.std.proofs.lemmas.List.Kept.{AllPairs-cons}
-use Rattle.board_text.specs.PlainBoard.{Beats, AreLabels, IsBoard, places}
+use Rattle.board_text.specs.PlainBoard.{Dominates, AreLabels, IsBoard, places}
 use Rattle.board_text.proofs.Cited.{start_from_numbers}
 use Rattle.positions.specs.declared.value.Value.TheVariants.{Finite}
 use Rattle.positions.specs.declared.turns.Turns.TheVariants.{Count}
@@ -25,7 +25,7 @@ use Rattle.strategies.proofs.RowLists.{one_row}
 -- ---- moves
 
 -- label 1 beats label 0, and nothing else
-beats_is : (x y : ℕ) → Beats small_board x y → (x ≡ 1) × (y ≡ 0)
+beats_is : (x y : ℕ) → Dominates small_board x y → (x ≡ 1) × (y ≡ 0)
 beats_is x y (zero, inside, same) = (sym (ap (λ (p : ℕ × ℕ). p.0) same), sym (ap (λ (p : ℕ × ℕ). p.1) same))
 beats_is x y (suc place, inside, same) = absurd (omega arith)
 

@@ -1,8 +1,9 @@
 -- Words of up to four bytes, and a text to which they are appended a few rows at once.
-use Rattle.std.specs.Prelude.{◌≡◌, ℕ, suc, ◌<◌, ◌≤◌, ◌∷◌, List, length, take, slice_index_or}
+use Rattle.std.specs.Prelude.{◌≡◌, ℕ, suc, ◌≤◌, ◌∷◌, List, length, take, slice_index_or}
 use Rattle.std.specs.Str.{IsAscii}
 use Rattle.board_text.specs.PlaceForms.{place_word}
 use Rattle.proof_text.specs.declared.row_text.Word.{Word}
+use Rattle.proof_text.specs.declared.row_text.TheConstants.{ROOM}
 
 -- the bytes of a word
 abbrev pub word_text : Word → List ℕ
@@ -27,6 +28,6 @@ pub record RowBytes : Type 0 where
 
 -- the gathered bytes are text
 pub record IsGathered (room : List ℕ) (count : ℕ) : Type 0 where
-  pub size : length room ≡ 512
-  pub inside : count ≤ 512
+  pub size : length room ≡ ROOM
+  pub inside : count ≤ ROOM
   pub ascii : IsAscii (take count room)

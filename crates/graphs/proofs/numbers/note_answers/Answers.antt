@@ -28,14 +28,14 @@ next g c =
     }
 
 pub member-requires-clause-place : goal.member-requires-clause-place
-member-requires-clause-place g c = (next g (goal.at.member-requires-clause-place g c).In-Some).answer.0
+member-requires-clause-place g c = (next g (goal.at.member-requires-clause-place g c).In-Some).answer.is_place
 
 pub bounds-struck-member : goal.bounds-struck-member
 bounds-struck-member g c =
     let at = (goal.at.bounds-struck-member g c).In-Some in
     let n : Numbered = g.N.Numbers.game c.args.numbers.now in
     let inside = (numbered-is n c.requires.is_board).member_in c.args.gap c.in-Some.label c.requires.gap
-    (next g at).answer.0 in
+    (next g at).answer.is_place in
     omega (arith, inside, c.member.ensures, c.loop-label.invariant.noted.same_length, c.requires.size)
 
 pub loop-label-preserved : goal.loop-label-preserved
@@ -50,7 +50,7 @@ loop-label-preserved g c =
     let before = noted-to a c.args.gap c.loop-label.labels.from label c.args.struck.now c.loop-label.struck
     c.loop-label.invariant.noted is.none in
     let inside = (numbered-is n c.requires.is_board).member_in c.args.gap label c.requires.gap
-    is.answer.0 in
+    is.answer.is_place in
     let low : rank < length c.loop-label.struck =
     omega (arith, inside, c.member.ensures, before.same_length, c.requires.size) in
     let more = noted-more a c.args.gap label rank c.args.struck.now c.loop-label.struck c.member.ensures is.answer low

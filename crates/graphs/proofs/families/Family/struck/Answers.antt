@@ -1,5 +1,5 @@
 use Rattle.std.proofs.Common.{arith, subst}
-use Rattle.board_text.specs.PlainBoard.{BeatsPlace}
+use Rattle.board_text.specs.PlainBoard.{DominatesPlace}
 use Rattle.graphs.specs.declared.families.Dominator.{Dominator}
 use Rattle.graphs.proofs.FilledFamilies.{found-own, found-rest, found-none, rest-most, one-label}
 use Rattle.graphs.proofs.families.Family.struck.Goals as goal
@@ -30,7 +30,7 @@ returns-in_default c =
       | in_default-via-in-Some+else-beats_place w ↦
           let same = one-label c.args.self.now.dominator d w.in-Some.dominator is w.in-Some.is in
           let told = w.beats_place.ensures.1
-          (subst (λ n. BeatsPlace c.args.board.now n c.args.place) same beaten) in
+          (subst (λ n. DominatesPlace c.args.board.now n c.args.place) same beaten) in
           let no = w.if-beats_place.false in
           cc
       | in_default-via-in_default w ↦ let none = w.in_default.is in cc

@@ -1,4 +1,4 @@
-use Rattle.std.proofs.Common.{◌≡◌, ℕ, length, ap, sym, ◌∙◌, subst}
+use Rattle.std.proofs.Common.{◌≡◌, ap, sym, ◌∙◌, subst}
 use Rattle.board_text.specs.PlainBoard.{PlainBoard}
 use Rattle.graphs.specs.ClassGraph.{classes}
 use Rattle.graphs.specs.Graph.{PlainGraph}

@@ -1,5 +1,5 @@
 use Rattle.std.proofs.Common.{◌≡◌, ◌≢◌, ◌<◌, ℕ, get_or, ap, subst, arith}
-use Rattle.nested_cycles.specs.Domination.{labels_of, NestedBeats}
+use Rattle.nested_cycles.specs.Domination.{labels_of, NestedDominates}
 use Rattle.nested_cycles.specs.NestedGame.{PlainGame, other_words}
 use Rattle.nested_cycles.proofs.NestedGames.{others_are, others_are_good, others_are_labels, request_keeps}
 use Rattle.nested_cycles.proofs.NestedGames.{request_dominates}
@@ -36,9 +36,9 @@ invariant_of-self c =
 pub returns-clause-dominates : goal.returns-clause-dominates
 returns-clause-dominates c =
     subst (λ (g : PlainGame). (other : ℕ) → other < g.levels → other ≢ c.args.pebble
-    → NestedBeats g.levels c.nested_reply-reply.result (get_or g.words other 0)) c.self.view_is
+    → NestedDominates g.levels c.nested_reply-reply.result (get_or g.words other 0)) c.self.view_is
     (subst (λ (place : ℕ). (other : ℕ) → other < c.self.inside.levels → other ≢ place
-    → NestedBeats c.self.inside.levels c.nested_reply-reply.result
+    → NestedDominates c.self.inside.levels c.nested_reply-reply.result
     (get_or c.self.inside.words.items other 0)) c.from-index.ensures
     (request_dominates _ c.self.inside.words.items _ c.from-index.result c.nested_reply-reply.result
     c.self.invariant.each_pebble

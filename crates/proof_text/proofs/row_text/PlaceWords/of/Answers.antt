@@ -1,4 +1,4 @@
-use Rattle.std.proofs.Common.{◌≡◌, arith}
+use Rattle.std.proofs.Common.{arith}
 use Rattle.proof_text.proofs.GatheredWords.{places_end}
 use Rattle.proof_text.proofs.row_text.PlaceWords.of.Goals as goal
 

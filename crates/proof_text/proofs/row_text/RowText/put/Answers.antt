@@ -1,4 +1,4 @@
-use Rattle.std.proofs.Common.{◌≡◌, ◌+◌, ◌-◌, ◌≤◌, ◌++◌, length, take, sym, ap, ◌∙◌, subst, arith, string_bytes}
+use Rattle.std.proofs.Common.{◌+◌, ◌-◌, ◌≤◌, ◌++◌, take, sym, ap, ◌∙◌, subst, arith, string_bytes}
 use Rattle.std.specs.Str.{IsAscii}
 use Rattle.proof_text.proofs.GatheredWords.{gathered_more, bytes_more}
 use Rattle.proof_text.proofs.row_text.RowText.put.Goals as goal
