@@ -1,6 +1,6 @@
 //! Two plain mirrors of `pebbles`: the same answers by arrays alone, for `solve`, `report` and
 //! `check` of boards whose places all hold labels. One numbers configurations by ranks, the other
-//! by classes. A wrong text makes them panic. README.md says what they are for.
+//! by classes. README.md says what they are for.
 
 mod board;
 mod check;
@@ -10,7 +10,9 @@ mod document;
 mod lists;
 mod measure;
 mod numbering;
+mod proof;
 mod ranks;
+mod reader;
 mod report;
 mod space;
 mod values;
@@ -18,8 +20,8 @@ mod values;
 use board::Board;
 use classes::Classes;
 use numbering::Numbering;
+use proof::{Proof, Version};
 use ranks::Ranks;
-use space::Space;
 use std::io::Write as _;
 
 /// Reads an element without a bound test, as proved code does.
@@ -38,31 +40,51 @@ fn at_mut<T>(items: &mut [T], place: u32) -> &mut T {
     unsafe { items.get_unchecked_mut(place as usize) }
 }
 
+/// Ends the mirror with this on standard error.
+#[cold]
+fn refuse(told: &str) -> ! {
+    eprintln!("mirror: {told}");
+    std::process::exit(2)
+}
+
+/// What a file has.
+fn contents(path: Option<&String>) -> Vec<u8> {
+    let path = path.unwrap_or_else(|| refuse(USAGE));
+    std::fs::read(path).unwrap_or_else(|error| refuse(&format!("{path}: {error}")))
+}
+
+const USAGE: &str = "ranks COMMAND, classes COMMAND or measure PROGRAM; COMMAND is solve BOARD, \
+                     solve-large BOARD, report BOARD or check BOARD PROOF";
+
 /// The output of a command by one numbering.
 fn output<N: Numbering>(words: &[String]) -> Vec<u8> {
-    let board = Board::read(&std::fs::read(&words[1]).unwrap());
-    match words[0].as_str() {
+    let Some(command) = words.first() else { refuse(USAGE) };
+    let board = Board::read(&contents(words.get(1)));
+    match command.as_str() {
         "solve" => document::document::<N>(&board),
         "report" => report::report::<N>(&board),
         "check" => {
-            let text = std::fs::read(&words[2]).unwrap();
-            let is_by_classes = text.starts_with(b"proof 2\n");
-            let by_ranks = || check::check(&board, &Space::of(&board), &text);
-            let by_classes = || class_document::check(&board, &text);
-            if is_by_classes { by_classes() } else { by_ranks() }.into_bytes()
+            let text = contents(words.get(2));
+            let proof = Proof::read(&board, &text);
+            match Version::of(&text) {
+                Version::Configurations => check::check(&board, proof),
+                Version::Classes => class_document::check(&board, &proof),
+            }
+            .into_bytes()
         }
         "solve-large" => class_document::document(&board),
-        _ => panic!("solve BOARD, solve-large BOARD, report BOARD or check BOARD PROOF"),
+        _ => refuse(USAGE),
     }
 }
 
 fn main() {
     let words: Vec<String> = std::env::args().collect();
-    let output = match words[1].as_str() {
-        "ranks" => output::<Ranks>(&words[2..]),
-        "classes" => output::<Classes>(&words[2..]),
-        "measure" => measure::measure(&words[2..]).into_bytes(),
-        _ => panic!("ranks COMMAND, classes COMMAND or measure PROGRAM"),
+    let word = |place: usize| words.get(place).map_or("", String::as_str);
+    let output = match (word(1), word(2)) {
+        ("ranks", _) => output::<Ranks>(&words[2..]),
+        ("classes", _) => output::<Classes>(&words[2..]),
+        ("measure", program) if !program.is_empty() => measure::measure(&words[2..]).into_bytes(),
+        _ => refuse(USAGE),
     };
     std::io::stdout().write_all(&output).unwrap();
     std::process::exit(0);

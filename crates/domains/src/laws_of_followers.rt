@@ -92,9 +92,8 @@ pub fn shared_labels_count_once()
         board (slice_set configuration pebble board.labels) }
 {}
 
-/// A domain lasts for ever exactly if its part does that is used: the labels from which, with all
-/// processes on one of them, it lasts for ever. All other labels can go, and what is left may have
-/// other names.
+/// Call a label used if the domain lasts for ever from all processes on it. A domain lasts for ever
+/// exactly if its used labels alone do: all others can go, and what is left may have other names.
 pub fn unused_labels_can_go()
     ensures last { (board : PlainBoard) → (part : PlainBoard) → (image : ℕ → ℕ)
         → (configuration : List ℕ) → (other : List ℕ) → KeepsUsed board part image
