@@ -26,7 +26,6 @@ pub fn claims_hold_where_documents_show_them()
 /// Both versions of the format show the same claims: on a board of at most `MAX_CONFIGURATIONS`
 /// configurations some document with a row for each configuration breaks no rule and makes a claim
 /// exactly if some document with a row for each class does.
-#[tactic(auto, using(crate::proofs::BothVersions::both_versions))]
 pub fn both_versions_show_the_same_claims()
     ensures { (board : PlainBoard) → (claim : ClaimData)
         → IsConfiguration board board.start → configurations board ≤ MAX_CONFIGURATIONS
