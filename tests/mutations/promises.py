@@ -39,7 +39,7 @@ TYPE_NAME = re.compile(r'\b(?:struct|enum|trait|const|type)\s+(\w+)')
 IMPL = re.compile(r'\bimpl\b(?P<head>[^{]*)\{')
 MODEL = re.compile(r'\bghost Value = .*?;', re.S)
 COMMENT = re.compile(r'--[^\n]*')
-RENAMED = 'tests/mutations/renamed.txt'
+RENAMED = 'tests/mutations/promises.renamed'
 OPENING, CLOSING = '{([', '})]'
 
 
@@ -276,7 +276,7 @@ def of_folder(top):
 
 
 def renames(text):
-    """The old and the new name of each line of a renamed.txt, and the words of which a file that has one keeps the old name."""
+    """The old and the new name of each line of a promises.renamed, and the words of which a file that has one keeps the old name."""
     return [tuple(line.split()) for line in text.splitlines() if not line.startswith('#')]
 
 

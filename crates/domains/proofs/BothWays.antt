@@ -56,7 +56,8 @@ others_beaten x y x_low y_low differs =
           let one_is : 1 ≡ x = omega (arith, not, x_low) in
           let zero_is : 0 ≡ y = omega (arith, one_is, y_low, differs) in
           subst (Dominates both x) zero_is
-          (subst (λ n. Dominates both n 0) one_is (contains_later (0, 1) ((1, 0) ∷ []) (1, 0) (contains_here (1, 0) [])))
+          (subst (λ n. Dominates both n 0) one_is
+          (contains_later (0, 1) ((1, 0) ∷ []) (1, 0) (contains_here (1, 0) [])))
     ]
 
 none_itself : (x y : ℕ) → Dominates both x y → x ≢ y

@@ -90,7 +90,8 @@ residues_dominated board circle (x ∷ y ∷ []) long all =
     let label = found.label in (
       label,
       omega (arith, found.low, circle.labels_are),
-      All-cons (λ other. Dominates board label other) x (y ∷ []) ((circle.beats label x found.low x_low).1 found.of_first)
+      All-cons (λ other. Dominates board label other) x (y ∷ [])
+          ((circle.beats label x found.low x_low).1 found.of_first)
           (All-cons (λ other. Dominates board label other) y []
           ((circle.beats label y found.low y_low).1 found.of_second) (All-nil (λ other. Dominates board label other))),
     )

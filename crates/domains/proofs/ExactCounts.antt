@@ -83,7 +83,8 @@ lone_no_more board one no_loop carried =
     let low : place < board.labels = subst (λ n. n < board.labels) (sym here) first.1.is_label in
     let same : second.0 ≡ place = omega (arith, second.1.is_label, low, one) in
     no_loop place low
-    (subst (λ n. Dominates board n place) same (second.1.dominates 0 (omega arith) (λ zero_is. omega (arith, zero_is)) low))
+    (subst (λ n. Dominates board n place) same
+    (second.1.dominates 0 (omega arith) (λ zero_is. omega (arith, zero_is)) low))
 
 abbrev FitsExactly : PlainBoard → Type 0
 FitsExactly factor = IsAntisymmetric factor × (0 < factor.labels) × CarriesExactly factor factor.pebbles

@@ -174,8 +174,10 @@ record Reply (outer inner board : PlainBoard) (copy piece label : ℕ) : Type 0 
   is_label : label < board.labels
   in_copy : label / inner.labels ≡ copy
   in_part : label % inner.labels ≡ piece
-  between : (other : ℕ) → other < board.labels → Dominates outer copy (other / inner.labels) → Dominates board label other
-  within : (other : ℕ) → other < board.labels → other / inner.labels ≡ copy → Dominates inner piece (other % inner.labels)
+  between : (other : ℕ) → other < board.labels → Dominates outer copy (other / inner.labels)
+      → Dominates board label other
+  within : (other : ℕ) → other < board.labels → other / inner.labels ≡ copy
+      → Dominates inner piece (other % inner.labels)
       → Dominates board label other
 
 reply : (outer inner board : PlainBoard) (copy piece : ℕ) → IsProduct outer inner board → copy < outer.labels

@@ -10,7 +10,8 @@ use Rattle.positions.specs.Game.{LabellerTree, moved}
 use Rattle.domains.specs.Cycles.{HaveDominators}
 use Rattle.domains.proofs.Heights.{another}
 
-pub beaten_last : (board : PlainBoard) (labels : List ℕ) (depth : ℕ) (configuration : List ℕ) → HaveDominators board labels
+pub beaten_last : (board : PlainBoard) (labels : List ℕ) (depth : ℕ) (configuration : List ℕ)
+    → HaveDominators board labels
     → board.pebbles ≡ 2
     → length configuration ≡ 2 → All (Contains labels) configuration → LabellerTree board depth configuration
 beaten_last board labels zero configuration beaten two long all = tt

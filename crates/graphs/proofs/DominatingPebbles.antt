@@ -80,7 +80,8 @@ is_dominator_is b c p size low =
           (lt-ltb label b.labels answer.is_label)
           (list_all-from_AllPass (beats_place b label) others
           (All-weaker (DominatesPlace b label) (λ y. beats_place b label y ≡ true)
-          (λ y h. (beats_place_is b label y).1 h) others (of-all-class_of (DominatesPlace b label) others answer.dominates))),
+          (λ y h. (beats_place_is b label y).1 h) others
+          (of-all-class_of (DominatesPlace b label) others answer.dominates))),
     )
 
 -- ---- a pebble dominates exactly if its label is legal for it

@@ -1,16 +1,19 @@
 -- Words that become 0 where a configuration is stuck, part by part.
-use Rattle.std.proofs.Common.{◌≡◌, ◌≢◌, ◌⊎◌, ℕ, zero, suc, ◌+◌, ◌-◌, ◌<◌, ◌≤◌, inl, inr, refl, sym, ap, ◌∙◌, subst, arith}
+use Rattle.std.proofs.Common.{◌≡◌, ◌≢◌, ◌⊎◌, ℕ, zero, suc, ◌+◌, ◌-◌, ◌<◌, ◌≤◌, inl, inr, refl, sym, ap, ◌∙◌, subst}
+use Rattle.std.proofs.Common.{arith}
 use Rattle.std.proofs.Common.{List, ◌++◌, length, get_or, set, take, drop}
 use borrow.Rule.Slice.PartMut.{put_mid, post_of, same_len_mid}
 use Rattle.std.specs.List.{remove}
 use Rattle.std.proofs.lemmas.Bool.{cases_lt, cases_eq}
-use Rattle.std.proofs.lemmas.List.{length-set, get_or-set_same, get_or-set_other, get_or-append_right, get_or_append_left}
+use Rattle.std.proofs.lemmas.List.{length-set, get_or-set_same, get_or-set_other, get_or-append_right}
+use Rattle.std.proofs.lemmas.List.{get_or_append_left}
 use Rattle.std.proofs.lemmas.List.{length-take-le, length-drop, get_or-take, get_or-drop}
 use Rattle.std.proofs.lemmas.Slice.{drop-put_mid}
 use Rattle.board_text.specs.PlainBoard.{PlainBoard, IsBoard, places}
 use Rattle.classes.specs.Classes.{put}
 use Rattle.classes.specs.Numbers.{class_number, ways}
-use Rattle.classes.proofs.Cited.{ways-zero, ways-suc, first-family, last-family, next-family, least-some, least-within, place-below}
+use Rattle.classes.proofs.Cited.{ways-zero, ways-suc, first-family, last-family, next-family, least-some, least-within}
+use Rattle.classes.proofs.Cited.{place-below}
 use Rattle.graphs.specs.ClassGraph.{classes, gap_class}
 use Rattle.graphs.specs.Inside.Families.{family_start, family_size}
 use Rattle.graphs.specs.Stuck.{IsStuckBy, AreStuckZeroed, IsPartZeroed, AreZeroedWhere}
@@ -34,13 +37,15 @@ zeroed-none counts old rest = record {
 
 pub zeroed-more : (counts old now : List ℕ) (rest index value : ℕ) → index < length now
     → AreZeroedTo counts rest index old now
-    → ((get_or counts (rest + index) 0 ≡ 0) × (value ≡ 0)) ⊎ ((get_or counts (rest + index) 0 ≢ 0) × (value ≡ get_or now index 0))
+    → ((get_or counts (rest + index) 0 ≡ 0) × (value ≡ 0)) ⊎ ((get_or counts (rest + index) 0 ≢ 0)
+        × (value ≡ get_or now index 0))
     → AreZeroedTo counts rest (index + 1) old (set now index value)
 zeroed-more counts old now rest index value low z chosen = record {
   same_length = length-set now index value ∙ z.same_length;
   zeroed = λ v below none. elim (cases_eq v index) [
     | inl here ↦ elim chosen [
-      | inl none_left ↦ ap (λ n. get_or (set now index value) n 0) here ∙ get_or-set_same now index value 0 low ∙ none_left.1
+      | inl none_left ↦ ap (λ n. get_or (set now index value) n 0) here ∙ get_or-set_same now index value 0 low
+          ∙ none_left.1
       | inr other ↦ absurd (other.0 (ap (λ n. get_or counts (rest + n) 0) (sym here) ∙ none))
     ]
     | inr differ ↦ get_or-set_other now index v value 0 differ ∙ z.zeroed v (omega (arith, differ)) none

@@ -12,22 +12,26 @@ pub record IsStuckBy (a : PlainGraph) (counts : List ℕ) (x : ℕ) : Type 0 whe
   pub member : a.member gap place ≡ x
 
 -- the words of the first stuck configurations are 0, and nothing else changes
-pub record AreStuckZeroed (a : PlainGraph) (counts : List ℕ) (to : ℕ) (old new : List ℕ) : Type 0 where
+pub record AreStuckZeroed (a : PlainGraph) (counts : List ℕ) (to : ℕ)
+    (old new : List ℕ) : Type 0 where
   pub same_length : length new ≡ length old
   pub zeroed : (x : ℕ) → x < to → IsStuckBy a counts x → slice_index new x ≡ 0
   pub others : (x : ℕ)
       → (slice_index new x ≡ slice_index old x) ⊎ ((slice_index new x ≡ 0) × IsStuckBy a counts x)
 
 -- the same of consecutive configurations from a number on
-pub record IsPartZeroed (a : PlainGraph) (counts : List ℕ) (start : ℕ) (old new : List ℕ) : Type 0 where
+pub record IsPartZeroed (a : PlainGraph) (counts : List ℕ) (start : ℕ)
+    (old new : List ℕ) : Type 0 where
   pub same_length : length new ≡ length old
   pub zeroed : (v : ℕ) → v < length old → IsStuckBy a counts (start + v) → slice_index new v ≡ 0
   pub others : (v : ℕ) → v < length old
-      → (slice_index new v ≡ slice_index old v) ⊎ ((slice_index new v ≡ 0) × IsStuckBy a counts (start + v))
+      → (slice_index new v ≡ slice_index old v) ⊎ ((slice_index new v ≡ 0)
+          × IsStuckBy a counts (start + v))
 
 -- words are 0 where the counts from one on are, and nothing else changes
 pub record AreZeroedWhere (counts : List ℕ) (rest : ℕ) (old new : List ℕ) : Type 0 where
   pub same_length : length new ≡ length old
   pub zeroed : (v : ℕ) → v < length old → slice_index counts (rest + v) ≡ 0 → slice_index new v ≡ 0
   pub others : (v : ℕ) → v < length old
-      → (slice_index new v ≡ slice_index old v) ⊎ ((slice_index new v ≡ 0) × (slice_index counts (rest + v) ≡ 0))
+      → (slice_index new v ≡ slice_index old v) ⊎ ((slice_index new v ≡ 0)
+          × (slice_index counts (rest + v) ≡ 0))

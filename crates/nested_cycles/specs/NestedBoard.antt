@@ -9,4 +9,5 @@ pub record IsNestedBoard (levels pebble_count : ℕ) (board : PlainBoard) : Type
   pub labels : board.labels ≡ labels_of levels
   pub pebbles : board.pebbles ≡ pebble_count
   pub start : board.start ≡ replicate pebble_count 0
-  pub beats : (x y : ℕ) → AreLabels board.labels (x, y) → Dominates board x y ↔ NestedDominates levels x y
+  pub beats : (x y : ℕ) → AreLabels board.labels (x, y) → Dominates board x y
+      ↔ NestedDominates levels x y

@@ -10,7 +10,8 @@ use Rattle.nested_cycles.specs.GoodWords.{NestedGood}
 pub record IsNestedPlay (levels : ℕ) (board : PlainBoard) : Type 0 where
   pub labels : board.labels ≡ labels_of levels
   pub pebbles : board.pebbles ≤ levels
-  pub beats : (x y : ℕ) → AreLabels board.labels (x, y) → Dominates board x y ↔ NestedDominates levels x y
+  pub beats : (x y : ℕ) → AreLabels board.labels (x, y) → Dominates board x y
+      ↔ NestedDominates levels x y
 
 -- A label for each pebble, on good words.
 pub record IsGoodConfiguration (levels : ℕ) (board : PlainBoard)

@@ -197,7 +197,8 @@ legal_at_member board gap label below = (
   λ answer. record {
     is_label = answer.is_label;
     dominates = λ other inside differs. elim (cases_lt other pebble) [
-      | inl before ↦ subst (DominatesPlace board label) (sym (get_or-insert_below others pebble label 0 other before place))
+      | inl before ↦ subst (DominatesPlace board label)
+          (sym (get_or-insert_below others pebble label 0 other before place))
           (All-get_or (DominatesPlace board label) others other 0 (omega (arith, size, place)) answer.dominates)
       | inr behind ↦
           let one_more : other - 1 + 1 ≡ other = omega arith in

@@ -65,7 +65,8 @@ module _ (position : Position) (board space : PlainBoard) (rank : ℕ) (held : L
   pub legal_is : (pebble label : ℕ)
       → ((label < board.labels) × DominatesOthersBelow board held pebble board.pebbles label)
       ↔ Legal position.board position.configuration pebble label
-  legal_is pebble label = subst (λ p. ((label < board.labels) × DominatesOthersBelow board held pebble board.pebbles label)
+  legal_is pebble label = subst (λ p. ((label < board.labels)
+      × DominatesOthersBelow board held pebble board.pebbles label)
       ↔ Legal p.board p.configuration pebble label) is (
         λ beats. record {
           is_label = beats.0;

@@ -19,7 +19,8 @@ AreDominating board number held word =
 -- the first words are those of tuples of `count` places, in order
 abbrev pub AreTupleWords : PlainBoard → ℕ → ℕ → List ℕ → Type 0
 AreTupleWords board number count words = (tuple : ℕ) → tuple < length words
-    → AreDominating board number (digits_of (places board) count tuple) (slice_index_or words tuple 0)
+    → AreDominating board number (digits_of (places board) count tuple)
+        (slice_index_or words tuple 0)
 
 -- there is a word for each tuple of `count` places
 pub record AreAllWords (board : PlainBoard) (number count : ℕ) (words : List ℕ) : Type 0 where

@@ -13,7 +13,8 @@ use Rattle.graphs.proofs.class_numbers.ClassNumbers.zero_family.Goals.{After-gap
 pub returns-then-counts-gap-eq0 : goal.returns-then-counts-gap-eq0
 returns-then-counts-gap-eq0 c =
     let filled = c.fill.ensures.after (λ y e. e) in
-    own-zeroed c.args.self.now c.gap_places-held.ensures.is_board c.args.gap c.args.start c.requires.gap c.requires.start
+    own-zeroed c.args.self.now c.gap_places-held.ensures.is_board c.args.gap c.args.start c.requires.gap
+    c.requires.start
     c.args.counts.now c.args.family.now c.requires.size c.fill.new.self c.if-counts-gap-eq0.true c.fill.ensures.len
     (λ v low. ap (λ l. get_or l v 0) filled ∙ get_or-replicate (length c.args.family.now) v 0 0 low)
 
@@ -39,7 +40,9 @@ bounds-rests-index c =
 -- the rests are those of the gap
 rests : (c : After-rests-rests) → (p : ℕ) → p < length (gap_class c.args.self.now c.args.gap)
     → get_or c.rests-rests.result p 0 ≡ class_number (put 0 (remove (gap_class c.args.self.now c.args.gap) p))
-rests c = subst (λ (h : List ℕ). (p : ℕ) → p < length h → get_or c.rests-rests.result p 0 ≡ class_number (put 0 (remove h p)))
+rests c =
+    subst
+    (λ (h : List ℕ). (p : ℕ) → p < length h → get_or c.rests-rests.result p 0 ≡ class_number (put 0 (remove h p)))
     c.gap_places-held.ensures.value c.rests-rests.ensures
 
 pub zero_where-requires : goal.zero_where-requires
@@ -59,7 +62,8 @@ loop-index-preserved c =
     let h = gap_class c.args.self.now c.args.gap in
     let first : c.loop-index.index < length h =
     omega (arith, c.loop-index-test.true, ap length c.gap_places-held.ensures.value) in
-    rests-more c.args.self.now c.gap_places-held.ensures.is_board c.args.gap c.args.start c.requires.gap c.requires.start
+    rests-more c.args.self.now c.gap_places-held.ensures.is_board c.args.gap c.args.start c.requires.gap
+    c.requires.start
     c.args.counts.now c.args.family.now c.requires.size c.rests-rests.result (rests at) c.loop-index.family
     c.zero_where.new.words c.loop-index.index first c.loop-index.invariant c.zero_where.ensures
 
