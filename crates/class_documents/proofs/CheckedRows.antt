@@ -1,5 +1,5 @@
 -- The rows of a document by classes, ready to be checked, and the meaning of a test of the row that is found.
-use Rattle.std.proofs.Common.{◌≡◌, ◌↔◌, ◌⊎◌, Bool, true, false, not, true≢false, IsTrue, ℕ, zero, suc, ◌<◌, ◌≤◌, List}
+use Rattle.std.proofs.Common.{◌≡◌, ◌↔◌, ◌⊎◌, Bool, true, false, not, true≢false, IsTrue, ℕ, zero, suc, ◌<◌, ◌≤◌, List, AllPairs}
 use Rattle.std.proofs.Common.{[], ◌∷◌}
 use Rattle.std.proofs.Common.{length, map, take, set, get_or, slice_get, slice_index, Option, Some, None, MatchOption}
 use Rattle.std.proofs.Common.{refl, sym, ap, ◌∙◌, subst, arith, inl, inr}
@@ -16,18 +16,19 @@ use Rattle.positions.specs.declared.turns.Turns.{Turns}
 use Rattle.positions.specs.Game.{moved}
 use Rattle.positions.proofs.Configurations.{moved_is_configuration}
 use Rattle.proof_text.specs.Rules.{IsEnough, IsWanted, Serves, IsListedFor, IsListedBelow, StartIsBelow}
-use Rattle.class_documents.specs.Arranged.{arranged, IsClassBefore}
-use Rattle.class_documents.specs.ClassProof.{AreClassRows, IsClassRequestRow, IsClassDocument}
-use Rattle.class_documents.specs.ClassProof.{class_answer_row, class_request_row}
+use Rattle.proof_text.specs.Arranged.{arranged, IsClassBefore}
+use Rattle.proof_text.specs.ClassProof.{IsClassRequestRow}
+use Rattle.proof_text.specs.Documents.{IsClassDocument}
+use Rattle.proof_text.specs.ClassProof.{class_answer_row, class_request_row}
 use Rattle.class_documents.specs.ClassFaults.{HasClassRow, IsWrongClassBound, upper_bound_of}
 use Rattle.class_documents.specs.Inside.Search.{places_of, AreClassesInOrder, HasNoClass, IsTheRow}
 use Rattle.class_documents.specs.Inside.Checked.{IsClassAnswering, IsClassRequesting, IsClassUnservedFor}
 use Rattle.class_documents.specs.Inside.Checked.{IsClassUnservedBelow}
 use Rattle.class_documents.specs.declared.fault.ClassFault.{ClassFault}
 use Rattle.class_documents.specs.declared.fault.ClassFault.TheVariants as faults
-use Rattle.class_documents.specs.declared.proof.LabellerClassRow.{LabellerClassRow}
-use Rattle.class_documents.specs.declared.proof.AdversaryClassRow.{AdversaryClassRow}
-use Rattle.class_documents.specs.declared.proof.ClassProof.{ClassProof}
+use Rattle.proof_text.specs.declared.class_proof.LabellerClassRow.{LabellerClassRow}
+use Rattle.proof_text.specs.declared.class_proof.AdversaryClassRow.{AdversaryClassRow}
+use Rattle.proof_text.specs.declared.class_proof.ClassProof.{ClassProof}
 
 -- ---- rows that are ready
 
@@ -39,15 +40,17 @@ of_shown f P rows all = λ k d low.
 in_order : {R X : Type 0} (board : PlainBoard) (f : R → X) (at : X → List ℕ) (held : R → List ℕ) (IsRow : X → Type 0)
     (rows : List R) → ((row : R) → at (f row) ≡ places_of board held row)
     → ((x : X) → IsRow x → IsConfiguration board (at x))
-    → AreClassRows board IsRow at (map f rows) → AreClassesInOrder board held rows
-in_order {R} {X} board f at held IsRow rows shown is are = record {
+    → All IsRow (map f rows)
+    → AllPairs (λ first second. IsClassBefore board.labels (at first) (at second)) (map f rows)
+    → AreClassesInOrder board held rows
+in_order {R} {X} board f at held IsRow rows shown is are ascending = record {
   each = λ k d low.
       subst (IsConfiguration board) (shown (get_or rows k d))
-      (is (f (get_or rows k d)) (of_shown f IsRow rows are.each k d low));
+      (is (f (get_or rows k d)) (of_shown f IsRow rows are k d low));
   ascending = λ i j d less low.
       let long = length-map rows f in
       let before : IsClassBefore board.labels (at (get_or (map f rows) i (f d))) (at (get_or (map f rows) j (f d))) =
-      are.ascending i j (f d) less (omega (arith, low, long)) in
+      ascending i j (f d) less (omega (arith, low, long)) in
       let one = ap at (get_or-map f rows i d (f d) (omega (arith, less, low))) ∙ shown (get_or rows i d) in
       let two = ap at (get_or-map f rows j d (f d) low) ∙ shown (get_or rows j d) in
       subst (λ l. IsClassBefore board.labels l (places_of board held (get_or rows j d))) one
@@ -58,12 +61,14 @@ module _ (board : PlainBoard) (proof : ClassProof) (is : IsClassDocument board p
   pub labeller_in_order : AreClassesInOrder board (λ (r : LabellerClassRow). r.at) proof.labeller.items
   labeller_in_order =
       in_order board (class_answer_row board) (λ r. r.at) (λ r. r.at) (IsAnswerRow board proof.claim)
-      proof.labeller.items (λ r. refl) (λ x row. row.at) is.is_proof.labeller
+      proof.labeller.items (λ r. refl) (λ x row. row.at) is.is_proof.labeller.each
+      is.is_proof.labeller.ascending
 
   pub adversary_in_order : AreClassesInOrder board (λ (r : AdversaryClassRow). r.at) proof.adversary.items
   adversary_in_order =
       in_order board (class_request_row board) (λ r. r.at) (λ r. r.at) (IsClassRequestRow board)
-      proof.adversary.items (λ r. refl) (λ x row. row.at) is.is_proof.adversary
+      proof.adversary.items (λ r. refl) (λ x row. row.at) is.is_proof.adversary.each
+      is.is_proof.adversary.ascending
 
   pub answering : All (IsClassAnswering board proof) proof.labeller.items
   answering = λ k d low.

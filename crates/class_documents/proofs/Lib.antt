@@ -1,7 +1,4 @@
-pub mod ArrangedPlaces
-pub mod OrderNumbers
 pub mod RowSearch
-pub mod PlacesAt
 pub mod ClassTrees
 pub mod ClassClaims
 pub mod ClassSteps

@@ -11,15 +11,16 @@ use Rattle.positions.specs.Table.{AnswerRow, RequestRow}
 use Rattle.positions.specs.declared.side.Side.TheVariants.{Labeller, Adversary}
 use Rattle.positions.proofs.Digits.{digits_of-number_of}
 use Rattle.proof_text.specs.Proof.{PlainProof, IsAnswerRow}
-use Rattle.class_documents.specs.Arranged.{order_of, order_number, place_in_order, arranged_at}
-use Rattle.class_documents.specs.ClassProof.{IsClassProof, IsClassRequestRow}
+use Rattle.proof_text.specs.Arranged.{order_of, order_number, place_in_order, arranged_at}
+use Rattle.proof_text.specs.Documents.{IsClassProof}
+use Rattle.proof_text.specs.ClassProof.{IsClassRequestRow}
 use Rattle.class_documents.specs.ClassRules.{MeetsClassRequests, MeetsClassAnswers}
 use Rattle.class_documents.specs.ClassFaults.{IsUnservedClass, FirstRowFault, IsWrongClassAt, IsWrongClassAfter}
 use Rattle.class_documents.specs.ClassFaults.{IsWrongClassAnswer, IsWrongClassRequest, IsFirstClassFault, NamesClass}
 use Rattle.class_documents.specs.declared.fault.ClassFault.{ClassFault}
 use Rattle.class_documents.specs.declared.fault.ClassFault.TheVariants as faults
-use Rattle.class_documents.proofs.OrderNumbers.{order-none, order-label, orders-below}
-use Rattle.class_documents.proofs.RowSearch.{places-few}
+use Rattle.proof_text.proofs.Cited.{order-none, order-label, orders-below}
+use Rattle.proof_text.proofs.Cited.{places-few}
 
 -- ---- places
 

@@ -11,7 +11,7 @@ use Rattle.positions.specs.declared.side.Side.TheVariants.{Labeller, Adversary}
 use Rattle.proof_text.specs.Proof.{PlainProof}
 use Rattle.proof_text.specs.Rules.{IsListedFor, Serves, IsWanted, one_less, IsListedBelow}
 use Rattle.proof_text.specs.Rules.{wanted_of, StartIsBelow}
-use Rattle.class_documents.specs.Arranged.{arranged, order_number}
+use Rattle.proof_text.specs.Arranged.{arranged, order_number}
 use Rattle.class_documents.specs.ClassRules.{MeetsClassRequest, MeetsClassRequests}
 use Rattle.class_documents.specs.ClassRules.{LabellerObeysByClass, asked_pebble, MeetsClassAnswer}
 use Rattle.class_documents.specs.ClassRules.{MeetsClassAnswers}

@@ -4,9 +4,10 @@ ghost use Rattle.std.specs.Prelude.{◌≡◌, ◌<◌, suc, MatchOption, Contai
 ghost use Rattle.board_text.specs.PlainBoard.{IsConfiguration};
 ghost use Rattle.positions.specs.Game.{Legal};
 ghost use Rattle.proof_text.specs.Rules.{IsListedBelow, StartIsBelow};
-ghost use Rattle.class_documents.specs.Arranged.{arranged};
-ghost use Rattle.class_documents.specs.ClassProof.{IsClassDocument, plain_class_proof};
-ghost use Rattle.class_documents.specs.ClassProof.{class_request_row, class_request_rows};
+ghost use Rattle.proof_text.specs.Arranged.{arranged};
+ghost use Rattle.proof_text.specs.Documents.{IsClassDocument};
+ghost use Rattle.proof_text.specs.ClassProof.{plain_class_proof};
+ghost use Rattle.proof_text.specs.ClassProof.{class_request_row, class_request_rows};
 ghost use Rattle.class_documents.specs.ClassRules as rules;
 ghost use Rattle.class_documents.specs.ClassRules.{MeetsClassAnswer, MeetsClassAnswers};
 ghost use Rattle.class_documents.specs.ClassFaults.{IsWrongClassRequest, IsWrongClassAfter};
@@ -15,10 +16,10 @@ ghost use Rattle.class_documents.specs.Inside.Checked.{IsClassRequesting, IsClas
 
 use crate::checked_row::CheckedRow;
 use crate::fault::ClassFault;
-use crate::proof::{AdversaryClassRow, ClassProof};
 use crate::row_search::{find, row_number};
 use board_text::Board;
 use positions::{Claim, Side, is_legal};
+use proof_text::{AdversaryClassRow, ClassProof};
 
 impl CheckedRow for AdversaryClassRow {
     ghost is_ready = { IsClassRequesting };

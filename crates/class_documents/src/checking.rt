@@ -4,7 +4,8 @@ ghost use Rattle.std.specs.Prelude.{◌≡◌, ℕ, List, IsOk, OnOk, IfErr, Mat
 ghost use Rattle.board_text.specs.PlainBoard.{IsConfiguration};
 ghost use Rattle.positions.specs.Claim.{Holds, HoldsAt};
 ghost use Rattle.classes.specs.Classes.{class_of};
-ghost use Rattle.class_documents.specs.ClassProof.{IsClassDocument, plain_class_proof};
+ghost use Rattle.proof_text.specs.Documents.{IsClassDocument};
+ghost use Rattle.proof_text.specs.ClassProof.{plain_class_proof};
 ghost use Rattle.class_documents.specs.ClassRules.{BreaksNoClassRule};
 ghost use Rattle.class_documents.specs.ClassFaults.{IsFirstClassFault, NamesClass};
 
@@ -12,8 +13,8 @@ use crate::adversary::bound_fault;
 use crate::checked_row::first_fault;
 use crate::fault::ClassFault;
 use crate::labeller::start_fault;
-use crate::proof::ClassProof;
 use board_text::Board;
+use proof_text::ClassProof;
 use std::thread::Threads;
 
 /// Whether the rows of `proof` break no rule, or the first fault in the order of checking. It takes

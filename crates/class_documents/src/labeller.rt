@@ -4,9 +4,10 @@ ghost use Rattle.std.specs.Prelude.{◌≡◌, ◌<◌, MatchOption};
 ghost use Rattle.board_text.specs.PlainBoard.{IsConfiguration};
 ghost use Rattle.proof_text.specs.Rules as rules;
 ghost use Rattle.proof_text.specs.Rules.{one_less, Serves};
-ghost use Rattle.class_documents.specs.Arranged.{arranged};
-ghost use Rattle.class_documents.specs.ClassProof.{IsClassDocument, plain_class_proof};
-ghost use Rattle.class_documents.specs.ClassProof.{class_answer_row, class_answer_rows};
+ghost use Rattle.proof_text.specs.Arranged.{arranged};
+ghost use Rattle.proof_text.specs.Documents.{IsClassDocument};
+ghost use Rattle.proof_text.specs.ClassProof.{plain_class_proof};
+ghost use Rattle.proof_text.specs.ClassProof.{class_answer_row, class_answer_rows};
 ghost use Rattle.class_documents.specs.ClassRules.{MeetsClassRequest, MeetsClassRequests};
 ghost use Rattle.class_documents.specs.ClassFaults.{IsWrongClassAnswer, IsWrongClassAt};
 ghost use Rattle.class_documents.specs.ClassFaults.{IsWrongClassStart};
@@ -14,10 +15,10 @@ ghost use Rattle.class_documents.specs.Inside.Checked.{IsClassAnswering, IsClass
 
 use crate::checked_row::CheckedRow;
 use crate::fault::ClassFault;
-use crate::proof::{ClassProof, LabellerClassRow};
 use crate::row_search::{find, row_number};
 use board_text::Board;
 use positions::{Claim, Side, Turns, is_legal};
+use proof_text::{ClassProof, LabellerClassRow};
 
 /// The turns that are left after one of `turns`.
 fn after_one(turns: Turns) -> Turns

@@ -5,7 +5,7 @@ ghost use Rattle.board_text.specs.PlainBoard.{PlainBoard, IsConfiguration};
 ghost use Rattle.positions.specs.Claim.{Holds, HoldsAt};
 ghost use Rattle.classes.specs.Classes.{class_of};
 ghost use Rattle.proof_text.specs.Proof.{PlainProof};
-ghost use Rattle.class_documents.specs.Arranged.{arranged_at, order_number};
+ghost use Rattle.proof_text.specs.Arranged.{arranged_at, order_number};
 ghost use Rattle.class_documents.specs.ClassFaults.{IsFirstClassFault};
 ghost use Rattle.class_documents.specs.ClassRules.{BreaksNoClassRule};
 ghost use Rattle.class_documents.specs.declared.fault.ClassFault.{ClassFault as Fault};

@@ -8,8 +8,6 @@ mod checking;
 mod fault;
 mod labeller;
 mod laws;
-mod numbers;
-mod proof;
 mod row_search;
 mod writing;
 
@@ -19,6 +17,4 @@ pub use laws::{
     class_rules_show, classes_are_told_by_their_numbers, one_class_fault,
     unbroken_class_rules_leave_no_fault,
 };
-pub use numbers::{arranged_order, class_order, places_at};
-pub use proof::{AdversaryClassRow, ClassProof, ClassRow, LabellerClassRow, MAX_CLASS_ROWS};
 pub use writing::write_class;

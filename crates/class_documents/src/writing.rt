@@ -2,11 +2,11 @@
 
 ghost use Rattle.std.specs.Prelude.{◌≡◌, ◌++◌, OnOk, string_bytes};
 ghost use Rattle.board_text.specs.PlaceForms.{spaced_places};
-ghost use Rattle.class_documents.specs.Arranged.{arranged_at};
+ghost use Rattle.proof_text.specs.Arranged.{arranged_at};
 ghost use Rattle.class_documents.specs.ClassFaults.{IsOrderNumber};
 
-use crate::numbers::places_at;
 use board_text::{Board, write_places};
+use proof_text::places_at;
 use std::alloc::AllocError;
 
 /// Appends the places of the class whose number in the order of documents is `number` to `text`,

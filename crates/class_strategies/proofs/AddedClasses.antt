@@ -14,7 +14,7 @@ use Rattle.strategies.proofs.AddedRanks.{Below, added_known, added_one, added_sa
 use Rattle.strategies.proofs.BestAnswers.{same_answer}
 use Rattle.strategies.proofs.BestRequests.{same_request}
 use Rattle.strategies.proofs.ValueOrder.{worthless}
-use Rattle.class_documents.specs.Arranged.{arranged}
+use Rattle.proof_text.specs.Arranged.{arranged}
 use Rattle.class_strategies.specs.Inside.ReachedClasses.{class_numbered, number_of_class_at, IsClassAnswerStep}
 use Rattle.class_strategies.specs.Inside.ReachedClasses.{ClassAnswerLeads, IsClassRequestStep}
 use Rattle.class_strategies.specs.Inside.ReachedClasses.{ClassRequestLeads, IsOnlyOne}

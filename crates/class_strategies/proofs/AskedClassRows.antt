@@ -6,8 +6,8 @@ use Rattle.board_text.specs.PlainBoard.{PlainBoard}
 use Rattle.positions.specs.declared.value.Value.{Value}
 use Rattle.positions.specs.declared.value.Value.TheVariants.{Finite, Forever}
 use Rattle.strategies.specs.Document.{AsksAdversary}
-use Rattle.class_documents.specs.ClassProof.{IsClassPadded, class_request_rows}
-use Rattle.class_documents.specs.declared.proof.AdversaryClassRow.{AdversaryClassRow}
+use Rattle.proof_text.specs.ClassProof.{IsClassPadded, class_request_rows}
+use Rattle.proof_text.specs.declared.class_proof.AdversaryClassRow.{AdversaryClassRow}
 use Rattle.class_strategies.specs.ClassDocument.{AreExactlyClasses, IsAdversaryClassRow}
 use Rattle.class_strategies.specs.Inside.ClassSide.{AreClassAdversaryRows}
 

@@ -5,10 +5,10 @@ use Rattle.std.proofs.lemmas.List.{length-map}
 use Rattle.board_text.specs.PlainBoard.{PlainBoard, IsConfiguration}
 use Rattle.positions.specs.Ranks.{digits_of}
 use Rattle.positions.proofs.Digits.{digits_of-number_of, number_below}
-use Rattle.class_documents.specs.Arranged.{order_of, arranged, order_number}
-use Rattle.class_documents.proofs.ArrangedPlaces.{arranged_is}
-use Rattle.class_documents.proofs.OrderNumbers.{order-none, order-label, orders-below}
-use Rattle.class_documents.proofs.RowSearch.{places-few}
+use Rattle.proof_text.specs.Arranged.{order_of, arranged, order_number}
+use Rattle.proof_text.proofs.Cited.{arranged_is}
+use Rattle.proof_text.proofs.Cited.{order-none, order-label, orders-below}
+use Rattle.proof_text.proofs.Cited.{places-few}
 use Rattle.class_strategies.specs.Inside.ReachedClasses.{place_of, class_numbered, number_of_class_at, IsClassNumber}
 use Rattle.class_strategies.proofs.ArrangedAgain.{arranged-again}
 

@@ -20,10 +20,11 @@ use Rattle.strategies.specs.Best.{IsLess}
 use Rattle.strategies.specs.Document.{IsAnswerMove, IsRequestMove, AsksAdversary, turns_of}
 use Rattle.strategies.proofs.ValueOrder.{at_least, less_than_finite}
 use Rattle.classes.specs.Numbers.{class_count}
-use Rattle.class_documents.specs.Arranged.{arranged}
-use Rattle.class_documents.specs.ClassProof.{IsClassRequestRow, IsClassProof}
-use Rattle.class_documents.specs.declared.proof.TheConstants.{MAX_CLASS_ROWS}
-use Rattle.class_documents.proofs.ArrangedPlaces.{arranged_is}
+use Rattle.proof_text.specs.Arranged.{arranged}
+use Rattle.proof_text.specs.ClassProof.{IsClassRequestRow}
+use Rattle.proof_text.specs.Documents.{IsClassProof}
+use Rattle.proof_text.specs.declared.class_proof.TheConstants.{MAX_CLASS_ROWS}
+use Rattle.proof_text.proofs.Cited.{arranged_is}
 use Rattle.class_strategies.specs.ClassDocument.{LeadsByClasses, IsLabellerClassRow, IsAdversaryClassRow}
 use Rattle.class_strategies.specs.ClassDocument.{IsClassDocumentOf}
 use Rattle.class_strategies.proofs.ArrangedAgain.{arranged-again}
@@ -177,7 +178,7 @@ module _ (board : PlainBoard) (proof : PlainProof) (is_start : IsConfiguration b
           rows-few board (λ (row : AnswerRow). row.at) proof.labeller answers_placed is.labeller.ascending in
           omega (arith, most, few));
       each = λ k d low. answer_form (get_or proof.labeller k d) (row_at k d low);
-      arranged_each = λ k d low. (answers_placed k d low).arranged_is;
+      in_order = λ k d low. (answers_placed k d low).arranged_is;
       ascending = is.labeller.ascending;
     };
     adversary = record {
@@ -186,7 +187,7 @@ module _ (board : PlainBoard) (proof : PlainProof) (is_start : IsConfiguration b
           omega (arith, most, few));
       each = λ k d low.
           let asked = asked_at k d low in request_form (get_or proof.adversary k d) asked.0 asked.1;
-      arranged_each = λ k d low. (requests_placed k d low).arranged_is;
+      in_order = λ k d low. (requests_placed k d low).arranged_is;
       ascending = is.adversary.ascending;
     };
     no_labeller = λ e. absurd (labeller_asked is.value (subst (λ (c : Claim). asks_labeller c ≡ false) is.claim e));

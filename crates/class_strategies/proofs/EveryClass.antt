@@ -8,7 +8,7 @@ use Rattle.std.proofs.lemmas.List.Elements.{Contains-append_right}
 use Rattle.std.proofs.lemmas.List.Quantifiers.{all_pairs_push}
 use lib.Pointwise.{pointwise, bytes_decides}
 use Rattle.board_text.specs.PlainBoard.{PlainBoard, IsConfiguration, places}
-use Rattle.class_documents.specs.Arranged.{arranged, order_number, IsClassBefore}
+use Rattle.proof_text.specs.Arranged.{arranged, order_number, IsClassBefore}
 use Rattle.class_documents.specs.ClassFaults.{HasClassRow}
 use Rattle.class_strategies.specs.Inside.ReachedClasses.{class_numbered}
 use Rattle.class_strategies.proofs.ClassNumbers.{class_numbered-order}

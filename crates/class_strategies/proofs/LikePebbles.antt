@@ -17,9 +17,9 @@ use Rattle.classes.specs.Classes.{class_of, put}
 use Rattle.positions.specs.Gaps.{AnswersGap}
 use Rattle.classes.specs.ClassGaps.{gap_at}
 use Rattle.classes.proofs.Cited.{class_of-own, class_of-set, put-cancel, legal-answers, value-of-class}
-use Rattle.class_documents.specs.Arranged.{arranged}
+use Rattle.proof_text.specs.Arranged.{arranged}
 use Rattle.class_documents.specs.ClassRules.{asked_pebble}
-use Rattle.class_documents.proofs.ArrangedPlaces.{class-arranged, arranged_is}
+use Rattle.proof_text.proofs.Cited.{class-arranged, arranged_is}
 use Rattle.class_documents.proofs.ClassTrees.{asked_below}
 
 -- configurations of one class have one value

@@ -21,8 +21,8 @@ use Rattle.strategies.proofs.BestRequests.{best_request, same_request, not_lower
 use Rattle.strategies.proofs.Closure.{answerable_or_not}
 use Rattle.strategies.proofs.DocumentRows.{answers_one}
 use Rattle.strategies.proofs.SpreadRanks.{get_there}
-use Rattle.class_documents.specs.Arranged.{arranged}
-use Rattle.class_documents.proofs.ArrangedPlaces.{arranged_is}
+use Rattle.proof_text.specs.Arranged.{arranged}
+use Rattle.proof_text.proofs.Cited.{arranged_is}
 use Rattle.class_strategies.specs.Inside.ReachedClasses.{class_numbered, number_of_class_at, IsClassNumber}
 use Rattle.class_strategies.specs.Inside.ReachedClasses.{IsClassAnswerStep, ClassAnswerLeads}
 use Rattle.class_strategies.specs.Inside.ReachedClasses.{IsClassRequestStep, ClassRequestLeads, IsClassReachedBy}

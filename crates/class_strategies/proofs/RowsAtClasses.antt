@@ -9,7 +9,7 @@ use Rattle.board_text.specs.PlainBoard.{PlainBoard}
 use Rattle.strategies.specs.Inside.ReachedRanks.{AreInOrder}
 use Rattle.strategies.specs.Inside.Side.{Side}
 use Rattle.strategies.proofs.OneList.{behind_first, tail_ascends}
-use Rattle.class_documents.specs.Arranged.{order_number, IsClassBefore}
+use Rattle.proof_text.specs.Arranged.{order_number, IsClassBefore}
 use Rattle.class_strategies.specs.Inside.ReachedClasses.{class_numbered, IsClassNumber}
 use Rattle.class_strategies.specs.Inside.ClassSide.{AreOfReachedClasses, AreClassesReached, AreRowsAtClasses}
 use Rattle.class_strategies.specs.Inside.ClassSide.{AreClassSection, IsClassRowAt}

@@ -25,10 +25,13 @@ use Rattle.strategies.specs.Document.{turns_of}
 use Rattle.classes.specs.Classes.{class_of, IsClass}
 use Rattle.classes.specs.Numbers.{class_number, class_with, class_count}
 use Rattle.classes.proofs.Cited.{is-below, with-number, length-class_of, falls-class_of}
-use Rattle.class_documents.specs.Arranged.{arranged, order_number, IsClassBefore}
-use Rattle.class_documents.specs.ClassProof.{AreClassRows, IsClassRequestRow, IsClassProof}
+use Rattle.proof_text.specs.Arranged.{arranged, order_number, IsClassBefore}
+use Rattle.proof_text.specs.RowForm.{AreRows}
+use Rattle.proof_text.specs.ClassProof.{IsClassRequestRow}
+use Rattle.proof_text.specs.Documents.{IsClassProof}
+use Rattle.proof_text.specs.Versions.{answers_by_classes, requests_by_classes}
 use Rattle.class_documents.specs.ClassRules.{BreaksNoClassRule}
-use Rattle.class_documents.specs.declared.proof.TheConstants.{MAX_CLASS_ROWS}
+use Rattle.proof_text.specs.declared.class_proof.TheConstants.{MAX_CLASS_ROWS}
 use Rattle.class_documents.proofs.ClassClaims.{start_claim_holds}
 use Rattle.class_strategies.proofs.ArrangedAgain.{one-arranged}
 use Rattle.class_strategies.proofs.EveryClass.{IsArrangedAt, RowsBelow}
@@ -98,6 +101,22 @@ rows-few {X} board at rows placed ascending =
 
 -- ---- the sections
 
+-- the rows of a section by classes, whatever their form
+record AreClassRows {X : Type 0} (board : PlainBoard) (IsRow : X → Type 0) (at : X → List ℕ)
+    (rows : List X) : Type 0 where
+  few : length rows ≤ MAX_CLASS_ROWS
+  each : All IsRow rows
+  in_order : All (λ row. arranged board.labels (at row) ≡ at row) rows
+  ascending : AllPairs (λ first second. IsClassBefore board.labels (at first) (at second)) rows
+
+answering : {board : PlainBoard} {claim : Claim} {rows : List AnswerRow}
+    → AreClassRows board (IsAnswerRow board claim) (λ row. row.at) rows → AreRows (answers_by_classes board claim) rows
+answering are = record { few = are.few; each = are.each; in_order = are.in_order; ascending = are.ascending }
+
+requesting : {board : PlainBoard} (claim : Claim) {rows : List RequestRow}
+    → AreClassRows board (IsClassRequestRow board) (λ row. row.at) rows → AreRows (requests_by_classes board claim) rows
+requesting claim are = record { few = are.few; each = are.each; in_order = are.in_order; ascending = are.ascending }
+
 module _ (board : PlainBoard) (few : class_count board ≤ MAX_CLASS_ROWS) where
   section : {X : Type 0} (IsMade IsRow : X → Type 0) (at : X → List ℕ) (Wants : List ℕ → Type 0) (bound : ℕ)
       → ((x : X) → IsMade x → IsRow x) → (below : RowsBelow board IsMade at Wants bound)
@@ -105,7 +124,7 @@ module _ (board : PlainBoard) (few : class_count board ≤ MAX_CLASS_ROWS) where
   section IsMade IsRow at Wants bound is below = record {
     few = (let most = rows-few board at below.rows below.placed below.ascending in omega (arith, most, few));
     each = λ k d low. is (get_or below.rows k d) (below.each k d low);
-    arranged_each = λ k d low. (below.placed k d low).arranged_is;
+    in_order = λ k d low. (below.placed k d low).arranged_is;
     ascending = below.ascending;
   }
 
@@ -165,7 +184,7 @@ no_rows : {X : Type 0} (board : PlainBoard) (IsRow : X → Type 0) (at : X → L
 no_rows board IsRow at = record {
   few = omega arith;
   each = All-nil IsRow;
-  arranged_each = All-nil (λ r. arranged board.labels (at r) ≡ at r);
+  in_order = All-nil (λ r. arranged board.labels (at r) ≡ at r);
   ascending = λ i j d less low. absurd (omega (arith, low));
 }
 
@@ -193,9 +212,9 @@ module _ (board : PlainBoard) (is : IsConfiguration board board.start) (few : cl
         proof,
         record {
           claim = small;
-          labeller = section board few _ (IsAnswerRow board (claims.AtLeast wanted)) (λ r. r.at) _ _
-              (answer_row_is board wanted small) rows;
-          adversary = no_rows board (IsClassRequestRow board) (λ r. r.at);
+          labeller = answering (section board few _ (IsAnswerRow board (claims.AtLeast wanted)) (λ r. r.at) _ _
+              (answer_row_is board wanted small) rows);
+          adversary = requesting (claims.AtLeast wanted) (no_rows board (IsClassRequestRow board) (λ r. r.at));
           no_labeller = λ e. absurd (true≢false e);
           no_adversary = λ e. refl;
         },
@@ -216,9 +235,9 @@ module _ (board : PlainBoard) (is : IsConfiguration board board.start) (few : cl
         proof,
         record {
           claim = small;
-          labeller = no_rows board (IsAnswerRow board (claims.AtMost most)) (λ r. r.at);
-          adversary = section board few _ (IsClassRequestRow board) (λ r. r.at) _ _
-              (request_row_is board most small) rows;
+          labeller = answering (no_rows board (IsAnswerRow board (claims.AtMost most)) (λ r. r.at));
+          adversary = requesting (claims.AtMost most) (section board few _ (IsClassRequestRow board) (λ r. r.at) _ _
+              (request_row_is board most small) rows);
           no_labeller = λ e. refl;
           no_adversary = λ e. absurd (true≢false e);
         },
@@ -241,10 +260,10 @@ module _ (board : PlainBoard) (is : IsConfiguration board board.start) (few : cl
         proof,
         record {
           claim = small;
-          labeller = section board few _ (IsAnswerRow board (claims.Exactly number)) (λ r. r.at) _ _
-              (λ row made. exact_row_is board number row (answer_row_is board number small row made)) rows;
-          adversary = section board few _ (IsClassRequestRow board) (λ r. r.at) _ _
-              (request_row_is board number small) requests;
+          labeller = answering (section board few _ (IsAnswerRow board (claims.Exactly number)) (λ r. r.at) _ _
+              (λ row made. exact_row_is board number row (answer_row_is board number small row made)) rows);
+          adversary = requesting (claims.Exactly number) (section board few _ (IsClassRequestRow board) (λ r. r.at) _ _
+              (request_row_is board number small) requests);
           no_labeller = λ e. absurd (true≢false e);
           no_adversary = λ e. absurd (true≢false e);
         },
@@ -265,8 +284,8 @@ module _ (board : PlainBoard) (is : IsConfiguration board board.start) (few : cl
         proof,
         record {
           claim = tt;
-          labeller = section board few _ (IsAnswerRow board claims.Forever) (λ r. r.at) _ _ (forever_row_is board) rows;
-          adversary = no_rows board (IsClassRequestRow board) (λ r. r.at);
+          labeller = answering (section board few _ (IsAnswerRow board claims.Forever) (λ r. r.at) _ _ (forever_row_is board) rows);
+          adversary = requesting claims.Forever (no_rows board (IsClassRequestRow board) (λ r. r.at));
           no_labeller = λ e. absurd (true≢false e);
           no_adversary = λ e. refl;
         },

@@ -13,7 +13,7 @@ use Rattle.proof_text.specs.Proof.{PlainProof}
 use Rattle.strategies.specs.Document.{AsksAdversary, IsAnswerMove, IsRequestMove}
 use Rattle.strategies.specs.Inside.Side.{Side}
 use Rattle.strategies.proofs.AddedRanks.{contains_or_not}
-use Rattle.class_documents.specs.Arranged.{arranged, order_number}
+use Rattle.proof_text.specs.Arranged.{arranged, order_number}
 use Rattle.class_strategies.specs.ClassDocument.{LeadsByClasses, IsLabellerClassRow, IsAdversaryClassRow}
 use Rattle.class_strategies.specs.ClassDocument.{AreExactlyClasses, IsClassDocumentOf}
 use Rattle.class_strategies.specs.Inside.ClassSide.{AreOfReachedClasses, class_labeller_side, class_adversary_side}

@@ -8,8 +8,8 @@ use Rattle.positions.proofs.Cited.{moved_is_configuration}
 use Rattle.strategies.specs.Document.{IsAnswerable, IsAnswerMove, IsRequestMove}
 use Rattle.strategies.specs.Inside.ReachedRanks.{IsWithAll}
 use Rattle.strategies.proofs.SpreadRanks.{IsSpread, get_there, spread_step, spread_all}
-use Rattle.class_documents.specs.Arranged.{arranged, order_number}
-use Rattle.class_documents.proofs.ArrangedPlaces.{arranged_is}
+use Rattle.proof_text.specs.Arranged.{arranged, order_number}
+use Rattle.proof_text.proofs.Cited.{arranged_is}
 use Rattle.class_strategies.specs.ClassDocument.{LeadsByClasses}
 use Rattle.class_strategies.specs.Inside.ReachedClasses.{class_numbered, number_of_class_at, IsClassNumber}
 use Rattle.class_strategies.specs.Inside.ReachedClasses.{ClassAnswerLeads, ClassRequestLeads}

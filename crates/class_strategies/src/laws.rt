@@ -8,11 +8,11 @@ ghost use Rattle.positions.specs.Value.{HasValue};
 ghost use Rattle.positions.specs.declared.claim.Claim.{Claim as ClaimData};
 ghost use Rattle.positions.specs.declared.value.Value.TheVariants.{Finite};
 ghost use Rattle.proof_text.specs.Proof.{PlainProof, IsClaim};
-ghost use Rattle.class_documents.specs.ClassProof.{IsClassProof};
+ghost use Rattle.proof_text.specs.Documents.{IsClassProof};
 ghost use Rattle.class_documents.specs.ClassRules.{BreaksNoClassRule};
 ghost use Rattle.class_strategies.specs.ClassDocument.{IsClassDocumentOf};
 
-use class_documents::MAX_CLASS_ROWS;
+use proof_text::MAX_CLASS_ROWS;
 
 /// The document by classes of a board breaks no rule of checking.
 pub fn class_documents_break_no_rule()

@@ -14,8 +14,8 @@ use crate::moves::MovesByPlaces;
 use crate::reached::Reached;
 use crate::steps::{add_answers, add_results};
 use board_text::{MAX_PEBBLES, Memory};
-use class_documents::{AdversaryClassRow, LabellerClassRow, class_order, places_at};
 use positions::{Turns, Value};
+use proof_text::{AdversaryClassRow, LabellerClassRow, class_order, places_at};
 use std::alloc::Global;
 
 /// A row of one side's section.

@@ -11,8 +11,8 @@ ghost use Rattle.class_strategies.specs.Inside.ReachedClasses.{ClassRequestLeads
 use crate::moves::MovesByPlaces;
 use crate::reached::Reached;
 use board_text::{Board, Memory};
-use class_documents::{class_order, places_at};
 use positions::{Value, is_legal};
+use proof_text::{class_order, places_at};
 use strategies::Configuration;
 
 /// The class of `number`: its places, arranged.

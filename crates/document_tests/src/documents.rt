@@ -2,7 +2,7 @@
 
 ghost use Rattle.std.specs.Prelude.{◌≤◌, IfOk};
 ghost use Rattle.positions.specs.Ranks.{configurations};
-ghost use Rattle.proof_text.specs.Proof.{IsDocument};
+ghost use Rattle.proof_text.specs.Documents.{IsDocument};
 
 use board_text::{Board, Memory};
 use positions::{MAX_CONFIGURATIONS, Space};

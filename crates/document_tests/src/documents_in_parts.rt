@@ -1,7 +1,7 @@
 //! Documents that are printed in parts, of which threads make the long ones.
 
 ghost use Rattle.std.specs.Prelude.{◌≡◌, ◌≤◌};
-ghost use Rattle.proof_text.specs.Proof.{IsDocument};
+ghost use Rattle.proof_text.specs.Documents.{IsDocument};
 
 use crate::assertions::{assert_text, board_of};
 use crate::documents::print_document;

@@ -4,7 +4,7 @@
 //! made once more.
 
 ghost use Rattle.std.specs.Prelude.{◌≡◌, IfOk};
-ghost use Rattle.proof_text.specs.Proof.{IsDocument};
+ghost use Rattle.proof_text.specs.Documents.{IsDocument};
 
 use crate::assertions::{assert_same, assert_text, board_of};
 use crate::documents::{check_document, print_document};

@@ -5,9 +5,9 @@ use Rattle.positions.specs.Ranks.{configurations}
 use Rattle.positions.specs.declared.claim.Claim.{Claim}
 use Rattle.positions.specs.declared.space.TheConstants.{MAX_CONFIGURATIONS}
 use Rattle.classes.proofs.Cited.{few-of-small}
-use Rattle.proof_text.specs.Proof.{PlainProof, IsClaim, IsProof}
+use Rattle.proof_text.specs.Proof.{PlainProof, IsClaim}
+use Rattle.proof_text.specs.Documents.{IsProof, IsClassProof}
 use Rattle.proof_text.specs.Rules.{BreaksNoRule}
-use Rattle.class_documents.specs.ClassProof.{IsClassProof}
 use Rattle.class_documents.specs.ClassRules.{BreaksNoClassRule}
 use Rattle.class_strategies.proofs.Cited.{claims_shown}
 use Rattle.domains.proofs.ShownDocuments.{claims_of_documents, documents_for}

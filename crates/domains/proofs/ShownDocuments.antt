@@ -20,8 +20,10 @@ use Rattle.positions.specs.declared.value.Value.{Value}
 use Rattle.positions.specs.declared.value.Value.TheVariants.{Finite, Forever}
 use Rattle.positions.proofs.Cited.{claim_holds, same_value}
 use Rattle.proof_check.proofs.Cited.{shows}
-use Rattle.proof_text.specs.Proof.{PlainProof, IsClaim, IsProof, IsAnswerRow, IsRequestRow, AreAnswerRows}
-use Rattle.proof_text.specs.Proof.{AreRequestRows, AreTurns, IsBefore}
+use Rattle.proof_text.specs.Documents.{IsProof}
+use Rattle.proof_text.specs.Proof.{PlainProof, IsClaim, IsAnswerRow, IsRequestRow, AreTurns, IsBefore}
+use Rattle.proof_text.specs.RowForm.{AreRows}
+use Rattle.proof_text.specs.Versions.{answers_by_configurations, requests_by_configurations}
 use Rattle.proof_text.specs.Rules.{BreaksNoRule, IsEnough, IsListedBelow, IsListedFor, MeetsRequests, Serves}
 use Rattle.proof_text.specs.Rules.{StartIsBelow, one_less, wanted_of}
 use Rattle.nested_cycles.proofs.Cited.{contains_map, each_of}
@@ -44,17 +46,19 @@ counted : (exactly least : ℕ) (turns : Turns) → AreTurns (claims.Exactly exa
 counted exactly least (Count turns) are = are
 counted exactly least Always are = are
 
-no_rows : (board : PlainBoard) → AreRequestRows board []
-no_rows board = record {
+no_rows : (board : PlainBoard) (claim : Claim) → AreRows (requests_by_configurations board claim) []
+no_rows board claim = record {
   few = omega arith;
   each = All-nil (IsRequestRow board);
+  in_order = λ k d low. tt;
   ascending = λ i j d before inside. absurd (omega (arith, inside));
 }
 
-no_answers : (board : PlainBoard) (claim : Claim) → AreAnswerRows board claim []
+no_answers : (board : PlainBoard) (claim : Claim) → AreRows (answers_by_configurations board claim) []
 no_answers board claim = record {
   few = omega arith;
   each = All-nil (IsAnswerRow board claim);
+  in_order = λ k d low. tt;
   ascending = λ i j d before inside. absurd (omega (arith, inside));
 }
 
@@ -65,8 +69,8 @@ module _ (board : PlainBoard) (proof : PlainProof) (exactly : ℕ) (is : IsProof
   pub least_document : (least : ℕ) → least ≤ exactly → IsClaim (claims.AtLeast least)
       → HasDocument board (claims.AtLeast least)
   least_document least at_most is_claim =
-      let rows : AreAnswerRows board (claims.Exactly exactly) proof.labeller
-      = subst (λ (c : Claim). AreAnswerRows board c proof.labeller) claim is.labeller in
+      let rows : AreRows (answers_by_configurations board (claims.Exactly exactly)) proof.labeller
+      = subst (λ (c : Claim). AreRows (answers_by_configurations board c) proof.labeller) claim is.labeller in
       let serves : Serves proof.labeller board.start (Count exactly)
       = subst (λ (c : Claim). Serves proof.labeller board.start (wanted_of c)) claim rules.start_serves in (
         record { claim = claims.AtLeast least; labeller = proof.labeller; adversary = [] },
@@ -77,9 +81,10 @@ module _ (board : PlainBoard) (proof : PlainProof) (exactly : ℕ) (is : IsProof
             each = All-weaker (IsAnswerRow board (claims.Exactly exactly)) (IsAnswerRow board (claims.AtLeast least))
                 (λ row h. record { at = h.at; turns = counted exactly least row.turns h.turns; answers = h.answers })
                 proof.labeller rows.each;
+            in_order = rows.in_order;
             ascending = rows.ascending;
           };
-          adversary = no_rows board;
+          adversary = no_rows board (claims.AtLeast least);
           no_labeller = λ same. absurd (true≢false same);
           no_adversary = λ same. refl;
         },
@@ -109,7 +114,12 @@ module _ (board : PlainBoard) (proof : PlainProof) (exactly : ℕ) (is : IsProof
         record {
           claim = is_claim;
           labeller = no_answers board (claims.AtMost most);
-          adversary = is.adversary;
+          adversary = record {
+            few = is.adversary.few;
+            each = is.adversary.each;
+            in_order = is.adversary.in_order;
+            ascending = is.adversary.ascending;
+          };
           no_labeller = λ same. refl;
           no_adversary = λ same. absurd (true≢false same);
         },
@@ -154,8 +164,8 @@ module _ (board : PlainBoard) (proof : PlainProof) (turns : ℕ) (is : IsProof b
     enough = few;
   }
 
-  are_rows : AreAnswerRows board claims.Forever proof.labeller
-  are_rows = subst (λ (c : Claim). AreAnswerRows board c proof.labeller) claim is.labeller
+  are_rows : AreRows (answers_by_configurations board claims.Forever) proof.labeller
+  are_rows = subst (λ (c : Claim). AreRows (answers_by_configurations board c) proof.labeller) claim is.labeller
 
   meets : (row : AnswerRow) → Contains proof.labeller row → MeetsRequests board rows (for_turns turns row)
   meets row among pebble below =
@@ -196,9 +206,10 @@ module _ (board : PlainBoard) (proof : PlainProof) (turns : ℕ) (is : IsProof b
                 (λ row. IsAnswerRow board (claims.AtLeast turns) (for_turns turns row))
                 (λ row h. record { at = h.at; turns = (some, is_claim); answers = h.answers })
                 proof.labeller are_rows.each);
+            in_order = λ k d low. tt;
             ascending = ascends;
           };
-          adversary = no_rows board;
+          adversary = no_rows board (claims.AtLeast turns);
           no_labeller = λ same. absurd (true≢false same);
           no_adversary = λ same. refl;
         },
@@ -220,7 +231,7 @@ nothing_document board is_claim = (
   record {
     claim = is_claim;
     labeller = no_answers board (claims.AtLeast 0);
-    adversary = no_rows board;
+    adversary = no_rows board (claims.AtLeast 0);
     no_labeller = λ same. refl;
     no_adversary = λ same. refl;
   },

@@ -5,9 +5,9 @@ ghost use Rattle.board_text.specs.PlainBoard.{PlainBoard, IsConfiguration};
 ghost use Rattle.positions.specs.Claim.{Holds};
 ghost use Rattle.positions.specs.Ranks.{configurations};
 ghost use Rattle.positions.specs.declared.claim.Claim.{Claim as ClaimData};
-ghost use Rattle.proof_text.specs.Proof.{PlainProof, IsClaim, IsProof};
+ghost use Rattle.proof_text.specs.Proof.{PlainProof, IsClaim};
+ghost use Rattle.proof_text.specs.Documents.{IsProof, IsClassProof};
 ghost use Rattle.proof_text.specs.Rules.{BreaksNoRule};
-ghost use Rattle.class_documents.specs.ClassProof.{IsClassProof};
 ghost use Rattle.class_documents.specs.ClassRules.{BreaksNoClassRule};
 
 use positions::MAX_CONFIGURATIONS;

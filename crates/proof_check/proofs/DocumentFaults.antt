@@ -13,7 +13,8 @@ use Rattle.positions.specs.Table.{AnswerRow, RequestRow}
 use Rattle.positions.specs.declared.claim.Claim.{Claim}
 use Rattle.positions.specs.declared.claim.Claim.TheVariants.{Exactly, AtLeast, AtMost, Forever}
 use Rattle.positions.proofs.Cited.{rank_below}
-use Rattle.proof_text.specs.Proof.{PlainProof, IsProof}
+use Rattle.proof_text.specs.Proof.{PlainProof}
+use Rattle.proof_text.specs.Documents.{IsProof}
 use Rattle.proof_text.specs.Rules.{BreaksNoRule, Serves, IsListedBelow, LabellerObeys, AdversaryObeys, MeetsRequest}
 use Rattle.proof_text.specs.Rules.{MeetsRequests}
 use Rattle.proof_text.specs.Rules.{MeetsAnswer, MeetsAnswers, one_less, wanted_of, StartIsBelow}

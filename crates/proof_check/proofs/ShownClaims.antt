@@ -1,6 +1,6 @@
 -- A document that breaks no rule shows its claim.
-use Rattle.std.proofs.Common.{◌≡◌, ℕ, ◌<◌, List, suc, length, map, get_or, take, refl, ap, ◌∙◌, subst, arith}
-use Rattle.std.specs.List.{All}
+use Rattle.std.proofs.Common.{◌≡◌, ℕ, ◌<◌, ◌≤◌, List, suc, length, map, get_or, take, refl, ap, ◌∙◌, subst, arith}
+use Rattle.std.specs.List.{All, AllPairs}
 use Rattle.std.proofs.lemmas.List.{length-map, get_or-map, get_or-take}
 use Rattle.board_text.specs.PlainBoard.{PlainBoard, IsBoard}
 use Rattle.positions.specs.Ranks.{rank_of, configuration_at, configurations}
@@ -13,8 +13,12 @@ use Rattle.positions.specs.declared.turns.Turns.TheVariants.{Count, Always}
 use Rattle.positions.proofs.Cited.{rank_of-configuration_at}
 use Rattle.proof_text.specs.declared.proof.LabellerRow.{LabellerRow}
 use Rattle.proof_text.specs.declared.proof.AdversaryRow.{AdversaryRow}
-use Rattle.proof_text.specs.Proof.{PlainProof, IsProof, IsAnswerRow, IsRequestRow, AreRows, AreAnswerRows}
-use Rattle.proof_text.specs.Proof.{AreRequestRows, AreTurns, answer_row, request_row, answer_rows, request_rows}
+use Rattle.proof_text.specs.Documents.{IsProof}
+use Rattle.proof_text.specs.Proof.{PlainProof, IsAnswerRow, IsRequestRow, IsBefore, AreTurns, answer_row}
+use Rattle.proof_text.specs.Proof.{request_row, answer_rows, request_rows}
+use Rattle.proof_text.specs.RowForm.{RowForm, AreRows}
+use Rattle.proof_text.specs.Versions.{answers_by_configurations, requests_by_configurations}
+use Rattle.positions.specs.declared.space.TheConstants.{MAX_CONFIGURATIONS}
 use Rattle.proof_text.proofs.Cited.{rank_small}
 use Rattle.proof_text.specs.Rules.{BreaksNoRule, Serves, wanted_of, StartIsBelow, IsListedBelow}
 use Rattle.proof_check.specs.Inside.Checker.{AreReady, IsAnswering, AreAnswering, IsRequesting, AreRequesting}
@@ -23,12 +27,11 @@ use Rattle.proof_check.proofs.LabellerTables as answering
 use Rattle.proof_check.proofs.AdversaryTables as stopping
 
 -- rows in ascending order are apart
-apart : {X : Type 0} {board : PlainBoard} {IsRow : X → Type 0} {at : X → List ℕ} {rows : List X}
-    → AreRows board IsRow at rows → AreApart at rows
-apart {X} {board} {IsRow} {at} {rows} are i j d less below same =
-    let lower : rank_of board (at (get_or rows i d)) < rank_of board (at (get_or rows j d)) =
+apart : {X : Type 0} {form : RowForm X} {rows : List X} → AreRows form rows → AreApart form.at rows
+apart {X} {form} {rows} are i j d less below same =
+    let lower : form.number (form.at (get_or rows i d)) < form.number (form.at (get_or rows j d)) =
     are.ascending i j d less below in
-    omega (arith, lower, ap (rank_of board) same)
+    omega (arith, lower, ap form.number same)
 
 turns_always : (turns : Turns) → AreTurns Forever turns → turns ≡ Always
 turns_always Always are = refl
@@ -71,15 +74,16 @@ are_ready : {R X : Type 0} (board : PlainBoard) (f : R → X) (at : X → List �
     (IsReady : R → Type 0)
     (rows : List R) → ((row : R) → at (f row) ≡ configuration_at board (rank row))
     → ((row : R) → IsRow (f row) → IsReady row)
-    → ((row : R) → IsReady row → rank row < configurations board) → AreRows board IsRow at (map f rows)
+    → ((row : R) → IsReady row → rank row < configurations board) → length (map f rows) ≤ MAX_CONFIGURATIONS
+    → All IsRow (map f rows) → AllPairs (λ first second. IsBefore board (at first) (at second)) (map f rows)
     → AreReady board IsReady rank rows
-are_ready {R} {X} board f at rank IsRow IsReady rows shown ready low are = record {
+are_ready {R} {X} board f at rank IsRow IsReady rows shown ready low few are ascending = record {
   ranked = record {
-    few = omega (arith, are.few, length-map rows f);
+    few = omega (arith, few, length-map rows f);
     each = λ k d lt. low (get_or rows k d) (each k d lt);
     ascending = λ i j d less below.
         let lower : rank_at i d < rank_at j d =
-        are.ascending i j (f d) less (omega (arith, below, length-map rows f)) in
+        ascending i j (f d) less (omega (arith, below, length-map rows f)) in
         omega (arith, lower, rank_is i d (omega (arith, less, below)), rank_is j d below);
   };
   each = each;
@@ -87,7 +91,7 @@ are_ready {R} {X} board f at rank IsRow IsReady rows shown ready low are = recor
   where
     each : All IsReady rows
     each = λ k d lt.
-        let is = are.each k (f d) (omega (arith, lt, length-map rows f)) in
+        let is = are k (f d) (omega (arith, lt, length-map rows f)) in
         ready (get_or rows k d) (subst IsRow (get_or-map f rows k d (f d) lt) is)
 
     rank_at : ℕ → R → ℕ
@@ -111,17 +115,19 @@ module _ (board : PlainBoard) (is_board : IsBoard board) where
         subst (λ n. n < board.labels) (get_or-take board.pebbles row.take pebble 0 below) label;
   }
 
-  pub are_answering : (claim : Claim) (rows : List LabellerRow) → AreAnswerRows board claim (answer_rows board rows)
+  pub are_answering : (claim : Claim) (rows : List LabellerRow)
+      → AreRows (answers_by_configurations board claim) (answer_rows board rows)
       → AreAnswering board rows
-  are_answering claim rows =
+  are_answering claim rows are =
       are_ready board (answer_row board) (λ r. r.at) (λ r. r.at) (IsAnswerRow board claim) (IsAnswering board) rows
       (λ r. refl)
-      (answering_row claim) (λ r is. is.is_rank)
+      (answering_row claim) (λ r is. is.is_rank) are.few are.each are.ascending
 
-  pub are_requesting : (rows : List AdversaryRow) → AreRequestRows board (request_rows board rows)
+  pub are_requesting : (claim : Claim) (rows : List AdversaryRow)
+      → AreRows (requests_by_configurations board claim) (request_rows board rows)
       → AreRequesting board rows
-  are_requesting rows =
+  are_requesting claim rows are =
       are_ready board (request_row board) (λ r. r.at) (λ r. r.at) (IsRequestRow board) (IsRequesting board) rows
       (λ r. refl)
       (λ r is. record { is_board = is_board; is_rank = rank_small board r.at is_board is.at; is_pebble = is.request })
-      (λ r is. is.is_rank)
+      (λ r is. is.is_rank) are.few are.each are.ascending

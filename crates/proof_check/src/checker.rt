@@ -4,7 +4,8 @@ ghost use Rattle.std.specs.Prelude.{◌≡◌, ◌<◌, ◌≤◌, IfOk};
 ghost use Rattle.board_text.specs.PlainBoard.{IsConfiguration};
 ghost use Rattle.positions.specs.Position.{position_at};
 ghost use Rattle.positions.specs.Ranks.{configurations, rank_of};
-ghost use Rattle.proof_text.specs.Proof.{IsDocument, plain_proof, answer_rows, request_rows};
+ghost use Rattle.proof_text.specs.Documents.{IsDocument};
+ghost use Rattle.proof_text.specs.Proof.{plain_proof, answer_rows, request_rows};
 ghost use Rattle.proof_check.specs.Inside.Checker.{AreAnswering, AreRequesting};
 
 use crate::row_index::RowIndex;

@@ -3,7 +3,8 @@
 ghost use Rattle.std.specs.Prelude.{◌≡◌, ◌≤◌, OnOk, IfOk, IfErr, MatchOption};
 ghost use Rattle.positions.specs.Ranks.{configurations};
 ghost use Rattle.positions.specs.Claim.{Shows};
-ghost use Rattle.proof_text.specs.Proof.{IsDocument, plain_proof, answer_rows, request_rows};
+ghost use Rattle.proof_text.specs.Documents.{IsDocument};
+ghost use Rattle.proof_text.specs.Proof.{plain_proof, answer_rows, request_rows};
 ghost use Rattle.proof_text.specs.Rules.{BreaksNoRule};
 ghost use Rattle.proof_check.specs.CheckFaults.{IsCheckFault, NamesRanks};
 ghost use Rattle.proof_check.specs.declared.fault.CheckFault.TheVariants.{Memory as OutOfMemory};

@@ -3,7 +3,8 @@
 ghost use Rattle.std.specs.Prelude.{◌≡◌, ◌≢◌};
 ghost use Rattle.board_text.specs.PlainBoard.{PlainBoard};
 ghost use Rattle.positions.specs.Claim.{Shows};
-ghost use Rattle.proof_text.specs.Proof.{PlainProof, IsProof};
+ghost use Rattle.proof_text.specs.Proof.{PlainProof};
+ghost use Rattle.proof_text.specs.Documents.{IsProof};
 ghost use Rattle.proof_text.specs.Rules.{BreaksNoRule};
 ghost use Rattle.proof_check.specs.CheckFaults.{IsCheckFault};
 ghost use Rattle.proof_check.specs.declared.fault.CheckFault.{CheckFault as Fault};

@@ -1,178 +1,148 @@
 -- From the parts of a text to its fault.
-use Rattle.std.proofs.Common.{◌≡◌, ◌⊎◌, ℕ, ◌+◌, Bool, cond, true, List, [], ◌∷◌, ◌++◌, length, map, refl, sym, ap}
-use Rattle.std.proofs.Common.{subst, append_assoc, inl, inr}
-use Rattle.std.specs.List.{flat_map}
-use Rattle.std.specs.Prelude.{codes}
-use Rattle.std.proofs.lemmas.List.{length-map}
-use Rattle.std.proofs.lemmas.List.Folds.{flat_map-map}
-use Rattle.board_text.specs.LineForms.{number_line}
-use Rattle.board_text.specs.PlainBoard.{PlainBoard}
+use Rattle.std.proofs.Common.{◌≡◌, ◌⊎◌, ℕ, ◌+◌, Bool, cond, true, List, [], ◌∷◌, ◌++◌, refl, sym, subst}
+use Rattle.std.proofs.Common.{append_assoc, inl, inr}
+use Rattle.board_text.specs.BoardText.{end_line}
 use Rattle.positions.specs.declared.claim.Claim.{Claim}
 use Rattle.proof_text.specs.declared.fault.ProofKind.{ProofKind}
 use Rattle.proof_text.specs.declared.fault.ProofKind.TheVariants as kinds
-use Rattle.proof_text.specs.declared.proof.LabellerRow.{LabellerRow}
-use Rattle.proof_text.specs.declared.proof.AdversaryRow.{AdversaryRow}
-use Rattle.proof_text.specs.Proof.{PlainProof, IsProof, IsClaim, AreAnswerRows, IsAnswerRow, IsRequestRow}
-use Rattle.proof_text.specs.Proof.{asks_labeller, asks_adversary, answer_row, request_row, answer_rows, request_rows}
-use Rattle.board_text.specs.BoardText.{end_line}
-use Rattle.proof_text.specs.ProofText.{proof_version_line, claim_words, claim_line, first_two_lines, labeller_section}
-use Rattle.proof_text.specs.ProofText.{adversary_section, proof_text_before_end, proof_text, labeller_lines}
-use Rattle.proof_text.specs.ProofText.{answer_line, request_line}
-use Rattle.proof_text.specs.ProofFaults.{LabellerFault, AdversaryFault, HasProofFault, InAdversary, AnswerMisread}
-use Rattle.proof_text.specs.ProofFaults.{RequestMisread, end_number}
-use Rattle.proof_text.specs.Inside.RowForm.{PartRead, SectionFault, section_text, labeller_form, adversary_form}
-use Rattle.proof_text.proofs.SectionLemmas.{rows_seen, fault_seen}
-
-pub has_part_fault : (board : PlainBoard) (text : List ℕ) (line : ℕ) (kind : ProofKind)
-    → LabellerFault board text line kind ⊎ AdversaryFault board text line kind → HasProofFault board text line kind
-has_part_fault board text line kinds.Version f = elim f [ inl l ↦ absurd l.fault.6 | inr a ↦ absurd a.fault.6 ]
-has_part_fault board text line kinds.Claim f = elim f [ inl l ↦ absurd l.fault.6 | inr a ↦ absurd a.fault.6 ]
-has_part_fault board text line kinds.End f = elim f [ inl l ↦ absurd l.fault.6 | inr a ↦ absurd a.fault.6 ]
-has_part_fault board text line kinds.Trailing f = elim f [ inl l ↦ absurd l.fault.6 | inr a ↦ absurd a.fault.6 ]
-has_part_fault board text line kind f = f
-
--- ---- sections
-
-section_seen : {R X : Type 0} (f : R → X) (word : List ℕ) (row_line : X → List ℕ) (rows : List R)
-    → number_line word (length rows) ++ flat_map (λ row. row_line (f row)) rows
-    ≡ number_line word (length (map f rows)) ++ flat_map row_line (map f rows)
-section_seen f word row_line rows = rw (length-map rows f, flat_map-map row_line f rows) refl
-
-pub labeller_section_seen : (board : PlainBoard) (claim : Claim) (rows : List LabellerRow)
-    → section_text (labeller_form board claim) rows ≡ labeller_section board claim (answer_rows board rows)
-labeller_section_seen board claim rows =
-    ap (λ (text : List ℕ). cond (asks_labeller claim) text [])
-    (section_seen (answer_row board) (codes "labeller") (answer_line board) rows)
-
-pub adversary_section_seen : (board : PlainBoard) (claim : Claim) (rows : List AdversaryRow)
-    → section_text (adversary_form board claim) rows ≡ adversary_section board claim (request_rows board rows)
-adversary_section_seen board claim rows =
-    ap (λ (text : List ℕ). cond (asks_adversary claim) text [])
-    (section_seen (request_row board) (codes "adversary") (request_line board) rows)
+use Rattle.proof_text.specs.Documents.{IsDocumentIn, text_before_end, text_of}
+use Rattle.proof_text.specs.Proof.{Sections, IsClaim}
+use Rattle.proof_text.specs.ProofFaults.{Reading, answers_read, requests_read, LabellerFault, AdversaryFault, HasFaultOf}
+use Rattle.proof_text.specs.ProofFaults.{end_number}
+use Rattle.proof_text.specs.ProofText.{claim_words, claim_line, first_two_lines}
+use Rattle.proof_text.specs.RowForm.{text_of_section, lines_of_section}
+use Rattle.proof_text.specs.SectionFaults.{InSection}
+use Rattle.proof_text.specs.Versions.{Version}
+use Rattle.proof_text.specs.Inside.Rows.{PartRead, AreKindsOfRows}
 
 -- the number of lines of a section
-pub lines_are : {R X : Type 0} (f : R → X) (rows : List R) {asked wanted : Bool} {count lines : ℕ} → asked ≡ wanted
-    → count ≡ length rows
-    → lines ≡ cond asked (1 + count) 0 → lines ≡ cond wanted (1 + length (map f rows)) 0
-lines_are f rows e n l = rw (length-map rows f, ← n, ← e) l
+pub lines_are : {asked wanted : Bool} {count rows lines : ℕ} → asked ≡ wanted → count ≡ rows
+    → lines ≡ cond asked (1 + count) 0 → lines ≡ cond wanted (1 + rows) 0
+lines_are e n l = rw (← n, ← e) l
 
 -- ---- the parts of a text that were read
-
--- the first two lines
-pub record HeadRead (claim : Claim) (text rest : List ℕ) : Type 0 where
-  pub is_claim : IsClaim claim
-  pub spelled : text ≡ first_two_lines claim ++ rest
-
-pub head_read : (claim : Claim) (text a b : List ℕ) → text ≡ proof_version_line ++ a
-    → IsClaim claim × (a ≡ claim_line claim ++ b)
-    → HeadRead claim text b
-head_read claim text a b e (is, f) =
-    record { is_claim = is; spelled = rw (e, f) (sym (append_assoc proof_version_line (claim_line claim) b)) }
-
--- all lines before the last
-pub record FrontRead (board : PlainBoard) (proof : PlainProof) (text rest : List ℕ) : Type 0 where
-  pub is_proof : IsProof board proof
-  pub spelled : text ≡ proof_text_before_end board proof ++ rest
 
 regroup : (a b c x : List ℕ) → a ++ (b ++ (c ++ x)) ≡ (a ++ (b ++ c)) ++ x
 regroup a b c x = simp append_assoc
 
-module _ (board : PlainBoard) {claim : Claim} {text a : List ℕ} (start : HeadRead claim text a) where
-  pub labeller_fault : (line : ℕ) (kind : ProofKind)
-      → (asks_labeller claim ≡ true) × SectionFault board (labeller_form board claim) a 3 line kind
-      → HasProofFault board text line kind
-  labeller_fault line kind (asked, fault) =
-      has_part_fault board text line kind (inl (record {
-        claim = claim;
-        rest = a;
-        is_claim = start.is_claim;
-        asked = asked;
-        spelled = start.spelled;
-        fault = fault_seen board (answer_row board) (labeller_form board claim).IsRow (IsAnswerRow board claim)
-            (λ row. row.at)
-            (answer_line board) (λ row is. is.0) (number_line (codes "labeller"))
-            (AnswerMisread board claim) a 3 line kind fault;
-      }))
+-- the first two lines
+pub record HeadRead (line : List ℕ) (claim : Claim) (text rest : List ℕ) : Type 0 where
+  pub is_claim : IsClaim claim
+  pub spelled : text ≡ first_two_lines line claim ++ rest
 
-  module _ {labeller : List LabellerRow} {b : List ℕ}
-      (part : PartRead board (labeller_form board claim) labeller a b) where
-    are_answers : AreAnswerRows board claim (answer_rows board labeller)
-    are_answers =
-        rows_seen board (answer_row board) (labeller_form board claim).IsRow (IsAnswerRow board claim) (λ row. row.at)
-        (answer_line board) (λ row is. is.0) labeller part.are_rows
+pub head_read : (line : List ℕ) (claim : Claim) (text a b : List ℕ) → text ≡ line ++ a
+    → IsClaim claim × (a ≡ claim_line claim ++ b)
+    → HeadRead line claim text b
+head_read line claim text a b e (is, f) =
+    record { is_claim = is; spelled = rw (e, f) (sym (append_assoc line (claim_line claim) b)) }
 
-    answers_stand : a ≡ labeller_section board claim (answer_rows board labeller) ++ b
-    answers_stand = rw (← labeller_section_seen board claim labeller) part.spelled
+-- the faults of words are of kinds of rows, in both sections
+pub record AreKinds {X Y : Type 0} (reading : Reading X Y) : Type 0 where
+  pub answers : (claim : Claim) → AreKindsOfRows (answers_read reading claim)
+  pub requests : (claim : Claim) → AreKindsOfRows (requests_read reading claim)
 
-    pub adversary_fault : (lines line : ℕ) (kind : ProofKind)
-        → lines ≡ labeller_lines claim (answer_rows board labeller)
-        → (asks_adversary claim ≡ true) × SectionFault board (adversary_form board claim) b (3 + lines) line kind
-        → HasProofFault board text line kind
-    adversary_fault lines line kind same (asked, fault) =
-        has_part_fault board text line kind (inr (record {
-          claim = claim;
-          labeller = answer_rows board labeller;
-          rest = b;
-          is_claim = start.is_claim;
-          asked = asked;
-          are_rows = are_answers;
-          none = λ not. ap (map (answer_row board)) (part.none not);
-          spelled = rw (← answers_stand) start.spelled;
-          fault = subst (λ (n : ℕ). InAdversary board b (3 + n) line kind) same
-              (fault_seen board (request_row board) (adversary_form board claim).IsRow (IsRequestRow board)
-              (λ row. row.at)
-              (request_line board) (λ row is. is) (number_line (codes "adversary")) (RequestMisread board) b
-              (3 + lines) line kind fault);
-        }))
+module _ {X Y : Type 0} (reading : Reading X Y) where
+  abbrev version : Version X Y
+  version = reading.version
 
-    pub front_read : {adversary : List AdversaryRow} {d : List ℕ}
-        → PartRead board (adversary_form board claim) adversary b d
-        → FrontRead board (record {
-          claim = claim;
-          labeller = answer_rows board labeller;
-          adversary = request_rows board adversary;
-        }) text d
-    front_read {adversary} {d} other = record {
-      is_proof = record {
-        claim = start.is_claim;
-        labeller = are_answers;
-        adversary =
-            rows_seen board (request_row board) (adversary_form board claim).IsRow (IsRequestRow board) (λ row. row.at)
-            (request_line board) (λ row is. is) adversary other.are_rows;
-        no_labeller = λ not. ap (map (answer_row board)) (part.none not);
-        no_adversary = λ not. ap (map (request_row board)) (other.none not);
-      };
-      spelled =
-          let stand : b ≡ adversary_section board claim (request_rows board adversary) ++ d =
-          rw (← adversary_section_seen board claim adversary) other.spelled in
-          rw (start.spelled, answers_stand, stand)
-          (regroup (first_two_lines claim) (labeller_section board claim (answer_rows board labeller))
-          (adversary_section board claim (request_rows board adversary)) d);
-    }
+  -- all lines before the last
+  pub record FrontRead (proof : Sections X Y) (text rest : List ℕ) : Type 0 where
+    pub is_proof : IsDocumentIn version proof
+    pub spelled : text ≡ text_before_end version proof ++ rest
 
-module _ {board : PlainBoard} {proof : PlainProof} {text a : List ℕ} (read : FrontRead board proof text a) where
-  pub whole_text : {b : List ℕ} → a ≡ end_line ++ b → b ≡ [] → text ≡ proof_text board proof
-  whole_text taken none = rw (read.spelled, taken, none) refl
+  module _ (are : AreKinds reading) where
+    has_part_fault : (text : List ℕ) (line : ℕ) (kind : ProofKind)
+        → LabellerFault reading text line kind ⊎ AdversaryFault reading text line kind
+        → HasFaultOf reading text line kind
+    has_part_fault text line kinds.Version f = absurd (elim f [
+      | inl l ↦ (are.answers l.claim).no_version l.fault.2 l.fault.6
+      | inr a ↦ (are.requests a.claim).no_version a.fault.2 a.fault.6
+    ])
+    has_part_fault text line kinds.Claim f = absurd (elim f [
+      | inl l ↦ (are.answers l.claim).no_claim l.fault.2 l.fault.6
+      | inr a ↦ (are.requests a.claim).no_claim a.fault.2 a.fault.6
+    ])
+    has_part_fault text line kinds.End f = absurd (elim f [
+      | inl l ↦ (are.answers l.claim).no_end l.fault.2 l.fault.6
+      | inr a ↦ (are.requests a.claim).no_end a.fault.2 a.fault.6
+    ])
+    has_part_fault text line kinds.Trailing f = absurd (elim f [
+      | inl l ↦ (are.answers l.claim).no_trailing l.fault.2 l.fault.6
+      | inr a ↦ (are.requests a.claim).no_trailing a.fault.2 a.fault.6
+    ])
+    has_part_fault text line kind f = f
 
-  pub has_trailing : (b : List ℕ) (line : ℕ) → a ≡ end_line ++ b → (b ≡ [] → ⊥) → line ≡ 1 + end_number proof
-      → HasProofFault board text line kinds.Trailing
-  has_trailing [] line taken some n = absurd (some refl)
-  has_trailing (first ∷ more) line taken some n = (
-    proof,
-    first,
-    more,
-    read.is_proof,
-    rw (read.spelled, taken) (sym (append_assoc (proof_text_before_end board proof) end_line (first ∷ more))),
-    n,
-  )
+    module _ {claim : Claim} {text a : List ℕ} (start : HeadRead version.line claim text a) where
+      pub labeller_fault : (line : ℕ) (kind : ProofKind)
+          → ((version.answers claim).asked ≡ true) × InSection (answers_read reading claim) a 3 line kind
+          → HasFaultOf reading text line kind
+      labeller_fault line kind (asked, fault) =
+          has_part_fault text line kind (inl (record {
+            claim = claim;
+            rest = a;
+            is_claim = start.is_claim;
+            asked = asked;
+            spelled = start.spelled;
+            fault = fault;
+          }))
+
+      pub adversary_fault : {labeller : List X} {b : List ℕ} (part : PartRead (version.answers claim) labeller a b)
+          (lines line : ℕ) (kind : ProofKind) → lines ≡ lines_of_section (version.answers claim) labeller
+          → ((version.requests claim).asked ≡ true) × InSection (requests_read reading claim) b (3 + lines) line kind
+          → HasFaultOf reading text line kind
+      adversary_fault {labeller} {b} part lines line kind same (asked, fault) =
+          has_part_fault text line kind (inr (record {
+            claim = claim;
+            labeller = labeller;
+            rest = b;
+            is_claim = start.is_claim;
+            asked = asked;
+            are_rows = part.are_rows;
+            none = part.none;
+            spelled = rw (← part.spelled) start.spelled;
+            fault = subst (λ (n : ℕ). InSection (requests_read reading claim) b (3 + n) line kind) same fault;
+          }))
+
+  pub front_read : {claim : Claim} {text a b d : List ℕ} {labeller : List X} {adversary : List Y}
+      → HeadRead version.line claim text a → PartRead (version.answers claim) labeller a b
+      → PartRead (version.requests claim) adversary b d
+      → FrontRead (record { claim = claim; labeller = labeller; adversary = adversary }) text d
+  front_read {claim} {text} {a} {b} {d} {labeller} {adversary} start part other = record {
+    is_proof = record {
+      claim = start.is_claim;
+      labeller = part.are_rows;
+      adversary = other.are_rows;
+      no_labeller = part.none;
+      no_adversary = other.none;
+    };
+    spelled = rw (start.spelled, part.spelled, other.spelled)
+        (regroup (first_two_lines version.line claim) (text_of_section (version.answers claim) labeller)
+        (text_of_section (version.requests claim) adversary) d);
+  }
+
+  module _ {proof : Sections X Y} {text a : List ℕ} (read : FrontRead proof text a) where
+    pub whole_text : {b : List ℕ} → a ≡ end_line ++ b → b ≡ [] → text ≡ text_of version proof
+    whole_text taken none = rw (read.spelled, taken, none) refl
+
+    pub has_trailing : (b : List ℕ) (line : ℕ) → a ≡ end_line ++ b → (b ≡ [] → ⊥)
+        → line ≡ 1 + end_number version proof
+        → HasFaultOf reading text line kinds.Trailing
+    has_trailing [] line taken some n = absurd (some refl)
+    has_trailing (first ∷ more) line taken some n = (
+      proof,
+      first,
+      more,
+      read.is_proof,
+      rw (read.spelled, taken) (sym (append_assoc (text_before_end version proof) end_line (first ∷ more))),
+      n,
+    )
 
 -- a text that is written part by part: its first two lines, and then the sections
-pub first_printed : (claim : Claim) (t0 t1 t2 t3 : List ℕ) → t0 ≡ [] → t1 ≡ t0 ++ proof_version_line
+pub first_printed : (line : List ℕ) (claim : Claim) (t0 t1 t2 t3 : List ℕ) → t0 ≡ [] → t1 ≡ t0 ++ line
     → t2 ≡ t1 ++ claim_words claim
-    → t3 ≡ t2 ++ 10 ∷ [] → t3 ≡ first_two_lines claim
-first_printed claim t0 t1 t2 t3 e0 e1 e2 e3 = rw (e3, e2, e1, e0) (simp append_assoc)
+    → t3 ≡ t2 ++ 10 ∷ [] → t3 ≡ first_two_lines line claim
+first_printed line claim t0 t1 t2 t3 e0 e1 e2 e3 = rw (e3, e2, e1, e0) (simp append_assoc)
 
-pub printed : (claim : Claim) (labeller adversary t0 t1 t2 t3 : List ℕ) → t0 ≡ first_two_lines claim
-    → t1 ≡ t0 ++ labeller
-    → t2 ≡ t1 ++ adversary → t3 ≡ t2 ++ end_line → t3 ≡ (first_two_lines claim ++ (labeller ++ adversary)) ++ end_line
-printed claim labeller adversary t0 t1 t2 t3 e0 e1 e2 e3 = rw (e3, e2, e1, e0) (simp append_assoc)
+pub printed : (head labeller adversary t0 t1 t2 t3 : List ℕ) → t0 ≡ head → t1 ≡ t0 ++ labeller
+    → t2 ≡ t1 ++ adversary → t3 ≡ t2 ++ end_line → t3 ≡ (head ++ (labeller ++ adversary)) ++ end_line
+printed head labeller adversary t0 t1 t2 t3 e0 e1 e2 e3 = rw (e3, e2, e1, e0) (simp append_assoc)

@@ -21,8 +21,9 @@ use Rattle.proof_text.specs.Proof.{AreTurns, IsAnswerRow, IsRequestRow}
 use Rattle.proof_text.specs.ProofText.{turns_text, answer_line, request_line}
 use Rattle.proof_text.specs.RowWords.{AnswerWords, RequestWords, IsTurnsText, AreAnswerWords, AreRequestWords}
 use Rattle.proof_text.specs.RowWords.{answer_words_line, request_words_line}
-use Rattle.proof_text.specs.ProofFaults.{RowFault, AnswerMisread, RequestMisread, SpellConfiguration, SpellLabels}
-use Rattle.proof_text.specs.ProofFaults.{SpellsTurns}
+use Rattle.proof_text.specs.RowFaults.{AnswerMisread, RequestMisread, SpellConfiguration, SpellLabels, SpellsTurns}
+use Rattle.proof_text.specs.SectionFaults.{RowReading, RowFault}
+use Rattle.proof_text.specs.ProofFaults.{answers_read, requests_read, read_by_configurations, read_by_classes}
 use Rattle.proof_text.proofs.OneStep.{OneReading, Line, Unless, one_line, one_unless}
 use Rattle.proof_text.proofs.RowWords.{no_digit_space, no_digit_lf, turns_unique, position_unique, numerals_unique}
 use Rattle.proof_text.proofs.RowWords.{answer_parts, request_parts}
@@ -31,40 +32,38 @@ use Rattle.proof_text.proofs.SpelledRows.{count_small, star_is_no_number}
 -- ---- rows of either side
 
 -- A text begins with one row at most or has one fault, and never both.
-pub record RowLaws {X : Type 0} (IsRow : X → Type 0) (at line : X → List ℕ)
-    (Misread : List ℕ → ProofKind → Type 0) : Type 1 where
-  pub one : OneReading IsRow line
+pub record RowLaws {X : Type 0} (reading : RowReading X) : Type 1 where
+  pub few : reading.form.most < 2 ^ 32
+  pub one : OneReading reading.form.IsRow reading.form.line
   pub one_kind : (MayStand : List ℕ → Type 0) (rest : List ℕ) (kind other : ProofKind)
-      → RowFault IsRow at line Misread MayStand rest kind → RowFault IsRow at line Misread MayStand rest other
-      → kind ≡ other
+      → RowFault reading MayStand rest kind → RowFault reading MayStand rest other → kind ≡ other
   pub sound : (MayStand : List ℕ → Type 0) (row : X) (rest more : List ℕ) (kind : ProofKind)
-      → IsRow row → MayStand (at row) → rest ≡ line row ++ more → RowFault IsRow at line Misread MayStand rest kind → ⊥
+      → reading.form.IsRow row → MayStand (reading.form.at row) → rest ≡ reading.form.line row ++ more → RowFault reading MayStand rest kind → ⊥
 
 -- This holds if the words are read in one way: they are misread, or they are those of a row.
-module _ {X : Type 0} (IsRow : X → Type 0) (at line : X → List ℕ) (Misread : List ℕ → ProofKind → Type 0)
-    (Read : List ℕ → Option ProofKind → Type 0)
-    (one : OneReading IsRow line)
+module _ {X : Type 0} (reading : RowReading X) (few : reading.form.most < 2 ^ 32) (Read : List ℕ → Option ProofKind → Type 0)
+    (one : OneReading reading.form.IsRow reading.form.line)
     (one_read : (rest : List ℕ) (v w : Option ProofKind) → Read rest v → Read rest w → v ≡ w)
-    (misread : (rest : List ℕ) (kind : ProofKind) → Misread rest kind → Read rest (Some kind))
-    (right : (row : X) (rest more : List ℕ) → IsRow row → rest ≡ line row ++ more → Read rest None) where
-  not_misread : (row : X) (rest more : List ℕ) (kind : ProofKind) → IsRow row → rest ≡ line row ++ more
-      → Misread rest kind → ⊥
+    (misread : (rest : List ℕ) (kind : ProofKind) → reading.Misread rest kind → Read rest (Some kind))
+    (right : (row : X) (rest more : List ℕ) → reading.form.IsRow row → rest ≡ reading.form.line row ++ more → Read rest None) where
+  not_misread : (row : X) (rest more : List ℕ) (kind : ProofKind) → reading.form.IsRow row → rest ≡ reading.form.line row ++ more
+      → reading.Misread rest kind → ⊥
   not_misread row rest more kind is e h =
       let same = one_read rest None (Some kind) (right row rest more is e) (misread rest kind h) in absurd cc
 
   module _ (MayStand : List ℕ → Type 0) (rest : List ℕ) where
     abbrev Fault : ProofKind → Type 0
-    Fault kind = RowFault IsRow at line Misread MayStand rest kind
+    Fault kind = RowFault reading MayStand rest kind
 
     abbrev Early : ProofKind → Type 0
     Early kind = (kind ≡ kinds.Order)
-        × ((row : X) × IsRow row × (more : List ℕ) × (rest ≡ line row ++ more) × ¬ MayStand (at row))
+        × ((row : X) × reading.form.IsRow row × (more : List ℕ) × (rest ≡ reading.form.line row ++ more) × ¬ MayStand (reading.form.at row))
 
-    early_or_misread : (kind : ProofKind) → Fault kind → Early kind ⊎ Misread rest kind
+    early_or_misread : (kind : ProofKind) → Fault kind → Early kind ⊎ reading.Misread rest kind
     early_or_misread kinds.Order h = inl (refl, h)
     early_or_misread kind h = inr h
 
-    same_kind : (kind other : ProofKind) → Early kind ⊎ Misread rest kind → Early other ⊎ Misread rest other
+    same_kind : (kind other : ProofKind) → Early kind ⊎ reading.Misread rest kind → Early other ⊎ reading.Misread rest other
         → kind ≡ other
     same_kind kind other (inl f) (inl g) = f.0 ∙ sym g.0
     same_kind kind other (inl (e, (row, is, more, stands, early))) (inr g) =
@@ -77,14 +76,15 @@ module _ {X : Type 0} (IsRow : X → Type 0) (at line : X → List ℕ) (Misread
     one_kind : (kind other : ProofKind) → Fault kind → Fault other → kind ≡ other
     one_kind kind other f g = same_kind kind other (early_or_misread kind f) (early_or_misread other g)
 
-    sound : (row : X) (more : List ℕ) (kind : ProofKind) → IsRow row → MayStand (at row) → rest ≡ line row ++ more
-        → Early kind ⊎ Misread rest kind → ⊥
+    sound : (row : X) (more : List ℕ) (kind : ProofKind) → reading.form.IsRow row → MayStand (reading.form.at row) → rest ≡ reading.form.line row ++ more
+        → Early kind ⊎ reading.Misread rest kind → ⊥
     sound row more kind is may e (inl (same, (other, is_other, after, f, early))) =
-        early (subst (λ (r : X). MayStand (at r)) (one row other more after is is_other (sym e ∙ f)).0 may)
+        early (subst (λ (r : X). MayStand (reading.form.at r)) (one row other more after is is_other (sym e ∙ f)).0 may)
     sound row more kind is may e (inr h) = not_misread row rest more kind is e h
 
-  row_laws : RowLaws IsRow at line Misread
+  pub row_laws : RowLaws reading
   row_laws = record {
+    few = few;
     one = one;
     one_kind = one_kind;
     sound = λ MayStand row rest more kind is may e h. sound MayStand rest row more kind is may e
@@ -93,7 +93,7 @@ module _ {X : Type 0} (IsRow : X → Type 0) (at line : X → List ℕ) (Misread
 
 -- ---- the words of a row that was written
 
-same_places : (count bound labels : ℕ) (ms ns : List ℕ) → bound ≤ 2 ^ 32 → AreNumbers count bound ms
+pub same_places : (count bound labels : ℕ) (ms ns : List ℕ) → bound ≤ 2 ^ 32 → AreNumbers count bound ms
     → AreNumbers count bound ns
     → map (place_word labels) ms ≡ map (place_word labels) ns → ms ≡ ns
 same_places count bound labels ms ns small are_ms are_ns e =
@@ -103,19 +103,19 @@ module _ (board : PlainBoard) (is_board : IsBoard board) where
   few_labels : board.labels ≤ 2 ^ 16
   few_labels = omega (arith, is_board.labels.1)
 
-  few_all : places board ≤ 2 ^ 16
+  pub few_all : places board ≤ 2 ^ 16
   few_all = omega (arith, few_places board is_board)
 
-  position_texts : (at : List ℕ) → IsConfiguration board at
+  pub position_texts : (at : List ℕ) → IsConfiguration board at
       → ArePlaceTexts board.pebbles board.labels (places board) (map (place_word board.labels) at)
   position_texts at is =
       words_are_texts board.pebbles board.labels (places board) at few_all (is.each_pebble, is.each_place)
 
-  position_spelled : (at : List ℕ) → IsConfiguration board at
+  pub position_spelled : (at : List ℕ) → IsConfiguration board at
       → SpellConfiguration board (map (place_word board.labels) at)
   position_spelled at is = words_spell board.pebbles board.labels (places board) at (is.each_pebble, is.each_place)
 
-  same_position : (at other : List ℕ) → IsConfiguration board at → IsConfiguration board other
+  pub same_position : (at other : List ℕ) → IsConfiguration board at → IsConfiguration board other
       → map (place_word board.labels) at ≡ map (place_word board.labels) other → at ≡ other
   same_position at other is is_too e =
       same_places board.pebbles (places board) board.labels at other (omega (arith, few_all))
@@ -201,25 +201,37 @@ module _ (board : PlainBoard) (claim : Claim) (is_board : IsBoard board) where
       rw (at, turns, answers) refl in
       (same, s.1)
 
-  pub answer_laws : RowLaws (IsAnswerRow board claim) (λ row. row.at) (answer_line board) (AnswerMisread board claim)
+  -- the reading of a labeller's row
+  answer_once : (rest : List ℕ) (v w : Option ProofKind) → AnswerRead board claim rest v → AnswerRead board claim rest w
+      → v ≡ w
+  answer_once rest =
+      one_line _ answer_words_line rest _ _ (one_answer_words board.pebbles board.labels (places board))
+      (λ words more are. one_unless _ _ _ (one_unless _ _ _ (λ v w e f. e ∙ sym f)))
+
+  answer_right : (row : AnswerRow) (rest more : List ℕ) → IsAnswerRow board claim row
+      → rest ≡ answer_line board row ++ more → AnswerRead board claim rest None
+  answer_right row rest more is e = inr (
+    answer_words board row,
+    more,
+    (are_answer_words row is, e),
+    inr (
+      (
+        position_spelled board is_board row.at is.at,
+        words_spell board.pebbles board.labels board.labels row.answers is.answers,
+      ),
+      inr ((row.turns, is.turns, refl), refl),
+    ),
+  )
+
+  pub answer_laws : RowLaws (answers_read (read_by_configurations board) claim)
   answer_laws =
-      row_laws (IsAnswerRow board claim) (λ row. row.at) (answer_line board) (AnswerMisread board claim)
-      (AnswerRead board claim) one_answer
-      (λ rest. one_line _ answer_words_line rest _ _ (one_answer_words board.pebbles board.labels (places board))
-      (λ words more are. one_unless _ _ _ (one_unless _ _ _ (λ v w e f. e ∙ sym f))))
-      (answer_misread board claim)
-      (λ row rest more is e. inr (
-        answer_words board row,
-        more,
-        (are_answer_words row is, e),
-        inr (
-          (
-            position_spelled board is_board row.at is.at,
-            words_spell board.pebbles board.labels board.labels row.answers is.answers,
-          ),
-          inr ((row.turns, is.turns, refl), refl),
-        ),
-      ))
+      row_laws (answers_read (read_by_configurations board) claim) (omega arith) (AnswerRead board claim) one_answer answer_once
+      (answer_misread board claim) answer_right
+
+  pub class_answer_laws : RowLaws (answers_read (read_by_classes board) claim)
+  class_answer_laws =
+      row_laws (answers_read (read_by_classes board) claim) (omega arith) (AnswerRead board claim) one_answer answer_once
+      (answer_misread board claim) answer_right
 
 -- ---- an adversary's row
 
@@ -290,10 +302,9 @@ module _ (board : PlainBoard) (is_board : IsBoard board) where
       rw (at, left, ask) refl in
       (same, s.1)
 
-  pub request_laws : RowLaws (IsRequestRow board) (λ row. row.at) (request_line board) (RequestMisread board)
-  request_laws =
-      row_laws (IsRequestRow board) (λ row. row.at) (request_line board) (RequestMisread board)
-      (RequestRead board) one_request
+  pub request_laws : (claim : Claim) → RowLaws (requests_read (read_by_configurations board) claim)
+  request_laws claim =
+      row_laws (requests_read (read_by_configurations board) claim) (omega arith) (RequestRead board) one_request
       (λ rest. one_line _ request_words_line rest _ _ (one_request_words board.pebbles board.labels (places board))
       (λ words more are. one_unless _ _ _ (one_unless _ _ _ (one_unless _ _ _ (λ v w e f. e ∙ sym f)))))
       (request_misread board)

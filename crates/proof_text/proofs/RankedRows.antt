@@ -1,21 +1,19 @@
 -- Rows that name their configuration by its rank.
-use Rattle.std.proofs.Common.{◌≡◌, ℕ, zero, suc, ◌/◌, ◌%◌, ◌^◌, ◌<◌, ◌≤◌, List, get_or, map, slice_index, take, refl}
+use Rattle.std.proofs.Common.{◌≡◌, ℕ, zero, suc, ◌/◌, ◌%◌, ◌^◌, ◌<◌, ◌≤◌, List, get_or, slice_index, take, refl}
 use Rattle.std.proofs.Common.{inl, inr, sym, ap, ◌∙◌, subst, arith, div-lt_iff_lt-mul}
 use Rattle.std.specs.List.{All}
 use Rattle.std.proofs.lemmas.Bool.{cases_lt}
 use Rattle.std.proofs.Math.Nat.{one-le-pow, pow-succ'}
-use Rattle.std.proofs.lemmas.List.{length-map, get_or-map, get_or-take}
+use Rattle.std.proofs.lemmas.List.{get_or-take}
 use Rattle.std.proofs.lemmas.List.Elements.{All-head}
 use Rattle.board_text.specs.PlainBoard.{PlainBoard, IsBoard, IsConfiguration, places}
 use Rattle.board_text.proofs.Cited.{some_places}
 use Rattle.positions.specs.Ranks.{digits_of, rank_of, configuration_at, configurations}
 use Rattle.positions.specs.Table.{AnswerRow, RequestRow}
-use Rattle.positions.specs.declared.claim.Claim.{Claim}
 use Rattle.positions.proofs.Cited.{rank_of-configuration_at}
 use Rattle.proof_text.specs.declared.proof.LabellerRow.{LabellerRow}
 use Rattle.proof_text.specs.declared.proof.AdversaryRow.{AdversaryRow}
-use Rattle.proof_text.specs.Proof.{IsAnswerRow, IsRequestRow, AreAnswerRows, AreRequestRows, IsPadded, answer_row}
-use Rattle.proof_text.specs.Proof.{request_row, answer_rows, request_rows}
+use Rattle.proof_text.specs.Proof.{IsPadded, answer_row, request_row}
 
 -- digits below the base have a number below the base's power
 number_small : (base count number : ℕ) → 1 ≤ base → 1 ≤ count
@@ -30,27 +28,6 @@ pub rank_small : (board : PlainBoard) (rank : ℕ) → IsBoard board → IsConfi
     → rank < configurations board
 rank_small board rank is_board is =
     number_small (places board) board.pebbles rank (some_places board is_board) is_board.pebbles.0 is.each_place
-
--- each row whose shown row has a configuration of the board has a rank of the board
-ranks_below : {R X : Type 0} (board : PlainBoard) (IsRow : X → Type 0) (shown : R → X) (rank : R → ℕ)
-    → ((row : R) → IsRow (shown row) → IsConfiguration board (configuration_at board (rank row)))
-    → (rows : List R) → IsBoard board → All IsRow (map shown rows) → All (λ row. rank row < configurations board) rows
-ranks_below board IsRow shown rank is_rank rows is_board each = λ k d below.
-    let row = get_or rows k d in
-    let is = subst IsRow (get_or-map shown rows k d (shown d) below)
-    (each k (shown d) (omega (arith, length-map rows shown, below))) in
-    rank_small board (rank row) is_board (is_rank row is)
-
-pub answer_ranks : (board : PlainBoard) (claim : Claim) (rows : List LabellerRow) → IsBoard board
-    → AreAnswerRows board claim (answer_rows board rows) → All (λ row. row.at < configurations board) rows
-answer_ranks board claim rows is_board are =
-    ranks_below board (IsAnswerRow board claim) (answer_row board) (λ row. row.at)
-    (λ row is. is.at) rows is_board are.each
-
-pub request_ranks : (board : PlainBoard) (rows : List AdversaryRow) → IsBoard board
-    → AreRequestRows board (request_rows board rows) → All (λ row. row.at < configurations board) rows
-request_ranks board rows is_board are =
-    ranks_below board (IsRequestRow board) (request_row board) (λ row. row.at) (λ row is. is.at) rows is_board are.each
 
 same_rank : (board : PlainBoard) (a b : ℕ) → a < configurations board → b < configurations board
     → configuration_at board a ≡ configuration_at board b → a ≡ b

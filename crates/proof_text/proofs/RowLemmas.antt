@@ -1,7 +1,7 @@
 -- From the words of a row to the row, or to its fault.
-use Rattle.std.proofs.Common.{◌≡◌, ℕ, ◌+◌, ◌-◌, ◌<◌, ◌≤◌, ◌⊎◌, Bool, true, false, List, [], ◌∷◌, ◌++◌, Option, Some}
-use Rattle.std.proofs.Common.{None, length, take, drop, get_or, All, refl, sym, ap, subst, ◌∙◌, append_assoc}
-use Rattle.std.proofs.Common.{arith, inl, inr}
+use Rattle.std.proofs.Common.{◌≡◌, ℕ, ◌+◌, ◌-◌, ◌^◌, ◌<◌, ◌≤◌, ◌⊎◌, Bool, true, false, List, [], ◌∷◌, ◌++◌, Option, Some}
+use Rattle.std.proofs.Common.{None, length, take, drop, get_or, slice_index, All, refl, sym, ap, subst, ◌∙◌}
+use Rattle.std.proofs.Common.{append_assoc, arith, inl, inr}
 use Rattle.std.proofs.lemmas.List.{length-map, length-take, take_at, get_or-append_right, get_or-drop, get_or-replicate}
 use Rattle.std.proofs.lemmas.List.{get_or_past}
 use Rattle.std.proofs.lemmas.Bool.{cases_lt}
@@ -14,25 +14,28 @@ use Rattle.board_text.proofs.Cited.{words_spell}
 use Rattle.positions.specs.declared.claim.Claim.{Claim}
 use Rattle.positions.specs.declared.turns.Turns.{Turns}
 use Rattle.positions.specs.Table.{AnswerRow}
-use Rattle.positions.specs.Ranks.{rank_of, configuration_at, configurations}
-use Rattle.positions.specs.declared.space.TheConstants.{MAX_CONFIGURATIONS}
-use Rattle.positions.proofs.Cited.{configuration_at-rank_of, rank_of-configuration_at}
+use Rattle.positions.specs.Ranks.{rank_of, configuration_at}
+use Rattle.positions.proofs.Cited.{configuration_at-rank_of}
+use Rattle.proof_text.specs.declared.class_proof.LabellerClassRow.{LabellerClassRow}
+use Rattle.proof_text.specs.declared.fault.ProofKind.{ProofKind}
 use Rattle.proof_text.specs.declared.fault.ProofKind.TheVariants as kinds
-use Rattle.proof_text.specs.declared.proof.LabellerRow.{LabellerRow}
+use Rattle.proof_text.specs.declared.proof.TheConstants.{MOST_TURNS}
 use Rattle.proof_text.specs.declared.row_words.AnswerValues.{AnswerValues}
 use Rattle.proof_text.specs.declared.row_words.RequestValues.{RequestValues}
+use Rattle.proof_text.specs.ClassProof.{class_answer_row}
 use Rattle.proof_text.specs.Proof.{IsAnswerRow, IsRequestRow, answer_row}
 use Rattle.proof_text.specs.ProofText.{answer_line, request_line}
+use Rattle.proof_text.specs.RowFaults.{AnswerMisread, RequestMisread}
+use Rattle.proof_text.specs.RowForm.{RowForm}
+use Rattle.proof_text.specs.SectionFaults.{RowReading, RowFault}
 use Rattle.proof_text.specs.RowWords.{AnswerWords, RequestWords, AreAnswerWords, AreRequestWords, answer_words_line}
 use Rattle.proof_text.specs.RowWords.{request_words_line}
-use Rattle.proof_text.specs.ProofFaults.{AnswerRowFault, RequestRowFault}
 use Rattle.proof_text.specs.Inside.Reading.{AnswerSpelled, RequestSpelled, TurnsOf, NumberOf}
-use Rattle.proof_text.specs.Inside.RowForm.{IsFrom, LineFault, RowForm, NextRow, labeller_form, adversary_form}
-use Rattle.proof_text.specs.declared.proof.TheConstants.{MOST_TURNS}
+use Rattle.proof_text.specs.Inside.Rows.{IsFrom, NextRow, TakesAnswer, labeller_form, adversary_form}
 
 -- ---- places on the stack
 
-abbrev six_zeros : List ℕ
+abbrev pub six_zeros : List ℕ
 six_zeros = 0 ∷ 0 ∷ 0 ∷ 0 ∷ 0 ∷ 0 ∷ []
 
 zero_at : (place : ℕ) → get_or six_zeros place 0 ≡ 0
@@ -45,51 +48,66 @@ zero_at place =
 zero_behind : (n place : ℕ) → get_or (drop n six_zeros) place 0 ≡ 0
 zero_behind n place = get_or-drop n six_zeros place 0 ∙ zero_at (n + place)
 
+-- zeros after the places
+pub padded : (xs zeros : List ℕ) (count n : ℕ) → length xs ≡ count → zeros ≡ drop n six_zeros
+    → (pebble : ℕ) → count ≤ pebble → slice_index (xs ++ zeros) pebble ≡ 0
+padded xs zeros count n long is pebble beyond =
+    get_or-append_right xs zeros count pebble 0 long beyond
+    ∙ ap (λ (l : List ℕ). get_or l (pebble - count) 0) is ∙ zero_behind n (pebble - count)
+
 -- ---- places and rows that were read
 
 -- a test whose negation is true is false
-misread : (Told : Bool → Type 0) (test : Bool) → Told test → not test ≡ true → Told false
+pub misread : (Told : Bool → Type 0) (test : Bool) → Told test → not test ≡ true → Told false
 misread Told false told e = told
 misread Told true told e = absurd cc
 
-well_read : (Told : Bool → Type 0) (test : Bool) → Told test → not test ≡ false → Told true
+pub well_read : (Told : Bool → Type 0) (test : Bool) → Told test → not test ≡ false → Told true
 well_read Told true told e = told
 well_read Told false told e = absurd cc
 
 module _ (labels bound : ℕ) (texts : List (List ℕ)) (places : List ℕ)
     (spell : SpellPlaces labels bound texts true places) where
-  all_spelled : All (SpellsPlace labels bound) texts
+  pub all_spelled : All (SpellsPlace labels bound) texts
   all_spelled = rw spell.1 (words_spell (length places) labels bound places (refl, spell.0))
 
-  places_count : {count : ℕ} → length texts ≡ count → AreNumbers count bound places
+  pub places_count : {count : ℕ} → length texts ≡ count → AreNumbers count bound places
   places_count e = (sym (length-map places (place_word labels)) ∙ ap length (sym spell.1) ∙ e, spell.0)
 
 -- the text begins with the line of a row
-pub record RowRead {X : Type 0} (IsRow : X → Type 0) (line : X → List ℕ) (row : X) (old new : List ℕ) : Type 0 where
-  pub is : IsRow row
-  pub spelled : old ≡ line row ++ new
+pub record RowRead {X : Type 0} (form : RowForm X) (row : X) (old new : List ℕ) : Type 0 where
+  pub is : form.IsRow row
+  pub spelled : old ≡ form.line row ++ new
 
--- the rank of the first places is that of the configuration that was read into them
-rank_read : (board : PlainBoard) (at behind : List ℕ) (pebbles rank : ℕ) → IsConfiguration board at
-    → pebbles ≡ board.pebbles
-    → rank ≡ rank_of board (take pebbles (at ++ behind)) → configuration_at board rank ≡ at
-rank_read board at behind pebbles rank is e ranked =
-    rw (ranked, take_at at behind pebbles (is.each_pebble ∙ sym e)) (configuration_at-rank_of board at is)
+-- the fault of the words of a line is the line's
+pub words_fault : {R : Type 0} (reading : RowReading R) (MayStand : List ℕ → Type 0) (rest : List ℕ) (kind : ProofKind)
+    → (reading.Misread rest kinds.Order → ⊥)
+    → reading.Misread rest kind → RowFault reading MayStand rest kind
+words_fault reading MayStand rest kinds.Order none h = absurd (none h)
+words_fault reading MayStand rest kind none h = h
 
-module _ {R : Type 0} (board : PlainBoard) (form : RowForm R) (least : ℕ) {row : R} {old new : List ℕ}
-    (read : RowRead form.IsRow form.line row old new) (below : form.rank row < configurations board) where
-  pub row_order : form.rank row < least → LineFault board form (IsFrom board least) old kinds.Order
-  row_order early = (
-    row,
-    read.is,
-    new,
-    read.spelled,
-    λ from. omega (arith, rank_of-configuration_at board (form.rank row) below, early, from),
-  )
+-- ---- the order of rows
 
-  pub row_next : configurations board ≤ MAX_CONFIGURATIONS → least ≤ form.rank row
-      → NextRow board form least (Ok row) old new
-  row_next few above = (read.is, above, below, few, read.spelled)
+module _ {R : Type 0} (reading : RowReading R) (least : ℕ) {row : R} {old new : List ℕ} (read : RowRead reading.form row old new)
+    (held : List ℕ) (held_is : held ≡ reading.form.at row) where
+  order_fault : ¬ IsFrom reading.form least held → RowFault reading (IsFrom reading.form least) old kinds.Order
+  order_fault not = (row, read.is, new, read.spelled, subst (λ l. ¬ IsFrom reading.form least l) held_is not)
+
+  -- the places aren't in order
+  pub row_unordered : ¬ reading.form.AreInOrder held → RowFault reading (IsFrom reading.form least) old kinds.Order
+  row_unordered differs = order_fault (λ from. differs from.in_order)
+
+  module _ (number : ℕ) (is : number ≡ reading.form.number held) where
+    -- the places have too small a number
+    pub row_early : number < least → RowFault reading (IsFrom reading.form least) old kinds.Order
+    row_early early = order_fault (λ from. omega (arith, is, early, from.above))
+
+    pub row_next : reading.form.AreInOrder held → number < 2 ^ 63 → least ≤ number
+        → NextRow reading least (number + 1) (Ok row) old new
+    row_next in_order few above =
+        let from : IsFrom reading.form least held = record { in_order = in_order; above = omega (arith, is, above) } in
+        let same : number ≡ reading.form.number (reading.form.at row) = is ∙ ap reading.form.number held_is in
+        (read.is, subst (IsFrom reading.form least) held_is from, omega (arith, same), omega (arith, few), read.spelled)
 
 -- ---- a labeller's row
 
@@ -122,9 +140,9 @@ module _ {board : PlainBoard} {claim : Claim} {values : AnswerValues} {at answer
   abbrev AnswersAre : Bool → Type 0
   AnswersAre right = SpellPlaces board.labels board.labels taken.words.take right answers
 
-  pub answer_label : (MayStand : List ℕ → Type 0) → (not values.are_places ≡ true) ⊎ (not values.are_answers ≡ true)
-      → AnswerRowFault board claim MayStand old kinds.Label
-  answer_label MayStand wrong = (
+  pub answer_label : (not values.are_places ≡ true) ⊎ (not values.are_answers ≡ true)
+      → AnswerMisread board claim old kinds.Label
+  answer_label wrong = (
     taken.words,
     (taken.are, new, taken.stands),
     λ all. elim wrong [
@@ -140,9 +158,9 @@ module _ {board : PlainBoard} {claim : Claim} {values : AnswerValues} {at answer
     take_read : AnswersAre true
     take_read = well_read AnswersAre values.are_answers taken.spell.taken labelled
 
-    pub answer_number : (MayStand : List ℕ → Type 0) → values.turns ≡ None
-        → AnswerRowFault board claim MayStand old kinds.Number
-    answer_number MayStand none = (
+    pub answer_number : values.turns ≡ None
+        → AnswerMisread board claim old kinds.Number
+    answer_number none = (
       taken.words,
       (taken.are, new, taken.stands),
       all_spelled board.labels (places board) taken.words.at at at_read,
@@ -151,45 +169,64 @@ module _ {board : PlainBoard} {claim : Claim} {values : AnswerValues} {at answer
     )
 
     answer_read : (turns : Turns) → values.turns ≡ Some turns
-        → RowRead (IsAnswerRow board claim) (answer_line board)
-        (record { at = at; turns = turns; answers = answers }) old new
+        → IsAnswerRow board claim (record { at = at; turns = turns; answers = answers })
+        × (old ≡ answer_line board (record { at = at; turns = turns; answers = answers }) ++ new)
     answer_read turns some =
         let is_at = places_count board.labels (places board) taken.words.at at at_read taken.are.at.0 in
         let n : TurnsOf claim taken.words.turns (Some turns) =
-        subst (λ (t : Option Turns). TurnsOf claim taken.words.turns t) some taken.spell.turns in
-        record {
-          is = record {
+        subst (λ (t : Option Turns). TurnsOf claim taken.words.turns t) some taken.spell.turns in (
+          record {
             at = record { each_pebble = is_at.0; each_place = is_at.1 };
             turns = n.0;
             answers = places_count board.labels board.labels taken.words.take answers take_read taken.are.take.0;
-          };
-          spelled = rw (← at_read.1, ← n.1, ← take_read.1) taken.stands;
-        }
+          },
+          rw (← at_read.1, ← n.1, ← take_read.1) taken.stands,
+        )
 
-    -- the row read has the rank of its configuration, and zeros after its answers
-    pub ranked_answer : (turns : Turns) (pebbles rank : ℕ) → values.turns ≡ Some turns → pebbles ≡ board.pebbles
-        → rank ≡ rank_of board (take pebbles (at ++ drop pebbles six_zeros))
-        → RowRead (labeller_form board claim).IsRow (labeller_form board claim).line
-        (record { at = rank; turns = turns; take = answers ++ drop pebbles six_zeros }) old new
-    ranked_answer turns pebbles rank some e ranked =
+    -- the row read has the places and the answers, and zeros after them
+    pub padded_answer : (turns : Turns) (pebbles : ℕ) → values.turns ≡ Some turns → pebbles ≡ board.pebbles
+        → TakesAnswer board claim
+        (Ok (record { at = at ++ drop pebbles six_zeros; turns = turns; take = answers ++ drop pebbles six_zeros }))
+        old new
+    padded_answer turns pebbles some e =
         let read = answer_read turns some in
         let zeros = drop pebbles six_zeros in
-        let row : LabellerRow = record { at = rank; turns = turns; take = answers ++ zeros } in
-        let same : answer_row board row ≡ record { at = at; turns = turns; answers = answers } =
+        let row : LabellerClassRow = record { at = at ++ zeros; turns = turns; take = answers ++ zeros } in
+        let same : class_answer_row board row ≡ record { at = at; turns = turns; answers = answers } =
         rw (
-          rank_read board at zeros pebbles rank read.is.at e ranked,
-          take_at answers zeros board.pebbles read.is.answers.0,
-        ) refl in
-        record {
-          is = (
-            subst (λ (r : AnswerRow). IsAnswerRow board claim r) (sym same) read.is,
-            λ pebble beyond. get_or-append_right answers zeros board.pebbles pebble 0 read.is.answers.0 beyond
-                ∙ zero_behind pebbles (pebble - board.pebbles),
-          );
-          spelled = subst (λ (r : AnswerRow). old ≡ answer_line board r ++ new) (sym same) read.spelled;
-        }
+          take_at at zeros board.pebbles read.0.at.each_pebble,
+          take_at answers zeros board.pebbles read.0.answers.0,
+        ) refl in (
+          subst (λ (r : AnswerRow). IsAnswerRow board claim r) (sym same) read.0,
+          (
+            padded at zeros board.pebbles pebbles read.0.at.each_pebble refl,
+            padded answers zeros board.pebbles pebbles read.0.answers.0 refl,
+          ),
+          subst (λ (r : AnswerRow). old ≡ answer_line board r ++ new) (sym same) read.1,
+        )
+
+-- the row of the rank of the places that were read
+pub ranked_answer : (board : PlainBoard) (claim : Claim) (row : LabellerClassRow) (old new : List ℕ) (rank : ℕ)
+    → TakesAnswer board claim (Ok row) old new → rank ≡ rank_of board (take board.pebbles row.at)
+    → RowRead (labeller_form board claim) (record { at = rank; turns = row.turns; take = row.take }) old new
+ranked_answer board claim row old new rank (is, padded, spelled) ranked =
+    let same : configuration_at board rank ≡ take board.pebbles row.at =
+    ap (configuration_at board) ranked ∙ configuration_at-rank_of board (take board.pebbles row.at) is.at in
+    let seen : answer_row board (record { at = rank; turns = row.turns; take = row.take })
+    ≡ class_answer_row board row = rw same refl in
+    record {
+      is = (subst (λ (r : AnswerRow). IsAnswerRow board claim r) (sym seen) is, padded.1);
+      spelled = subst (λ (r : AnswerRow). old ≡ answer_line board r ++ new) (sym seen) spelled;
+    }
 
 -- ---- an adversary's row
+
+-- the rank of the first places is that of the configuration that was read into them
+rank_read : (board : PlainBoard) (at behind : List ℕ) (pebbles rank : ℕ) → IsConfiguration board at
+    → pebbles ≡ board.pebbles
+    → rank ≡ rank_of board (take pebbles (at ++ behind)) → configuration_at board rank ≡ at
+rank_read board at behind pebbles rank is e ranked =
+    rw (ranked, take_at at behind pebbles (is.each_pebble ∙ sym e)) (configuration_at-rank_of board at is)
 
 pub record RequestTaken (board : PlainBoard) (values : RequestValues) (at old new : List ℕ) : Type 0 where
   words : RequestWords
@@ -211,18 +248,18 @@ module _ {board : PlainBoard} {values : RequestValues} {at old new : List ℕ}
   abbrev StandsAt : Bool → Type 0
   StandsAt right = SpellPlaces board.labels (places board) taken.words.at right at
 
-  pub request_label : (MayStand : List ℕ → Type 0) → not values.are_places ≡ true
-      → RequestRowFault board MayStand old kinds.Label
-  request_label MayStand wrong =
+  pub request_label : not values.are_places ≡ true
+      → RequestMisread board old kinds.Label
+  request_label wrong =
       (taken.words, (taken.are, new, taken.stands), misread StandsAt values.are_places taken.spell.places wrong)
 
   module _ (placed : not values.are_places ≡ false) where
     place_read : StandsAt true
     place_read = well_read StandsAt values.are_places taken.spell.places placed
 
-    pub request_pebble : (MayStand : List ℕ → Type 0) → values.ask ≡ None
-        → RequestRowFault board MayStand old kinds.Pebble
-    request_pebble MayStand none = (
+    pub request_pebble : values.ask ≡ None
+        → RequestMisread board old kinds.Pebble
+    request_pebble none = (
       taken.words,
       (taken.are, new, taken.stands),
       all_spelled board.labels (places board) taken.words.at at place_read,
@@ -233,9 +270,9 @@ module _ {board : PlainBoard} {values : RequestValues} {at old new : List ℕ}
       pebble_read : NumberOf board.pebbles taken.words.ask (Some ask)
       pebble_read = subst (λ (n : Option ℕ). NumberOf board.pebbles taken.words.ask n) some_ask taken.spell.pebble
 
-      pub request_number : (MayStand : List ℕ → Type 0) → values.left ≡ None
-          → RequestRowFault board MayStand old kinds.Number
-      request_number MayStand none = (
+      pub request_number : values.left ≡ None
+          → RequestMisread board old kinds.Number
+      request_number none = (
         taken.words,
         (taken.are, new, taken.stands),
         all_spelled board.labels (places board) taken.words.at at place_read,
@@ -244,29 +281,27 @@ module _ {board : PlainBoard} {values : RequestValues} {at old new : List ℕ}
       )
 
       request_read : (left : ℕ) → values.left ≡ Some left
-          → RowRead (IsRequestRow board) (request_line board) (record { at = at; left = left; request = ask }) old new
+          → IsRequestRow board (record { at = at; left = left; request = ask })
+          × (old ≡ request_line board (record { at = at; left = left; request = ask }) ++ new)
       request_read left some =
           let is_at = places_count board.labels (places board) taken.words.at at place_read taken.are.at.0 in
           let n : NumberOf (MOST_TURNS + 1) taken.words.left (Some left) =
-          subst (λ (m : Option ℕ). NumberOf (MOST_TURNS + 1) taken.words.left m) some taken.spell.number in
-          record {
-            is = record {
+          subst (λ (m : Option ℕ). NumberOf (MOST_TURNS + 1) taken.words.left m) some taken.spell.number in (
+            record {
               at = record { each_pebble = is_at.0; each_place = is_at.1 };
               left = omega (arith, n.0);
               request = pebble_read.0;
-            };
-            spelled = rw (← place_read.1, ← n.1, ← pebble_read.1) taken.stands;
-          }
+            },
+            rw (← place_read.1, ← n.1, ← pebble_read.1) taken.stands,
+          )
 
       pub ranked_request : (claim : Claim) (left pebbles rank : ℕ) → values.left ≡ Some left → pebbles ≡ board.pebbles
           → rank ≡ rank_of board (take pebbles (at ++ drop pebbles six_zeros))
-          → RowRead (adversary_form board claim).IsRow (adversary_form board claim).line
-          (record { at = rank; left = left; ask = ask })
-          old new
+          → RowRead (adversary_form board claim) (record { at = rank; left = left; ask = ask }) old new
       ranked_request claim left pebbles rank some e ranked =
           let read = request_read left some in
-          let same = rank_read board at (drop pebbles six_zeros) pebbles rank read.is.at e ranked in
-          record { is = rw same read.is; spelled = rw same read.spelled }
+          let same = rank_read board at (drop pebbles six_zeros) pebbles rank read.0.at e ranked in
+          record { is = (rw same read.0, tt); spelled = rw same read.1 }
 
 -- ---- a line that is written
 

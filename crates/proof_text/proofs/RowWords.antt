@@ -10,6 +10,7 @@ use Rattle.board_text.specs.Numerals.{spaced_texts}
 use Rattle.board_text.specs.PlaceForms.{ArePlaceTexts}
 use Rattle.board_text.proofs.Cited.{digits_split, texts_unique}
 use Rattle.proof_text.specs.RowWords.{AnswerWords, RequestWords, IsTurnsText, answer_words_line, request_words_line}
+use Rattle.proof_text.specs.RowWords.{ClassRequestWords, class_request_words_line}
 use Rattle.proof_text.specs.Inside.Reading.{position_text}
 
 -- a space and a line feed are no digits
@@ -97,3 +98,17 @@ pub request_taken : (at : List (List ℕ)) (left ask old a b c d new : List ℕ)
     → old ≡ request_words_line (record { at = at; left = left; ask = ask }) ++ new
 request_taken at left ask old a b c d new p q r s t =
     rw (p, q, r, s, t) (sym (request_parts (record { at = at; left = left; ask = ask }) new))
+
+-- ---- an adversary's row by classes
+
+pub class_request_parts : (words : ClassRequestWords) (more : List ℕ)
+    → class_request_words_line words ++ more
+    ≡ position_text words.at (words.left ++ (codes " ask" ++ (spaced_texts words.ask ++ 10 ∷ more)))
+class_request_parts words more =
+    regroup (codes "at") (spaced_texts words.at) (codes " for ") words.left (codes " ask") (spaced_texts words.ask) more
+
+pub class_request_taken : (at ask : List (List ℕ)) (left old a b c d new : List ℕ) → old ≡ position_text at a → a ≡ left ++ b
+    → b ≡ codes " ask" ++ c → c ≡ spaced_texts ask ++ d → d ≡ (10 ∷ []) ++ new
+    → old ≡ class_request_words_line (record { at = at; left = left; ask = ask }) ++ new
+class_request_taken at ask left old a b c d new p q r s t =
+    rw (p, q, r, s, t) (sym (class_request_parts (record { at = at; left = left; ask = ask }) new))

@@ -1,50 +1,18 @@
 -- The rows of a section, one after the other.
-use Rattle.std.proofs.Common.{◌≡◌, true, true≢false, ℕ, ◌+◌, ◌-◌, ◌<◌, ◌≤◌, List, [], ◌∷◌, ◌++◌, length, map, get_or}
+use Rattle.std.proofs.Common.{◌≡◌, true, true≢false, ℕ, ◌+◌, ◌-◌, ◌<◌, ◌≤◌, List, [], ◌∷◌, ◌++◌, length, get_or}
 use Rattle.std.proofs.Common.{take, AllPairs, refl, sym, ap, subst, ◌∙◌, arith, inl, inr, append_assoc}
 use Rattle.std.specs.List.{flat_map}
 use Rattle.std.specs.Prelude.{Ok}
 use Rattle.std.proofs.lemmas.Bool.{cases_lt}
-use Rattle.std.proofs.lemmas.List.{take_all, take_more, flat_map_more, length_push, get_or_at, get_or-map, map-append}
-use Rattle.std.proofs.lemmas.List.{length-map}
-use Rattle.std.proofs.lemmas.List.Elements.{All-push, All-nil, All-map}
-use Rattle.std.proofs.lemmas.List.Folds.{flat_map-map}
+use Rattle.std.proofs.lemmas.List.{take_all, take_more, flat_map_more, length_push, get_or_at}
+use Rattle.std.proofs.lemmas.List.Elements.{All-push, All-nil}
 use Rattle.std.proofs.lemmas.List.Quantifiers.{all_pairs_push}
 use Rattle.board_text.specs.LineForms.{number_line}
-use Rattle.board_text.specs.PlainBoard.{PlainBoard}
-use Rattle.positions.specs.Ranks.{rank_of}
-use Rattle.positions.specs.declared.space.TheConstants.{MAX_CONFIGURATIONS}
-use Rattle.positions.proofs.Cited.{rank_of-configuration_at}
 use Rattle.proof_text.specs.declared.fault.ProofKind.{ProofKind}
 use Rattle.proof_text.specs.declared.fault.ProofKind.TheVariants as kinds
-use Rattle.proof_text.specs.Proof.{AreRows, IsBefore}
-use Rattle.proof_text.specs.ProofFaults.{MayFollow, RowsCome, RowFault, InSection}
-use Rattle.proof_text.specs.Inside.RowForm.{RowForm, IsFrom, LineFault, NextRow, PartRead, SectionFault, at_of}
-
--- a configuration that may follow the last row comes after all rows
-follows_all : {X : Type 0} (board : PlainBoard) (at : X → List ℕ) (rows : List X) (configuration : List ℕ)
-    → AllPairs (λ first second. IsBefore board (at first) (at second)) rows → MayFollow board at rows configuration
-    → (k : ℕ) (d : X) → k < length rows → IsBefore board (at (get_or rows k d)) configuration
-follows_all {X} board at rows configuration ascending follows k d lt =
-    let n = length rows - 1 in
-    let ends : rows ≡ take n rows ++ get_or rows n d ∷ [] =
-    sym (take_all (n + 1) rows (omega arith)) ∙ take_more rows n d (omega arith) in
-    let last : IsBefore board (at (get_or rows n d)) configuration = follows (take n rows) (get_or rows n d) ends in
-    elim (cases_lt k n) [
-      | inl before ↦ let earlier : IsBefore board (at (get_or rows k d)) (at (get_or rows n d)) =
-          ascending k n d before (omega arith) in omega arith
-      | inr last_one ↦ let same : n ≡ k = omega arith in
-          subst (λ (i : ℕ). IsBefore board (at (get_or rows i d)) configuration) same last
-    ]
-
-pub rows_push : {X : Type 0} (board : PlainBoard) (IsRow : X → Type 0) (at : X → List ℕ) (rows : List X) (row : X)
-    → AreRows board IsRow at rows → IsRow row → MayFollow board at rows (at row) → length rows < MAX_CONFIGURATIONS
-    → AreRows board IsRow at (rows ++ row ∷ [])
-rows_push board IsRow at rows row are is follows few = record {
-  few = omega (arith, length_push rows row, few);
-  each = All-push IsRow rows row are.each is;
-  ascending = all_pairs_push (λ first second. IsBefore board (at first) (at second)) rows row are.ascending
-      (follows_all board at rows (at row) are.ascending follows);
-}
+use Rattle.proof_text.specs.RowForm.{AreRows}
+use Rattle.proof_text.specs.SectionFaults.{RowReading, MayFollow, RowsCome, RowFault, InSection}
+use Rattle.proof_text.specs.Inside.Rows.{AreKindsOfRows, IsFrom, NextRow, PartRead}
 
 last_is : {X : Type 0} (rows before : List X) (row last : X) → rows ++ row ∷ [] ≡ before ++ last ∷ [] → row ≡ last
 last_is {X} rows before row last e =
@@ -53,159 +21,128 @@ last_is {X} rows before row last e =
     sym (get_or_at rows row [] row (length rows) refl) ∙ ap (λ (l : List X). get_or l (length rows) row) e
     ∙ get_or_at before last [] row (length rows) same
 
--- a configuration may follow the rows so far exactly if its rank is the least one or more
-abbrev pub FollowsFrom : {X : Type 0} → PlainBoard → (X → List ℕ) → List X → ℕ → Type 0
-FollowsFrom board at rows least =
-    (configuration : List ℕ) → (MayFollow board at rows configuration → least ≤ rank_of board configuration)
-    × (least ≤ rank_of board configuration → MayFollow board at rows configuration)
+module _ {R : Type 0} (reading : RowReading R) where
+  -- the places of one row come before these places
+  abbrev Before : List ℕ → List ℕ → Type 0
+  Before first second = reading.form.number first < reading.form.number second
 
-pub from_push : {X : Type 0} (board : PlainBoard) (at : X → List ℕ) (rows : List X) (row : X) (rank : ℕ)
-    → rank_of board (at row) ≡ rank → FollowsFrom board at (rows ++ row ∷ []) (rank + 1)
-from_push {X} board at rows row rank e configuration = (
-  λ follows. let after : rank_of board (at row) < rank_of board configuration = follows rows row refl in
-      omega (arith, e, after),
-  λ least before last same. subst (λ (x : X). IsBefore board (at x) configuration) (last_is rows before row last same)
-      (omega (arith, e, least)),
-)
+  -- places that may follow the last row come after those of all rows
+  follows_all : (rows : List R) (places : List ℕ)
+      → AllPairs (λ first second. Before (reading.form.at first) (reading.form.at second)) rows → MayFollow reading.form rows places
+      → (k : ℕ) (d : R) → k < length rows → Before (reading.form.at (get_or rows k d)) places
+  follows_all rows places ascending follows k d lt =
+      let n = length rows - 1 in
+      let ends : rows ≡ take n rows ++ get_or rows n d ∷ [] =
+      sym (take_all (n + 1) rows (omega arith)) ∙ take_more rows n d (omega arith) in
+      let last : Before (reading.form.at (get_or rows n d)) places = follows.after (take n rows) (get_or rows n d) ends in
+      elim (cases_lt k n) [
+        | inl before ↦ let earlier : Before (reading.form.at (get_or rows k d)) (reading.form.at (get_or rows n d)) =
+            ascending k n d before (omega arith) in omega (arith, earlier, last)
+        | inr last_one ↦ let same : n ≡ k = omega arith in
+            subst (λ (i : ℕ). Before (reading.form.at (get_or rows i d)) places) same last
+      ]
 
--- one more row
-pub come_push : {X : Type 0} (board : PlainBoard) (IsRow : X → Type 0) (at : X → List ℕ) (section_line : ℕ → List ℕ)
-    (row_line : X → List ℕ) (text : List ℕ) (count least : ℕ) (rows : List X) (row : X) (rest new : List ℕ)
-    → RowsCome board IsRow at section_line row_line text count rows rest → length rows < count
-    → FollowsFrom board at rows least → IsRow row → least ≤ rank_of board (at row) → rest ≡ row_line row ++ new
-    → RowsCome board IsRow at section_line row_line text count (rows ++ row ∷ []) new
-come_push board IsRow at section_line row_line text count least rows row rest new come short from is above e = record {
-  few = come.few;
-  come = omega (arith, length_push rows row, short);
-  are_rows =
-      rows_push board IsRow at rows row come.are_rows is ((from (at row)).1 above) (omega (arith, short, come.few));
-  spelled = come.spelled ∙ ap (λ (t : List ℕ). section_line count ++ t)
-      (ap (λ (t : List ℕ). flat_map row_line rows ++ t) e
-      ∙ sym (append_assoc (flat_map row_line rows) (row_line row) new)
-      ∙ ap (λ (t : List ℕ). t ++ new) (flat_map_more row_line [] rows row));
-}
+  rows_push : (rows : List R) (row : R) → AreRows reading.form rows → reading.form.IsRow row → MayFollow reading.form rows (reading.form.at row)
+      → length rows < reading.form.most → AreRows reading.form (rows ++ row ∷ [])
+  rows_push rows row are is follows few = record {
+    few = omega (arith, length_push rows row, few);
+    each = All-push reading.form.IsRow rows row are.each is;
+    in_order = All-push (λ (r : R). reading.form.AreInOrder (reading.form.at r)) rows row are.in_order follows.in_order;
+    ascending = all_pairs_push (λ first second. Before (reading.form.at first) (reading.form.at second)) rows row are.ascending
+        (follows_all rows (reading.form.at row) are.ascending follows);
+  }
 
-pub come_none : {X : Type 0} (board : PlainBoard) (IsRow : X → Type 0) (at : X → List ℕ) (section_line : ℕ → List ℕ)
-    (row_line : X → List ℕ) (text : List ℕ) (count : ℕ) (rest : List ℕ)
-    → count ≤ MAX_CONFIGURATIONS → text ≡ section_line count ++ rest
-    → RowsCome board IsRow at section_line row_line text count [] rest
-come_none board IsRow at section_line row_line text count rest few e = record {
-  few = few;
-  come = omega arith;
-  are_rows = record { few = omega arith; each = All-nil IsRow; ascending = λ i j d less below. absurd (omega arith) };
-  spelled = e;
-}
+  -- places may follow the rows so far exactly if they are in order and their number is the least one or more
+  abbrev pub FollowsFrom : List R → ℕ → Type 0
+  FollowsFrom rows least = (places : List ℕ) → (MayFollow reading.form rows places → IsFrom reading.form least places)
+      × (IsFrom reading.form least places → MayFollow reading.form rows places)
 
--- ---- rows that name their configurations by ranks
+  pub from_none : FollowsFrom [] 0
+  from_none places = (
+    λ follows. record { in_order = follows.in_order; above = omega arith },
+    λ from. record {
+      in_order = from.in_order;
+      after = λ before last e. absurd (omega (arith, ap length e, length_push before last));
+    },
+  )
 
-module _ {R : Type 0} (board : PlainBoard) (form : RowForm R) where
-  abbrev pub Come : List ℕ → ℕ → List R → List ℕ → Type 0
-  Come text count rows rest =
-      RowsCome board form.IsRow (at_of board form) (number_line form.word) form.line text count rows rest
+  from_push : (rows : List R) (row : R) (least : ℕ) → least ≡ reading.form.number (reading.form.at row) + 1
+      → FollowsFrom (rows ++ row ∷ []) least
+  from_push rows row least e places = (
+    λ follows. record {
+      in_order = follows.in_order;
+      above = let after : reading.form.number (reading.form.at row) < reading.form.number places = follows.after rows row refl in
+          omega (arith, e, after);
+    },
+    λ from. record {
+      in_order = from.in_order;
+      after = λ before last same. subst (λ (r : R). Before (reading.form.at r) places) (last_is rows before row last same)
+          (omega (arith, e, from.above));
+    },
+  )
+
+  pub come_none : (text : List ℕ) (count : ℕ) (rest : List ℕ) → count ≤ reading.form.most
+      → text ≡ number_line reading.form.word count ++ rest → RowsCome reading.form text count [] rest
+  come_none text count rest few e = record {
+    few = few;
+    come = omega arith;
+    are_rows = record {
+      few = omega arith;
+      each = All-nil reading.form.IsRow;
+      in_order = All-nil (λ (r : R). reading.form.AreInOrder (reading.form.at r));
+      ascending = λ i j d less below. absurd (omega arith);
+    };
+    spelled = e;
+  }
 
   -- all rows
-  pub part_read : (text : List ℕ) (count : ℕ) (rows : List R) (rest : List ℕ) → form.asked ≡ true → count ≡ length rows
-      → Come text count rows rest → PartRead board form rows text rest
+  pub part_read : (text : List ℕ) (count : ℕ) (rows : List R) (rest : List ℕ) → reading.form.asked ≡ true → count ≡ length rows
+      → RowsCome reading.form text count rows rest → PartRead reading.form rows text rest
   part_read text count rows rest asked all come = record {
     are_rows = come.are_rows;
     none = λ not. absurd (true≢false (sym asked ∙ not));
     spelled = rw (asked, ← all) (come.spelled
-        ∙ sym (append_assoc (number_line form.word count) (flat_map form.line rows) rest));
+        ∙ sym (append_assoc (number_line reading.form.word count) (flat_map reading.form.line rows) rest));
   }
 
   -- one more row
-  pub row_push : (text : List ℕ) (count least : ℕ) (rows new_rows : List R) (row : R) (rest new : List ℕ)
-      → new_rows ≡ rows ++ row ∷ []
-      → Come text count rows rest → length rows < count → FollowsFrom board (at_of board form) rows least
-      → NextRow board form least (Ok row) rest new
-      → Come text count new_rows new × FollowsFrom board (at_of board form) new_rows (form.rank row + 1)
-  row_push text count least rows new_rows row rest new e come short from next =
-      let rank : rank_of board (at_of board form row) ≡ form.rank row =
-      rank_of-configuration_at board (form.rank row) next.2 in
-      let above : least ≤ rank_of board (at_of board form row) = omega (arith, rank, next.1) in
+  pub row_push : (text : List ℕ) (count least next : ℕ) (rows new_rows : List R) (row : R) (rest new : List ℕ)
+      → new_rows ≡ rows ++ row ∷ [] → RowsCome reading.form text count rows rest → length rows < count
+      → FollowsFrom rows least → NextRow reading least next (Ok row) rest new
+      → RowsCome reading.form text count new_rows new × FollowsFrom new_rows next
+  row_push text count least next rows new_rows row rest new e come short from (is, may, after, few, spelled) =
       rw e (
-        come_push board form.IsRow (at_of board form)
-            (number_line form.word) form.line text count least rows row rest new come short from next.0 above next.4,
-        from_push board (at_of board form) rows row (form.rank row) rank,
+        record {
+          few = come.few;
+          come = omega (arith, length_push rows row, short);
+          are_rows = rows_push rows row come.are_rows is ((from (reading.form.at row)).1 may) (omega (arith, short, come.few));
+          spelled = come.spelled ∙ ap (λ (t : List ℕ). number_line reading.form.word count ++ t)
+              (ap (λ (t : List ℕ). flat_map reading.form.line rows ++ t) spelled
+              ∙ sym (append_assoc (flat_map reading.form.line rows) (reading.form.line row) new)
+              ∙ ap (λ (t : List ℕ). t ++ new) (flat_map_more reading.form.line [] rows row));
+        },
+        from_push rows row next after,
       )
 
   -- the fault of a row's line is one of its section
-  pub line_fault_in : (text : List ℕ) (number line count least : ℕ) (rows : List R) (rest : List ℕ) (kind : ProofKind)
-      → Come text count rows rest → length rows < count → line ≡ number + 1 + length rows
-      → FollowsFrom board (at_of board form) rows least
-      → LineFault board form (IsFrom board least) rest kind → SectionFault board form text number line kind
-  line_fault_in text number line count least rows rest kinds.Section come short e from h =
-      absurd (form.no_section rest h)
-  line_fault_in text number line count least rows rest kinds.Memory come short e from h = absurd (form.no_memory rest h)
-  line_fault_in text number line count least rows rest kinds.Order come short e from (row, is, more, spelled, early) = (
-    count,
-    rows,
-    rest,
-    come,
-    short,
-    e,
-    (row, is, more, spelled, λ follows. early ((from (at_of board form row)).0 follows)),
-  )
-  line_fault_in text number line count least rows rest kind come short e from h = (count, rows, rest, come, short, e, h)
-
--- ---- rows that show rows
-
-some_of : {R : Type 0} (rows : List R) → 0 < length rows → R
-some_of [] some = absurd (omega arith)
-some_of (row ∷ rows) some = row
-
-module _ {R X : Type 0} (board : PlainBoard) (f : R → X) (IsRow : R → Type 0) (IsSeen : X → Type 0)
-    (at row_line : X → List ℕ) (seen : (row : R) → IsRow row → IsSeen (f row)) where
-  pub rows_seen : (rows : List R) → AreRows board IsRow (λ row. at (f row)) rows → AreRows board IsSeen at (map f rows)
-  rows_seen rows are = record {
-    few = omega (arith, are.few, length-map rows f);
-    each = All-map IsSeen f rows (λ k d lt. seen (get_or rows k d) (are.each k d lt));
-    ascending = λ i j d less below.
-        let inside : j < length rows = omega (arith, below, length-map rows f) in
-        let e = some_of rows (omega (arith, inside)) in
-        rw (get_or-map f rows i e d (omega (arith, less, inside)), get_or-map f rows j e d inside)
-        (are.ascending i j e less inside);
-  }
-
-  pub come_seen : (section_line : ℕ → List ℕ) (text : List ℕ) (count : ℕ) (rows : List R) (rest : List ℕ)
-      → RowsCome board IsRow (λ row. at (f row)) section_line (λ row. row_line (f row)) text count rows rest
-      → RowsCome board IsSeen at section_line row_line text count (map f rows) rest
-  come_seen section_line text count rows rest come = record {
-    few = come.few;
-    come = omega (arith, come.come, length-map rows f);
-    are_rows = rows_seen rows come.are_rows;
-    spelled = come.spelled ∙ ap (λ (lines : List ℕ). section_line count ++ (lines ++ rest))
-        (sym (flat_map-map row_line f rows));
-  }
-
-  follows_seen : (rows : List R) (configuration : List ℕ) → MayFollow board at (map f rows) configuration
-      → MayFollow board (λ row. at (f row)) rows configuration
-  follows_seen rows configuration follows before last e =
-      follows (map f before) (f last) (ap (map f) e ∙ map-append f before (last ∷ []))
-
-  row_fault_seen : (Misread : List ℕ → ProofKind → Type 0) (rows : List R) (rest : List ℕ) (kind : ProofKind)
-      → RowFault IsRow (λ row. at (f row)) (λ row. row_line (f row)) Misread
-      (MayFollow board (λ row. at (f row)) rows) rest kind
-      → RowFault IsSeen at row_line Misread (MayFollow board at (map f rows)) rest kind
-  row_fault_seen Misread rows rest kinds.Order (row, is, more, spelled, early) =
-      (f row, seen row is, more, spelled, λ follows. early (follows_seen rows (at (f row)) follows))
-  row_fault_seen Misread rows rest kind h = h
-
-  -- the fault of a section of rows is the fault of the rows that they show
-  pub fault_seen : (section_line : ℕ → List ℕ) (Misread : List ℕ → ProofKind → Type 0) (text : List ℕ) (number line : ℕ)
-      (kind : ProofKind)
-      → InSection board IsRow (λ row. at (f row)) section_line (λ row. row_line (f row))
-      (RowFault IsRow (λ row. at (f row)) (λ row. row_line (f row)) Misread) text number line kind
-      → InSection board IsSeen at section_line row_line (RowFault IsSeen at row_line Misread) text number line kind
-  fault_seen section_line Misread text number line kinds.Section h = h
-  fault_seen section_line Misread text number line kinds.Memory h =
-      (h.0, (h.1.0, map f h.1.1, h.1.2, come_seen section_line text h.1.0 h.1.1 h.1.2 h.1.3))
-  fault_seen section_line Misread text number line kind h = (
-    h.0,
-    map f h.1,
-    h.2,
-    come_seen section_line text h.0 h.1 h.2 h.3,
-    omega (arith, h.4, length-map h.1 f),
-    omega (arith, h.5, length-map h.1 f),
-    row_fault_seen Misread h.1 h.2 kind h.6,
-  )
+  pub line_fault_in : AreKindsOfRows reading
+      → (text : List ℕ) (number line count least : ℕ) (rows : List R) (rest : List ℕ) (kind : ProofKind)
+      → RowsCome reading.form text count rows rest → length rows < count → line ≡ number + 1 + length rows
+      → FollowsFrom rows least
+      → RowFault reading (IsFrom reading.form least) rest kind → InSection reading text number line kind
+  line_fault_in are text number line count least rows rest kinds.Section come short e from h =
+      absurd (are.no_section rest h)
+  line_fault_in are text number line count least rows rest kinds.Memory come short e from h =
+      absurd (are.no_memory rest h)
+  line_fault_in are text number line count least rows rest kinds.Order come short e from (row, is, more, spelled, early)
+      = (
+        count,
+        rows,
+        rest,
+        come,
+        short,
+        e,
+        (row, is, more, spelled, λ follows. early ((from (reading.form.at row)).0 follows)),
+      )
+  line_fault_in are text number line count least rows rest kind come short e from h =
+      (count, rows, rest, come, short, e, h)

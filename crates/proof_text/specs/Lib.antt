@@ -1,6 +1,13 @@
+pub mod Arranged
 pub mod Proof
+pub mod ClassProof
 pub mod ProofText
 pub mod RowWords
+pub mod RowFaults
+pub mod RowForm
+pub mod SectionFaults
+pub mod Versions
+pub mod Documents
 pub mod ProofFaults
 pub mod Rules
 pub mod Inside

@@ -1,6 +1,6 @@
--- A strategy document as plain data, and the rules of its format.
-use Rattle.std.specs.Prelude.{◌≡◌, ℕ, ◌<◌, ◌≤◌, Bool, true, false, List, [], length, map, take}
-use Rattle.std.specs.Prelude.{slice_index, All, AllPairs}
+-- A strategy document as plain data, and what its claim and its rows have to be.
+use Rattle.std.specs.Prelude.{◌≡◌, ℕ, ◌<◌, ◌≤◌, Bool, true, false, List, map, take}
+use Rattle.std.specs.Prelude.{slice_index}
 use Rattle.board_text.specs.Ranges.{InRange, AreNumbers}
 use Rattle.board_text.specs.PlainBoard.{PlainBoard, IsConfiguration}
 use Rattle.positions.specs.declared.claim.Claim.{Claim}
@@ -9,17 +9,20 @@ use Rattle.positions.specs.declared.turns.Turns.{Turns}
 use Rattle.positions.specs.declared.turns.Turns.TheVariants.{Count, Always}
 use Rattle.positions.specs.Table.{AnswerRow, RequestRow}
 use Rattle.positions.specs.Ranks.{rank_of, configuration_at}
-use Rattle.positions.specs.declared.space.TheConstants.{MAX_CONFIGURATIONS}
 use Rattle.proof_text.specs.declared.proof.LabellerRow.{LabellerRow}
 use Rattle.proof_text.specs.declared.proof.AdversaryRow.{AdversaryRow}
 use Rattle.proof_text.specs.declared.proof.Proof.{Proof}
 use Rattle.proof_text.specs.declared.proof.TheConstants.{MOST_TURNS}
 
 -- a claim, and the rows of both sides
-pub record PlainProof : Type 0 where
+pub record Sections (X Y : Type 0) : Type 0 where
   pub claim : Claim
-  pub labeller : List AnswerRow
-  pub adversary : List RequestRow
+  pub labeller : List X
+  pub adversary : List Y
+
+-- a document as plain data
+abbrev pub PlainProof : Type 0
+PlainProof = Sections AnswerRow RequestRow
 
 -- the number of the claim is in range
 abbrev pub IsClaim : Claim → Type 0
@@ -66,31 +69,6 @@ pub record IsRequestRow (board : PlainBoard) (row : RequestRow) : Type 0 where
 abbrev pub IsBefore : PlainBoard → List ℕ → List ℕ → Type 0
 IsBefore board first second = rank_of board first < rank_of board second
 
--- the rows of a section: not too many, each as the format has it, and their configurations in
--- ascending order of rank
-pub record AreRows {X : Type 0} (board : PlainBoard) (IsRow : X → Type 0) (at : X → List ℕ)
-    (rows : List X) : Type 0 where
-  pub few : length rows ≤ MAX_CONFIGURATIONS
-  pub each : All IsRow rows
-  pub ascending : AllPairs (λ first second. IsBefore board (at first) (at second)) rows
-
--- a labeller's section in a document with the claim
-abbrev pub AreAnswerRows : PlainBoard → Claim → List AnswerRow → Type 0
-AreAnswerRows board claim rows = AreRows board (IsAnswerRow board claim) (λ row. row.at) rows
-
--- an adversary's section
-abbrev pub AreRequestRows : PlainBoard → List RequestRow → Type 0
-AreRequestRows board rows = AreRows board (IsRequestRow board) (λ row. row.at) rows
-
--- a document for the board: its rows are as the format has them, and sections that the claim
--- doesn't ask for have none
-pub record IsProof (board : PlainBoard) (proof : PlainProof) : Type 0 where
-  pub claim : IsClaim proof.claim
-  pub labeller : AreAnswerRows board proof.claim proof.labeller
-  pub adversary : AreRequestRows board proof.adversary
-  pub no_labeller : asks_labeller proof.claim ≡ false → proof.labeller ≡ []
-  pub no_adversary : asks_adversary proof.claim ≡ false → proof.adversary ≡ []
-
 -- ---- rows that name their configuration by its rank
 
 -- a labeller's row with its configuration in place of the rank,
@@ -125,8 +103,3 @@ plain_proof board proof = record {
 -- the places of pebbles that the board doesn't have are 0
 abbrev pub IsPadded : PlainBoard → LabellerRow → Type 0
 IsPadded board row = (pebble : ℕ) → board.pebbles ≤ pebble → slice_index row.take pebble ≡ 0
-
--- a proof for the board: its rows are as the format has them
-pub record IsDocument (board : PlainBoard) (proof : Proof) : Type 0 where
-  pub is_proof : IsProof board (plain_proof board proof)
-  pub padded : All (IsPadded board) proof.labeller.items

@@ -1,5 +1,5 @@
--- The text of a strategy document.
-use Rattle.std.specs.Prelude.{ℕ, ◌+◌, List, [], ◌++◌, length, codes, if◌then◌else◌}
+-- The text of a strategy document, by configurations or by classes.
+use Rattle.std.specs.Prelude.{ℕ, Bool, if◌then◌else◌, List, [], ◌∷◌, ◌++◌, length, codes}
 use Rattle.std.specs.List.{flat_map}
 use Rattle.std.specs.Fmt.{decimal}
 use Rattle.board_text.specs.BoardText.{end_line}
@@ -13,8 +13,13 @@ use Rattle.positions.specs.declared.turns.Turns.TheVariants.{Count, Always}
 use Rattle.positions.specs.Table.{AnswerRow, RequestRow}
 use Rattle.proof_text.specs.Proof.{PlainProof, asks_labeller, asks_adversary}
 
+-- the first line of a document by configurations
 abbrev pub proof_version_line : List ℕ
 proof_version_line = with_line_feed (codes "proof 1")
+
+-- the first line of a document by classes
+abbrev pub class_version_line : List ℕ
+class_version_line = with_line_feed (codes "proof 2")
 
 -- a claim, in words
 abbrev pub claim_words : Claim → List ℕ
@@ -44,37 +49,36 @@ request_line board row = with_line_feed
     (codes "at" ++ (spaced_places board.labels row.at
     ++ (codes " for " ++ (decimal row.left ++ (codes " ask " ++ decimal row.request)))))
 
+-- `at l0 .. for m ask l`: the place of the asked pebble
+abbrev pub class_request_line : PlainBoard → RequestRow → List ℕ
+class_request_line board row = with_line_feed
+    (codes "at" ++ (spaced_places board.labels row.at
+    ++ (codes " for " ++ (decimal row.left
+    ++ (codes " ask" ++ spaced_places board.labels (row.request ∷ []))))))
+
 -- the first two lines
-abbrev pub first_two_lines : Claim → List ℕ
-first_two_lines claim = proof_version_line ++ claim_line claim
+abbrev pub first_two_lines : List ℕ → Claim → List ℕ
+first_two_lines line claim = line ++ claim_line claim
 
--- the labeller's section, if the claim asks for it
-abbrev pub labeller_section : PlainBoard → Claim → List AnswerRow → List ℕ
-labeller_section board claim rows =
-    if asks_labeller claim then number_line (codes "labeller") (length rows)
-    ++ flat_map (answer_line board) rows else []
+-- the text of a section with the word at its head and a line for each row, if it is asked for
+abbrev pub section_text : {X : Type 0} → List ℕ → Bool → (X → List ℕ) → List X → List ℕ
+section_text word asked row_line rows =
+    if asked then number_line word (length rows) ++ flat_map row_line rows else []
 
--- the adversary's section, if the claim asks for it
-abbrev pub adversary_section : PlainBoard → Claim → List RequestRow → List ℕ
-adversary_section board claim rows =
-    if asks_adversary claim then number_line (codes "adversary") (length rows)
-    ++ flat_map (request_line board) rows else []
-
--- the text up to its last row
-abbrev pub proof_text_before_end : PlainBoard → PlainProof → List ℕ
-proof_text_before_end board proof =
-    (with_line_feed (codes "proof 1") ++ with_line_feed (claim_words proof.claim))
-    ++ (labeller_section board proof.claim proof.labeller
-    ++ adversary_section board proof.claim proof.adversary)
-
--- the text of a document of the board
+-- the text of a document by configurations of the board
 abbrev pub proof_text : PlainBoard → PlainProof → List ℕ
-proof_text board proof = proof_text_before_end board proof ++ end_line
+proof_text board proof = (first_two_lines proof_version_line proof.claim
+    ++ (section_text (codes "labeller") (asks_labeller proof.claim) (answer_line board)
+    proof.labeller
+    ++ section_text (codes "adversary") (asks_adversary proof.claim) (request_line board)
+    proof.adversary))
+    ++ end_line
 
--- the number of lines of the labeller's section
-abbrev pub labeller_lines : Claim → List AnswerRow → ℕ
-labeller_lines claim rows = if asks_labeller claim then 1 + length rows else 0
-
--- the number of lines of the adversary's section
-abbrev pub adversary_lines : Claim → List RequestRow → ℕ
-adversary_lines claim rows = if asks_adversary claim then 1 + length rows else 0
+-- the text of a document by classes of the board
+abbrev pub class_text : PlainBoard → PlainProof → List ℕ
+class_text board proof = (first_two_lines class_version_line proof.claim
+    ++ (section_text (codes "labeller") (asks_labeller proof.claim) (answer_line board)
+    proof.labeller
+    ++ section_text (codes "adversary") (asks_adversary proof.claim) (class_request_line board)
+    proof.adversary))
+    ++ end_line

@@ -3,9 +3,10 @@
 ghost use Rattle.std.specs.Prelude.{◌≡◌, ◌≢◌, ℕ, ◌<◌, List, slice_index};
 ghost use Rattle.board_text.specs.PlainBoard.{PlainBoard, IsBoard};
 ghost use Rattle.positions.specs.Ranks.{configurations};
-ghost use Rattle.proof_text.specs.Proof.{PlainProof, IsProof, IsPadded, answer_row, request_row};
-ghost use Rattle.proof_text.specs.ProofText.{proof_text};
-ghost use Rattle.proof_text.specs.ProofFaults.{HasProofFault};
+ghost use Rattle.proof_text.specs.Documents.{IsProof, IsClassProof};
+ghost use Rattle.proof_text.specs.Proof.{PlainProof, IsPadded, answer_row, request_row};
+ghost use Rattle.proof_text.specs.ProofFaults.{HasProofFault, HasClassTextFault};
+ghost use Rattle.proof_text.specs.ProofText.{proof_text, class_text};
 ghost use Rattle.proof_text.specs.declared.fault.ProofKind.{ProofKind as Kind};
 ghost use Rattle.proof_text.specs.declared.fault.ProofKind.TheVariants.{Memory as OutOfMemory};
 ghost use Rattle.proof_text.specs.declared.proof.LabellerRow.{LabellerRow as LabellerRowData};
@@ -37,6 +38,34 @@ pub fn one_fault()
         → (other_kind : Kind) → IsBoard board
         → kind ≢ OutOfMemory → other_kind ≢ OutOfMemory
         → HasProofFault board text line kind → HasProofFault board text other_line other_kind
+        → (line ≡ other_line) × (kind ≡ other_kind) }
+{}
+
+/// For one board a text is that of one document by classes at most. So the text that is printed for
+/// a document is read back as that document.
+#[tactic(auto, using(crate::proofs::OneDocument::one_class_document))]
+pub fn one_class_document()
+    ensures { (board : PlainBoard) → (first : PlainProof) → (second : PlainProof) → IsBoard board
+        → IsClassProof board first
+        → IsClassProof board second
+        → class_text board first ≡ class_text board second → first ≡ second }
+{}
+
+/// No line of the text of a document by classes has a fault but out of memory.
+#[tactic(auto, using(crate::proofs::OneDocument::no_class_text_fault))]
+pub fn class_documents_have_no_fault()
+    ensures { (board : PlainBoard) → (document : PlainProof) → (line : ℕ) → (kind : Kind)
+        → IsBoard board → IsClassProof board document
+        → HasClassTextFault board (class_text board document) line kind → kind ≡ OutOfMemory }
+{}
+
+/// For one board a text has one fault at most, apart from out of memory.
+pub fn one_class_text_fault()
+    ensures { (board : PlainBoard) → (text : List ℕ) → (line : ℕ) → (other_line : ℕ) → (kind : Kind)
+        → (other_kind : Kind) → IsBoard board
+        → kind ≢ OutOfMemory → other_kind ≢ OutOfMemory
+        → HasClassTextFault board text line kind
+        → HasClassTextFault board text other_line other_kind
         → (line ≡ other_line) × (kind ≡ other_kind) }
 {}
 

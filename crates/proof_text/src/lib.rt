@@ -3,21 +3,30 @@
 #![tactic(auto)]
 
 mod claims;
+mod class_proof;
+mod class_rows;
 mod fault;
 mod laws;
+mod numbers;
 mod parsing;
 mod parts;
 mod printing;
 mod proof;
+mod ranked_rows;
 mod row_text;
 mod row_words;
 mod rows;
 mod sections;
 
 pub use claims::write_claim;
+pub use class_proof::{AdversaryClassRow, ClassProof, ClassRow, LabellerClassRow, MAX_CLASS_ROWS};
 pub use fault::{ProofFault, ProofKind};
-pub use laws::{documents_have_no_fault, limits, one_document, one_fault, one_row_of_a_rank};
-pub use parsing::parse;
+pub use laws::{
+    class_documents_have_no_fault, documents_have_no_fault, limits, one_class_document,
+    one_class_text_fault, one_document, one_fault, one_row_of_a_rank,
+};
+pub use numbers::{arranged_order, class_order, places_at, places_order};
+pub use parsing::{parse, parse_classes};
 pub use positions::{Claim, Turns};
-pub use printing::{print, print_in_parts};
+pub use printing::{print, print_classes, print_classes_in_parts, print_in_parts};
 pub use proof::{AdversaryRow, LabellerRow, MOST_TURNS, Proof, Ranked};

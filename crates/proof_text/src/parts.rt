@@ -1,43 +1,41 @@
 //! The lines of a section's rows, made in parts.
 
-ghost use Rattle.std.specs.Prelude.{◌≡◌, ◌<◌, ◌≤◌, ◌++◌, All, IfOk, OnOk, flat_map, string_bytes};
-ghost use Rattle.positions.specs.Ranks.{configurations};
+ghost use Rattle.std.specs.Prelude.{◌≡◌, ◌≤◌, ◌++◌, All, IfOk, OnOk, flat_map, string_bytes};
 ghost use Rattle.positions.specs.declared.claim.Claim.{Claim as ClaimData};
-ghost use Rattle.proof_text.specs.Inside.RowForm.{section_text};
+ghost use Rattle.proof_text.specs.RowForm.{text_of_section};
 
 use crate::printing::size_of_lines;
 use crate::row_text::PlaceWords;
-use crate::rows::Row;
+use crate::rows::{BoardOfRows, Row};
 use crate::sections::{write_head, write_rows};
-use positions::{Claim, Space};
+use positions::Claim;
 use rayon::prelude::*;
 use std::alloc::{AllocError, Global};
 use std::thread::Threads;
 
 /// Appends the section of `rows`, if `claim` asks for it,
 /// as `write_part` does. The lines are made in `parts` parts.
-pub(crate) fn write_in_parts<R: Row + Sync>(
+pub(crate) fn write_in_parts<B: BoardOfRows + Sync, R: Row<B> + Sync>(
     rt: &(impl Threads + Sync),
     alloc: Global,
     text: &mut String,
     words: &PlaceWords,
-    space: &Space,
+    board: &B,
     claim: Claim,
     rows: &[R],
     parts: u32,
 ) -> Result<(), AllocError>
-    requires words { words.now ≡ space.now.labels }
-    requires ranks { (other : ClaimData)
-        → All (λ row. (R.form space.now other).rank row < configurations space.now) rows.now }
+    requires words { words.now ≡ (B.board board.now).labels }
+    requires of_board { All (R.IsOfBoard (B.board board.now)) rows.now }
     requires parts { 1 ≤ parts }
     ensures { OnOk result (string_bytes text.new ≡ string_bytes text.old
-        ++ section_text (R.form space.now claim) rows.now) }
+        ++ text_of_section (R.reading (B.board board.now) claim).form rows.now) }
 {
     if !R::is_asked(claim) {
         return Ok(());
     }
-    write_head::<R>(text, claim, rows.len())?;
-    for lines in &lines_in_parts(rt, alloc, words, space, rows, parts)? {
+    write_head::<B, R>(text, claim, rows.len())?;
+    for lines in &lines_in_parts(rt, alloc, words, board, rows, parts)? {
         text.push_str(lines.as_str())?;
     }
     Ok(())
@@ -45,52 +43,48 @@ pub(crate) fn write_in_parts<R: Row + Sync>(
 
 /// The lines of `rows` in at most `parts` parts of consecutive rows, in their order. Threads make
 /// them where each has a thousand rows or more to make, and one can be started.
-fn lines_in_parts<R: Row + Sync>(
+fn lines_in_parts<B: BoardOfRows + Sync, R: Row<B> + Sync>(
     rt: &(impl Threads + Sync),
     alloc: Global,
     words: &PlaceWords,
-    space: &Space,
+    board: &B,
     rows: &[R],
     parts: u32,
 ) -> Result<Vec<String>, AllocError>
-    requires words { words.now ≡ space.now.labels }
-    requires ranks { (claim : ClaimData)
-        → All (λ row. (R.form space.now claim).rank row < configurations space.now) rows.now }
+    requires words { words.now ≡ (B.board board.now).labels }
+    requires of_board { All (R.IsOfBoard (B.board board.now)) rows.now }
     requires parts { 1 ≤ parts }
     ensures { IfOk result (λ parts. (claim : ClaimData)
-        → flat_map string_bytes parts.items ≡ flat_map (R.form space.now claim).line rows.now) }
+        → flat_map string_bytes parts.items ≡ flat_map (R.reading (B.board board.now) claim).form.line rows.now) }
 {
     let size = rows.len().div_ceil(parts as usize).max(1);
     let lines: Result<Vec<String>, AllocError> = rows
         .par_chunks(size)
         .map(
             |part: &[R]| -> Result<String, AllocError>
-                requires words { words.now ≡ space.now.labels }
-                requires ranks { (claim : ClaimData)
-                    → All (λ row.
-                    (R.form space.now claim).rank row < configurations space.now) part.now }
+                requires words { words.now ≡ (B.board board.now).labels }
+                requires of_board { All (R.IsOfBoard (B.board board.now)) part.now }
                 ensures { IfOk result (λ lines. (claim : ClaimData)
-                    → string_bytes lines ≡ flat_map (R.form space.entry.now claim).line part.now) }
-            { lines_of(alloc, words, space, part) },
+                    → string_bytes lines ≡ flat_map (R.reading (B.board board.entry.now) claim).form.line part.now) }
+            { lines_of(alloc, words, board, part) },
         )
         .collect(rt, alloc)?;
     lines
 }
 
 /// The lines of `rows`, as a text of their own.
-fn lines_of<R: Row>(
+fn lines_of<B: BoardOfRows, R: Row<B>>(
     alloc: Global,
     words: &PlaceWords,
-    space: &Space,
+    board: &B,
     rows: &[R],
 ) -> Result<String, AllocError>
-    requires words { words.now ≡ space.now.labels }
-    requires ranks { (claim : ClaimData)
-        → All (λ row. (R.form space.now claim).rank row < configurations space.now) rows.now }
+    requires words { words.now ≡ (B.board board.now).labels }
+    requires of_board { All (R.IsOfBoard (B.board board.now)) rows.now }
     ensures { IfOk result (λ lines. (claim : ClaimData)
-        → string_bytes lines ≡ flat_map (R.form space.now claim).line rows.now) }
+        → string_bytes lines ≡ flat_map (R.reading (B.board board.now) claim).form.line rows.now) }
 {
-    let size = size_of_lines(space.labels(), space.pebbles(), rows.len());
+    let size = size_of_lines(board.labels(), board.pebbles(), rows.len());
     let lines = String::with_capacity(alloc, size)?;
-    write_rows(lines, words, space, rows)
+    write_rows(lines, words, board, rows)
 }

@@ -6,7 +6,7 @@ ghost use Rattle.positions.specs.declared.turns.Turns.TheVariants.{Count, Always
 ghost use Rattle.board_text.specs.declared.line_reader.Numeral.TheVariants.{Number};
 ghost use Rattle.proof_text.specs.Proof.{AreTurns};
 ghost use Rattle.proof_text.specs.Inside.Reading.{TakesConfiguration, TakesTurns, TakesAnswerWords};
-ghost use Rattle.proof_text.specs.Inside.Reading.{TakesRequestWords};
+ghost use Rattle.proof_text.specs.Inside.Reading.{TakesRequestWords, TakesClassRequestWords};
 
 use crate::proof::MOST_TURNS;
 use board_text::line_reader::{LineReader, Numeral};
@@ -32,6 +32,17 @@ pub(crate) struct RequestValues {
     pub left: Option<u32>,
     /// The requested pebble, if it is one.
     pub ask: Option<u16>,
+}
+
+/// The values of the words of an adversary's row by classes, beside its places and the asked place.
+#[derive(Clone, Copy)]
+pub(crate) struct ClassRequestValues {
+    /// Each place of the configuration is one of the board.
+    pub are_places: bool,
+    /// The number of answers left, if it is in range.
+    pub left: Option<u32>,
+    /// The asked place is one of the board.
+    pub is_place: bool,
 }
 
 /// Takes the words of a labeller's row from `text`; `None` if it doesn't begin with such.
@@ -83,6 +94,33 @@ pub(crate) fn request_words(
         are_places,
         left,
         ask,
+    })
+}
+
+/// Takes the words of an adversary's row by classes from `text`; `None` if it doesn't begin with
+/// such.
+pub(crate) fn class_request_words(
+    text: &mut LineReader<'_>,
+    labels: u16,
+    places: u16,
+    at: &mut [u16],
+    ask: &mut [u16],
+) -> Option<ClassRequestValues>
+    requires some { 0 < length at.old }
+    requires one { length ask.old ≡ 1 }
+    requires places { (labels ≤ places) × (places ≤ labels + 1) }
+    ensures { TakesClassRequestWords
+        (length at.old) labels places result at.new ask.new text.old text.new }
+{
+    let are_places = configuration(text, labels, places, at)?;
+    let left = text.numeral()?.within(0, MOST_TURNS);
+    text.take(b" ask")?;
+    let is_place = text.places(ask, labels, places)?;
+    text.take(b"\n")?;
+    Some(ClassRequestValues {
+        are_places,
+        left,
+        is_place,
     })
 }
 

@@ -1,208 +1,178 @@
-//! The rows of a document, of either side: how they are read and written.
+//! The rows of a document, of either side and in either version: how they are read and written.
 
-ghost use Rattle.std.specs.Prelude.{◌≡◌, ◌<◌, ◌++◌, OnOk, refl};
+ghost use Rattle.std.specs.Prelude.{◌≡◌, ◌<◌, ◌≤◌, ◌++◌, OnOk};
 ghost use Rattle.board_text.specs.PlaceForms.{spaced_places};
-ghost use Rattle.board_text.specs.PlainBoard.{PlainBoard};
-ghost use Rattle.positions.specs.Ranks.{configuration_at, configurations};
+ghost use Rattle.board_text.specs.PlainBoard.{PlainBoard, IsBoard, places as places_of};
 ghost use Rattle.positions.specs.declared.claim.Claim.{Claim as ClaimData};
-ghost use Rattle.proof_text.specs.Inside.RowForm.{RowForm, NextRow, labeller_form, adversary_form};
+ghost use Rattle.proof_text.specs.ProofText.{answer_line};
+ghost use Rattle.proof_text.specs.SectionFaults.{RowReading};
+ghost use Rattle.proof_text.specs.Inside.Rows.{NextRow, AreKindsOfRows, TakesAnswer};
 
+use crate::class_proof::{LabellerClassRow, MAX_CLASS_ROWS};
 use crate::fault::ProofKind;
-use crate::proof::{AdversaryRow, LabellerRow, Ranked};
 use crate::row_text::{PlaceWords, RowText};
-use crate::row_words::{answer_words, request_words};
-use board_text::MAX_PEBBLES;
+use crate::row_words::answer_words;
 use board_text::line_reader::LineReader;
+use board_text::{Board, MAX_PEBBLES};
 use positions::{Claim, Space, Turns};
 use std::alloc::AllocError;
 
+/// The board that rows are for, in the form that a version of documents needs.
+pub(crate) trait BoardOfRows {
+    ghost board: { Self → PlainBoard };
+
+    /// How many labels the board has.
+    fn labels(&self) -> u16
+        ensures value { result ≡ (board self.now).labels }
+        ensures is_board { IsBoard (board self.now) };
+
+    /// How many pebbles the board has.
+    fn pebbles(&self) -> u8
+        ensures value { result ≡ (board self.now).pebbles }
+        ensures is_board { IsBoard (board self.now) };
+
+    /// How many places a pebble can have.
+    fn places(&self) -> u16
+        ensures { result ≡ places_of (board self.now) };
+}
+
+impl BoardOfRows for Space {
+    ghost board = { λ space. space };
+
+    fn labels(&self) -> u16 {
+        Space::labels(self)
+    }
+
+    fn pebbles(&self) -> u8 {
+        Space::pebbles(self)
+    }
+
+    fn places(&self) -> u16 {
+        Space::places(self)
+    }
+}
+
+impl BoardOfRows for Board {
+    ghost board = { λ board. board };
+
+    fn labels(&self) -> u16 {
+        Board::labels(self)
+    }
+
+    fn pebbles(&self) -> u8 {
+        Board::pebbles(self)
+    }
+
+    fn places(&self) -> u16 {
+        Board::places(self)
+    }
+}
+
 /// A row of one side's section.
-pub(crate) trait Row: Ranked + Copy {
-    ghost form: { PlainBoard → ClaimData → RowForm Self };
+pub(crate) trait Row<B: BoardOfRows>: Copy {
+    ghost reading: { PlainBoard → ClaimData → RowReading Self };
+
+    /// The row is for a configuration of the board.
+    ghost IsOfBoard: { PlainBoard → Self → Type 0 };
 
     /// The word at the head of the section.
     fn word() -> &'static str
         ensures { (board : PlainBoard) → (claim : ClaimData)
-            → result.now ≡ (form board claim).word };
+            → result.now ≡ (reading board claim).form.word };
 
     /// Whether a document with `claim` has the section.
     fn is_asked(claim: Claim) -> bool
-        ensures { (board : PlainBoard) → result ≡ (form board claim).asked };
+        ensures { (board : PlainBoard) → result ≡ (reading board claim).form.asked };
 
-    /// Reads the row of the next line, whose rank must be at least `least`.
+    /// The most rows of a section.
+    fn most() -> u32
+        ensures value { (board : PlainBoard) → (claim : ClaimData)
+            → result ≡ (reading board claim).form.most }
+        ensures few { result ≤ MAX_CLASS_ROWS };
+
+    /// Reads the row of the next line. The number of its places must be at least `least`, which
+    /// becomes the number after it.
     fn read(
         text: &mut LineReader<'_>,
-        space: &Space,
+        board: &B,
         claim: Claim,
-        least: u32,
+        least: &mut u64,
     ) -> Result<Self, ProofKind>
-        ensures { NextRow space.now (form space.now claim) least result text.old text.new };
+        ensures { NextRow
+            (reading (B.board board.now) claim) least.old least.new result text.old text.new };
 
     /// Appends the row's line to `text`. The `words` are those of the board's places.
-    fn write(&self, text: &mut RowText, words: &PlaceWords, space: &Space) -> Result<(), AllocError>
-        requires words { words.now ≡ space.now.labels }
-        requires rank { (claim : ClaimData)
-            → (form space.now claim).rank self.now < configurations space.now }
+    fn write(&self, text: &mut RowText, words: &PlaceWords, board: &B) -> Result<(), AllocError>
+        requires words { words.now ≡ (B.board board.now).labels }
+        requires of_board { IsOfBoard (B.board board.now) self.now }
         ensures { OnOk result ((claim : ClaimData)
-            → text.new.bytes ≡ text.old.bytes ++ (form space.now claim).line self.now) };
+            → text.new.bytes ≡ text.old.bytes ++ (reading (B.board board.now) claim).form.line self.now) };
 
-    ghost same_rank: { (board : PlainBoard) → (claim : ClaimData) → (row : Self)
-        → (form board claim).rank row ≡ Self.rank row };
+    ghost kinds: { (board : PlainBoard) → (claim : ClaimData)
+        → AreKindsOfRows (reading board claim) };
 }
 
-impl Row for LabellerRow {
-    ghost form = { labeller_form };
-
-    ghost same_rank = { λ board claim row. refl };
-
-    fn word() -> &'static str {
-        "labeller"
+/// Takes the line of a labeller's row, whatever the order of its places, and returns its values.
+#[inline(always)]
+pub(crate) fn read_answer<B: BoardOfRows>(
+    text: &mut LineReader<'_>,
+    board: &B,
+    claim: Claim,
+) -> Result<LabellerClassRow, ProofKind>
+    ensures { TakesAnswer (B.board board.now) claim result text.old text.new }
+{
+    let pebbles = board.pebbles() as usize;
+    let mut at = [0; MAX_PEBBLES];
+    let mut take = [0; MAX_PEBBLES];
+    let Some(values) = answer_words(
+        text,
+        board.labels(),
+        board.places(),
+        claim,
+        &mut at[..pebbles],
+        &mut take[..pebbles],
+    ) else {
+        return Err(ProofKind::Row);
+    };
+    if !values.are_places || !values.are_answers {
+        return Err(ProofKind::Label);
     }
-
-    fn is_asked(claim: Claim) -> bool {
-        !matches!(claim, Claim::AtMost(_))
-    }
-
-    fn read(
-        text: &mut LineReader<'_>,
-        space: &Space,
-        claim: Claim,
-        least: u32,
-    ) -> Result<LabellerRow, ProofKind> {
-        let pebbles = space.pebbles() as usize;
-        let mut at = [0; MAX_PEBBLES];
-        let mut take = [0; MAX_PEBBLES];
-        let Some(values) = answer_words(
-            text,
-            space.labels(),
-            space.places(),
-            claim,
-            &mut at[..pebbles],
-            &mut take[..pebbles],
-        ) else {
-            return Err(ProofKind::Row);
-        };
-        if !values.are_places || !values.are_answers {
-            return Err(ProofKind::Label);
-        }
-        let Some(turns) = values.turns else {
-            return Err(ProofKind::Number);
-        };
-        let rank = space.rank(&at[..pebbles]);
-        if rank < least {
-            return Err(ProofKind::Order);
-        }
-        Ok(LabellerRow {
-            at: rank,
-            turns,
-            take,
-        })
-    }
-
-    fn write(
-        &self,
-        text: &mut RowText,
-        words: &PlaceWords,
-        space: &Space,
-    ) -> Result<(), AllocError> {
-        let pebbles = space.pebbles() as usize;
-        text.push_bytes(b"at")?;
-        write_at(text, words, space, self.at)?;
-        text.push_bytes(b" for")?;
-        match self.turns {
-            Turns::Count(number) => text.push_number(number)?,
-            Turns::Always => text.push_bytes(b" *")?,
-        }
-        text.push_bytes(b" take")?;
-        write_places(text, words, &self.take[..pebbles])?;
-        text.push_bytes(b"\n")
-    }
+    let Some(turns) = values.turns else {
+        return Err(ProofKind::Number);
+    };
+    Ok(LabellerClassRow { at, turns, take })
 }
 
-impl Row for AdversaryRow {
-    ghost form = { adversary_form };
-
-    ghost same_rank = { λ board claim row. refl };
-
-    fn word() -> &'static str {
-        "adversary"
-    }
-
-    fn is_asked(claim: Claim) -> bool {
-        matches!(claim, Claim::Exactly(_) | Claim::AtMost(_))
-    }
-
-    fn read(
-        text: &mut LineReader<'_>,
-        space: &Space,
-        _claim: Claim,
-        least: u32,
-    ) -> Result<AdversaryRow, ProofKind> {
-        let pebbles = space.pebbles();
-        let mut at = [0; MAX_PEBBLES];
-        let Some(values) = request_words(
-            text,
-            space.labels(),
-            space.places(),
-            pebbles,
-            &mut at[..pebbles as usize],
-        ) else {
-            return Err(ProofKind::Row);
-        };
-        if !values.are_places {
-            return Err(ProofKind::Label);
-        }
-        let Some(ask) = values.ask else {
-            return Err(ProofKind::Pebble);
-        };
-        let Some(left) = values.left else {
-            return Err(ProofKind::Number);
-        };
-        let rank = space.rank(&at[..pebbles as usize]);
-        if rank < least {
-            return Err(ProofKind::Order);
-        }
-        Ok(AdversaryRow {
-            at: rank,
-            left,
-            ask: ask as u8,
-        })
-    }
-
-    fn write(
-        &self,
-        text: &mut RowText,
-        words: &PlaceWords,
-        space: &Space,
-    ) -> Result<(), AllocError> {
-        text.push_bytes(b"at")?;
-        write_at(text, words, space, self.at)?;
-        text.push_bytes(b" for")?;
-        text.push_number(self.left)?;
-        text.push_bytes(b" ask")?;
-        text.push_number(u32::from(self.ask))?;
-        text.push_bytes(b"\n")
-    }
-}
-
-/// Appends the places of the configuration of rank `at`, each with a space before it.
-fn write_at(
+/// Appends the line of a labeller's row with these values.
+pub(crate) fn write_answer(
     text: &mut RowText,
     words: &PlaceWords,
-    space: &Space,
-    at: u32,
+    at: &[u16],
+    turns: Turns,
+    take: &[u16],
 ) -> Result<(), AllocError>
-    requires words { words.now ≡ space.now.labels }
-    requires at { at < configurations space.now }
-    ensures { OnOk result (text.new.bytes ≡ text.old.bytes
-        ++ spaced_places space.now.labels (configuration_at space.now at)) }
+    ensures { OnOk result ((board : PlainBoard) → words.now ≡ board.labels
+        → text.new.bytes ≡ text.old.bytes
+        ++ answer_line board (record { at = at.now; turns = turns; answers = take.now })) }
 {
-    let places = space.places_at(at);
-    write_places(text, words, &places[..space.pebbles() as usize])
+    text.push_bytes(b"at")?;
+    write_places(text, words, at)?;
+    text.push_bytes(b" for")?;
+    match turns {
+        Turns::Count(number) => text.push_number(number)?,
+        Turns::Always => text.push_bytes(b" *")?,
+    }
+    text.push_bytes(b" take")?;
+    write_places(text, words, take)?;
+    text.push_bytes(b"\n")
 }
 
 /// Appends `places`, each with a space before it.
-fn write_places(text: &mut RowText, words: &PlaceWords, places: &[u16]) -> Result<(), AllocError>
+pub(crate) fn write_places(
+    text: &mut RowText,
+    words: &PlaceWords,
+    places: &[u16],
+) -> Result<(), AllocError>
     ensures { OnOk result
         (text.new.bytes ≡ text.old.bytes ++ spaced_places words.now places.now) }
 {

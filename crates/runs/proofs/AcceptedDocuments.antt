@@ -10,7 +10,8 @@ use Rattle.positions.specs.declared.value.Value.{Value}
 use Rattle.positions.specs.declared.space.TheConstants.{MAX_CONFIGURATIONS}
 use Rattle.positions.proofs.Cited.{same_value}
 use Rattle.proof_check.proofs.Cited.{only_memory}
-use Rattle.proof_text.specs.Proof.{PlainProof, IsProof}
+use Rattle.proof_text.specs.Proof.{PlainProof}
+use Rattle.proof_text.specs.Documents.{IsProof}
 use Rattle.proof_text.specs.ProofText.{proof_text}
 use Rattle.proof_text.specs.Rules.{BreaksNoRule}
 use Rattle.proof_text.proofs.Cited.{one_document, no_fault as faultless_document}

@@ -4,8 +4,8 @@ use Rattle.board_text.specs.PlainBoard.{PlainBoard}
 use Rattle.board_text.proofs.Cited.{one_board}
 use Rattle.class_documents.proofs.Cited.{no_fault as no_class_fault}
 use Rattle.class_strategies.proofs.Cited.{breaks_no_rule, has_form as is_formed, one_document as one_made}
-use Rattle.class_texts.proofs.Cited.{no_fault as faultless_document, one_document}
-use Rattle.class_texts.specs.ClassText.{class_text}
+use Rattle.proof_text.proofs.Cited.{no_class_text_fault as faultless_document, one_class_document}
+use Rattle.proof_text.specs.ProofText.{class_text}
 use Rattle.classes.specs.Numbers.{class_count}
 use Rattle.classes.specs.declared.counting.TheConstants.{MAX_CLASSES}
 use Rattle.graphs.specs.declared.graph.Numbering.{Numbering}
@@ -125,7 +125,7 @@ module _ (text written : List ℕ) (value : Value) (solution : IsClassSolution t
       → verdict ≡ Accepted (record { claim = claim_of value })
   accepts_of Ordered proof verdict is_proof spelled told = absurd (by_ranks written board proof spelled by_class)
   accepts_of Classes proof verdict is_proof spelled told =
-      verdict_of proof verdict (one_document board solved.document proof is.is_board
+      verdict_of proof verdict (one_class_document board solved.document proof is.is_board
       (is_formed board solved.document is.is_board.start few solved.is_document) is_proof
       (sym solved.text_is ∙ spelled)) told
 

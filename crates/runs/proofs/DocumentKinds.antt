@@ -1,9 +1,8 @@
 -- The two kinds of documents are told apart by the first lines of their texts.
 use Rattle.std.proofs.Common.{◌≡◌, ℕ, List, get_or, refl, sym, ap, subst, arith}
 use Rattle.board_text.specs.PlainBoard.{PlainBoard}
-use Rattle.class_texts.specs.ClassText.{class_text}
+use Rattle.proof_text.specs.ProofText.{class_text, proof_text}
 use Rattle.proof_text.specs.Proof.{PlainProof}
-use Rattle.proof_text.specs.ProofText.{proof_text}
 use Rattle.runs.specs.Texts.{IsByClasses}
 
 begins_by_classes : (board : PlainBoard) (proof : PlainProof) → IsByClasses (class_text board proof)

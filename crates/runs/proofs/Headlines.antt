@@ -4,7 +4,8 @@ use Rattle.board_text.specs.PlainBoard.{PlainBoard, IsBoard}
 use Rattle.board_text.specs.BoardText.{board_text}
 use Rattle.board_text.proofs.Cited.{one_board}
 use Rattle.positions.specs.declared.value.Value.{Value}
-use Rattle.proof_text.specs.Proof.{PlainProof, IsProof}
+use Rattle.proof_text.specs.Proof.{PlainProof}
+use Rattle.proof_text.specs.Documents.{IsProof}
 use Rattle.proof_text.specs.ProofText.{proof_text}
 use Rattle.proof_text.proofs.Cited.{one_document}
 use Rattle.strategies.specs.Meaning.{Means}

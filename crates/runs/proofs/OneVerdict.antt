@@ -2,15 +2,14 @@
 use Rattle.std.proofs.Common.{◌≡◌, ℕ, inl, inr, List, refl, sym, ap, ◌∙◌, subst}
 use Rattle.board_text.specs.PlainBoard.{PlainBoard, IsBoard}
 use Rattle.class_documents.proofs.Cited.{no_fault as no_class_fault, one_fault as one_class_fault}
-use Rattle.class_texts.proofs.Cited.{no_fault as faultless_class_document, one_document as one_class_document}
-use Rattle.class_texts.proofs.Cited.{one_fault as one_class_text_fault}
+use Rattle.proof_text.proofs.Cited.{no_class_text_fault as faultless_class_document, one_class_document}
+use Rattle.proof_text.proofs.Cited.{one_class_text_fault, one_document, no_fault as faultless_document}
 use Rattle.graphs.specs.declared.graph.Numbering.{Numbering}
 use Rattle.graphs.specs.declared.graph.Numbering.TheVariants.{Ordered, Classes}
 use Rattle.proof_check.proofs.Cited.{only_memory}
 use Rattle.proof_check.proofs.DocumentFaults.{one_fault as one_check_fault}
 use Rattle.proof_text.specs.Proof.{PlainProof}
 use Rattle.proof_text.specs.declared.fault.ProofFault.{ProofFault}
-use Rattle.proof_text.proofs.Cited.{one_document, no_fault as faultless_document}
 use Rattle.proof_text.proofs.OneDocument.{one_fault as one_proof_fault}
 use Rattle.runs.specs.Output.{line_of}
 use Rattle.runs.specs.Texts.{IsWrongProof}

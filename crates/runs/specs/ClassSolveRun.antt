@@ -2,7 +2,7 @@
 use Rattle.std.specs.Prelude.{◌≡◌, ℕ, ◌<◌, ◌≤◌, List, length}
 use Rattle.board_text.specs.PlainBoard.{PlainBoard}
 use Rattle.class_strategies.specs.ClassDocument.{IsClassDocumentOf}
-use Rattle.class_texts.specs.ClassText.{class_text}
+use Rattle.proof_text.specs.ProofText.{class_text}
 use Rattle.graphs.specs.declared.graph.Numbering.TheVariants.{Classes}
 use Rattle.positions.specs.declared.value.Value.{Value}
 use Rattle.positions.specs.Value.{HasValue}

@@ -3,7 +3,8 @@ use Rattle.std.specs.Prelude.{◌≡◌, ℕ, List}
 use Rattle.board_text.specs.PlainBoard.{PlainBoard, IsBoard}
 use Rattle.board_text.specs.BoardText.{board_text}
 use Rattle.positions.specs.declared.value.Value.{Value}
-use Rattle.proof_text.specs.Proof.{PlainProof, IsProof}
+use Rattle.proof_text.specs.Proof.{PlainProof}
+use Rattle.proof_text.specs.Documents.{IsProof}
 use Rattle.proof_text.specs.ProofText.{proof_text}
 use Rattle.proof_text.specs.Rules.{BreaksNoRule}
 use Rattle.strategies.specs.Meaning.{Means}

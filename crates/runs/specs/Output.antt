@@ -4,7 +4,7 @@ use Rattle.std.specs.Fmt.{decimal}
 use Rattle.board_text.specs.LineForms.{with_line_feed}
 use Rattle.board_text.specs.PlaceForms.{spaced_places}
 use Rattle.board_text.specs.PlainBoard.{PlainBoard}
-use Rattle.class_documents.specs.Arranged.{arranged_at}
+use Rattle.proof_text.specs.Arranged.{arranged_at}
 use Rattle.class_documents.specs.declared.fault.ClassFault.{ClassFault}
 use Rattle.class_documents.specs.declared.fault.ClassFault.TheVariants as class_faults
 use Rattle.command_line.specs.Reading.{side_word}

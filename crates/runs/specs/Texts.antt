@@ -4,7 +4,7 @@ use Rattle.board_text.specs.PlainBoard.{PlainBoard, IsBoard}
 use Rattle.board_text.specs.BoardText.{board_text}
 use Rattle.board_text.specs.BoardFaults as board_faults
 use Rattle.board_text.specs.declared.fault.BoardKind.TheVariants as board_kinds
-use Rattle.class_texts.specs.ClassTextFaults.{HasClassTextFault}
+use Rattle.proof_text.specs.ProofFaults.{HasClassTextFault}
 use Rattle.graphs.specs.Numbered.{IsFewBy}
 use Rattle.graphs.specs.declared.graph.Numbering.{Numbering}
 use Rattle.graphs.specs.declared.graph.Numbering.TheVariants.{Ordered}

@@ -5,16 +5,15 @@ use Rattle.board_text.specs.BoardText.{board_text}
 use Rattle.board_text.specs.BoardFaults as board_faults
 use Rattle.board_text.specs.declared.fault.BoardKind.TheVariants as board_kinds
 use Rattle.class_documents.specs.ClassFaults.{IsFirstClassFault}
-use Rattle.class_documents.specs.ClassProof.{IsClassProof}
+use Rattle.proof_text.specs.Documents.{IsClassProof, IsProof}
+use Rattle.proof_text.specs.ProofText.{class_text, proof_text}
 use Rattle.class_documents.specs.ClassRules.{BreaksNoClassRule}
-use Rattle.class_texts.specs.ClassText.{class_text}
 use Rattle.classes.specs.Classes.{class_of}
 use Rattle.graphs.specs.Numbered.{IsFewBy}
 use Rattle.graphs.specs.declared.graph.Numbering.{Numbering}
 use Rattle.graphs.specs.declared.graph.Numbering.TheVariants.{Ordered, Classes}
 use Rattle.positions.specs.Claim.{Holds, Shows, HoldsAt}
-use Rattle.proof_text.specs.Proof.{PlainProof, IsProof}
-use Rattle.proof_text.specs.ProofText.{proof_text}
+use Rattle.proof_text.specs.Proof.{PlainProof}
 use Rattle.proof_text.specs.Rules.{BreaksNoRule}
 use Rattle.proof_check.specs.CheckFaults.{IsCheckFault}
 use Rattle.proof_check.specs.declared.fault.CheckFault.TheVariants as check_faults

@@ -21,10 +21,10 @@ use crate::solving::{Solved, numbered_by};
 use crate::writing::write_text;
 use board_text::{Sink, Source};
 use class_strategies::{MadeDocument, document_by_classes_in_parts};
-use class_texts::{print_classes_in_parts, size_of_text};
 use classes::MAX_CLASSES;
 use graphs::Numbering;
 use positions::Value;
+use proof_text::print_classes_in_parts;
 use round_workers::MAX_WORKERS;
 use std::alloc::Global;
 use std::sync::Wait;
@@ -116,9 +116,9 @@ fn class_solution(
     let made = document_by_classes_in_parts(rt, alloc, moves, parts as u32)?;
     let MadeDocument { value, proof } = made;
     let board = moves.board();
-    if size_of_text(alloc, board, &proof)? > MAX_PROOF_BYTES {
+    let text = print_classes_in_parts(rt, alloc, board, &proof, parts as u32)?;
+    if text.len() > MAX_PROOF_BYTES {
         return Err(RunFault::DocumentTooLarge);
     }
-    let text = print_classes_in_parts(rt, alloc, board, &proof, parts as u32)?;
     Ok(Solved { value, text })
 }

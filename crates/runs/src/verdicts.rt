@@ -1,9 +1,10 @@
 //! The answer to a text: its verdict and its line.
 
 ghost use Rattle.std.specs.Prelude.{◌≡◌, ◌≤◌, IfOk, IfErr, string_bytes};
-ghost use Rattle.class_documents.specs.ClassProof.{IsClassDocument, plain_class_proof};
+ghost use Rattle.proof_text.specs.Documents.{IsClassDocument, IsDocument};
+ghost use Rattle.proof_text.specs.ClassProof.{plain_class_proof};
 ghost use Rattle.graphs.specs.Numbered.{IsFewBy};
-ghost use Rattle.proof_text.specs.Proof.{IsDocument, plain_proof};
+ghost use Rattle.proof_text.specs.Proof.{plain_proof};
 ghost use Rattle.positions.specs.Ranks.{configurations};
 ghost use Rattle.runs.specs.Verdicts.{CannotAnswer, IsAnswered, IsChecked, IsClassVerdict};
 ghost use Rattle.runs.specs.Verdicts.{IsVerdict};
@@ -15,12 +16,11 @@ use crate::fault::RunFault;
 use crate::joined::board_length;
 use crate::output::line;
 use board_text::Board;
-use class_documents::{ClassFault, ClassProof, check_classes};
-use class_texts::parse_classes;
+use class_documents::{ClassFault, check_classes};
 use graphs::{Numbering, has_few};
 use positions::{MAX_CONFIGURATIONS, Space};
 use proof_check::{CheckFault, Shown, check};
-use proof_text::{Proof, parse};
+use proof_text::{ClassProof, Proof, parse, parse_classes};
 use std::alloc::Global;
 use std::thread::Threads;
 

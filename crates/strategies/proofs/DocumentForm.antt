@@ -14,8 +14,9 @@ use Rattle.positions.specs.Table.{AnswerRow, RequestRow}
 use Rattle.positions.specs.Ranks.{rank_of, configurations}
 use Rattle.positions.specs.declared.space.TheConstants.{MAX_CONFIGURATIONS}
 use Rattle.positions.proofs.Cited.{lasts_at_most, same_value, forever_from_count, rank_below}
-use Rattle.proof_text.specs.Proof.{PlainProof, IsClaim, AreTurns, IsAnswerRow, IsRequestRow, AreRows, AreAnswerRows}
-use Rattle.proof_text.specs.Proof.{asks_labeller, asks_adversary, IsProof}
+use Rattle.proof_text.specs.Proof.{PlainProof, IsClaim, AreTurns, IsAnswerRow, IsRequestRow}
+use Rattle.proof_text.specs.Proof.{asks_labeller, asks_adversary}
+use Rattle.proof_text.specs.Documents.{IsProof}
 use Rattle.strategies.specs.Best.{IsLess}
 use Rattle.strategies.specs.Document.{IsAnswerable, IsAnswerMove, LeadsBy, IsLabellerRow, IsAdversaryRow, AsksAdversary}
 use Rattle.strategies.specs.Document.{AreExactly, IsDocumentOf, turns_of}
@@ -62,18 +63,14 @@ few_rows rank bound (row ∷ rows) ascends each =
 section : {X : Type 0} (board : PlainBoard) (IsRow IsFormed : X → Type 0) (at : X → List ℕ) (rows : List X)
     → configurations board ≤ MAX_CONFIGURATIONS
     → ((row : X) → IsRow row → IsConfiguration board (at row)) → ((row : X) → IsRow row → IsFormed row)
-    → AreExactly board IsRow at rows → AreRows board IsFormed at rows
+    → AreExactly board IsRow at rows → (length rows ≤ MAX_CONFIGURATIONS) × All IsFormed rows
 section {X} board IsRow IsFormed at rows few are formed exactly =
     let is : (k : ℕ) (d : X) → k < length rows → IsRow (get_or rows k d) =
     λ k d inside. (exactly.each (get_or rows k d)).0 (Contains-get_or rows k d inside) in
     let size : length rows ≤ configurations board =
     few_rows (λ row. rank_of board (at row)) (configurations board) rows exactly.ascending
     (λ k d inside. rank_below board (at (get_or rows k d)) (are (get_or rows k d) (is k d inside))) in
-    record {
-      few = omega arith;
-      each = λ k d inside. formed (get_or rows k d) (is k d inside);
-      ascending = exactly.ascending;
-    }
+    (omega (arith, size, few), λ k d inside. formed (get_or rows k d) (is k d inside))
 
 -- the turns of a row are as the claim asks
 turns_formed : (start value : Value) → IsClaim (claim_of start) → (start ≡ Finite 0 → ⊥) → IsLess (Finite 0) value
@@ -152,15 +149,32 @@ module _ (board : PlainBoard) (proof : PlainProof) (is_start : IsConfiguration b
   sometimes_adversary Forever (row ∷ rows) asks same =
       absurd (asks row (Contains-get_or (row ∷ rows) 0 row (omega arith)))
 
+  answers : (length proof.labeller ≤ MAX_CONFIGURATIONS) × All (IsAnswerRow board (claim_of is.value)) proof.labeller
+  answers =
+      section board (IsLabellerRow board is.value) (IsAnswerRow board (claim_of is.value))
+      (λ (row : AnswerRow). row.at) proof.labeller few
+      answers_configuration answers_formed is.labeller
+
+  requests : (length proof.adversary ≤ MAX_CONFIGURATIONS) × All (IsRequestRow board) proof.adversary
+  requests =
+      section board _ (IsRequestRow board) (λ (row : RequestRow). row.at) proof.adversary few
+      requests_configuration requests_formed is.adversary
+
   pub is_formed : IsProof board proof
   is_formed = record {
     claim = subst IsClaim (sym is.claim) (claim_formed is.value is.has_value);
-    labeller = subst (λ (claim : Claim). AreAnswerRows board claim proof.labeller) (sym is.claim)
-        (section board (IsLabellerRow board is.value) (IsAnswerRow board (claim_of is.value))
-        (λ (row : AnswerRow). row.at) proof.labeller few
-        answers_configuration answers_formed is.labeller);
-    adversary = section board _ (IsRequestRow board) (λ (row : RequestRow). row.at) proof.adversary few
-        requests_configuration requests_formed is.adversary;
+    labeller = record {
+      few = answers.0;
+      each = subst (λ (claim : Claim). All (IsAnswerRow board claim) proof.labeller) (sym is.claim) answers.1;
+      in_order = λ k d low. tt;
+      ascending = is.labeller.ascending;
+    };
+    adversary = record {
+      few = requests.0;
+      each = requests.1;
+      in_order = λ k d low. tt;
+      ascending = is.adversary.ascending;
+    };
     no_labeller =
         λ none. always_labeller is.value (subst (λ (claim : Claim). asks_labeller claim ≡ false) is.claim none);
     no_adversary =

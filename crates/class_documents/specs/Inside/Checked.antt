@@ -6,10 +6,11 @@ use Rattle.positions.specs.Table.{AnswerRow, RequestRow}
 use Rattle.positions.specs.declared.turns.Turns.{Turns}
 use Rattle.proof_text.specs.Rules.{IsListedFor, IsListedBelow, IsWanted}
 use Rattle.class_documents.specs.ClassFaults.{HasClassRow, IsUnservedClass}
-use Rattle.class_documents.specs.ClassProof.{class_answer_row, class_request_row, IsClassDocument}
-use Rattle.class_documents.specs.declared.proof.LabellerClassRow.{LabellerClassRow}
-use Rattle.class_documents.specs.declared.proof.AdversaryClassRow.{AdversaryClassRow}
-use Rattle.class_documents.specs.declared.proof.ClassProof.{ClassProof}
+use Rattle.proof_text.specs.ClassProof.{class_answer_row, class_request_row}
+use Rattle.proof_text.specs.Documents.{IsClassDocument}
+use Rattle.proof_text.specs.declared.class_proof.LabellerClassRow.{LabellerClassRow}
+use Rattle.proof_text.specs.declared.class_proof.AdversaryClassRow.{AdversaryClassRow}
+use Rattle.proof_text.specs.declared.class_proof.ClassProof.{ClassProof}
 use Rattle.class_documents.specs.declared.fault.ClassFault.{ClassFault}
 
 -- a labeller's row of a document is ready to be checked

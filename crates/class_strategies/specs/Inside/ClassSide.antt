@@ -5,10 +5,10 @@ use Rattle.board_text.specs.PlainBoard.{PlainBoard, IsConfiguration}
 use Rattle.positions.specs.declared.value.Value.{Value}
 use Rattle.positions.specs.declared.value.Value.TheVariants.{Finite, Forever}
 use Rattle.strategies.specs.Inside.Side.{Side}
-use Rattle.class_documents.specs.Arranged.{arranged}
-use Rattle.class_documents.specs.declared.proof.LabellerClassRow.{LabellerClassRow}
-use Rattle.class_documents.specs.declared.proof.AdversaryClassRow.{AdversaryClassRow}
-use Rattle.class_documents.specs.ClassProof.{IsClassPadded, class_answer_row, class_request_row}
+use Rattle.proof_text.specs.Arranged.{arranged}
+use Rattle.proof_text.specs.declared.class_proof.LabellerClassRow.{LabellerClassRow}
+use Rattle.proof_text.specs.declared.class_proof.AdversaryClassRow.{AdversaryClassRow}
+use Rattle.proof_text.specs.ClassProof.{IsClassPadded, class_answer_row, class_request_row}
 use Rattle.class_strategies.specs.ClassDocument.{AreExactlyClasses, IsLabellerClassRow}
 use Rattle.class_strategies.specs.ClassDocument.{IsAdversaryClassRow}
 use Rattle.class_strategies.specs.Inside.ReachedClasses.{class_numbered, IsClassNumber}

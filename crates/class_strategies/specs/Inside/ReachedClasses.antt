@@ -7,7 +7,7 @@ use Rattle.positions.specs.Game.{Legal, moved}
 use Rattle.positions.specs.Ranks.{digits_of}
 use Rattle.strategies.specs.Best.{IsBestAnswer, IsBestRequest}
 use Rattle.strategies.specs.Document.{IsAnswerable, IsAnswerMove, IsRequestMove}
-use Rattle.class_documents.specs.Arranged.{arranged, order_number}
+use Rattle.proof_text.specs.Arranged.{arranged, order_number}
 use Rattle.class_strategies.specs.ClassDocument.{LeadsByClasses}
 
 -- the place that has the number in the order of documents

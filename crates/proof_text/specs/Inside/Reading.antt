@@ -12,9 +12,12 @@ use Rattle.proof_text.specs.ProofText.{turns_text}
 use Rattle.proof_text.specs.RowWords.{AnswerWords, RequestWords, IsTurnsText, AreAnswerWords}
 use Rattle.proof_text.specs.RowWords.{AreRequestWords, answer_words_line}
 use Rattle.proof_text.specs.RowWords.{request_words_line}
-use Rattle.proof_text.specs.ProofFaults.{SpellsTurns}
+use Rattle.proof_text.specs.RowWords.{ClassRequestWords, AreClassRequestWords}
+use Rattle.proof_text.specs.RowWords.{class_request_words_line}
+use Rattle.proof_text.specs.RowFaults.{SpellsTurns}
 use Rattle.proof_text.specs.declared.row_words.AnswerValues.{AnswerValues}
 use Rattle.proof_text.specs.declared.row_words.RequestValues.{RequestValues}
+use Rattle.proof_text.specs.declared.row_words.ClassRequestValues.{ClassRequestValues}
 use Rattle.proof_text.specs.declared.proof.TheConstants.{MOST_TURNS}
 
 -- the words of a configuration, and the rest
@@ -82,3 +85,21 @@ TakesRequestWords pebbles labels bound (Some values) at old new =
     (words : RequestWords) × AreRequestWords pebbles labels bound words
     × (old ≡ request_words_line words ++ new)
     × RequestSpelled labels bound pebbles words values at
+
+-- the words of an adversary's row by classes spell these values, as far as they spell any
+pub record ClassRequestSpelled (labels bound : ℕ) (words : ClassRequestWords)
+    (values : ClassRequestValues)
+    (at asked : List ℕ) : Type 0 where
+  pub places : SpellPlaces labels bound words.at values.are_places at
+  pub number : NumberOf (MOST_TURNS + 1) words.left values.left
+  pub ask : SpellPlaces labels bound words.ask values.is_place asked
+
+-- The words of an adversary's row by classes were taken.
+abbrev pub TakesClassRequestWords : ℕ → ℕ → ℕ → Option ClassRequestValues → List ℕ → List ℕ → List ℕ
+    → List ℕ → Type 0
+TakesClassRequestWords pebbles labels bound None at asked old new =
+    Lacks (AreClassRequestWords pebbles labels bound) class_request_words_line old
+TakesClassRequestWords pebbles labels bound (Some values) at asked old new =
+    (words : ClassRequestWords) × AreClassRequestWords pebbles labels bound words
+    × (old ≡ class_request_words_line words ++ new)
+    × ClassRequestSpelled labels bound words values at asked

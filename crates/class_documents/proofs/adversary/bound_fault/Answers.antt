@@ -1,6 +1,6 @@
 use Rattle.std.proofs.Common.{rules, ◌≡◌, ◌⊎◌}
 use Rattle.positions.specs.declared.claim.Claim.TheVariants.{Exactly, AtMost}
-use Rattle.class_documents.specs.ClassProof.{plain_class_proof}
+use Rattle.proof_text.specs.ClassProof.{plain_class_proof}
 use Rattle.class_documents.proofs.CheckedRows.{bound_meant}
 use Rattle.class_documents.proofs.adversary.bound_fault.Goals as goal
 use Rattle.class_documents.proofs.adversary.bound_fault.Goals.{in-Exactly, in-Exactly-2}

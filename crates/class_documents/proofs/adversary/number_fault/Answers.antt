@@ -1,7 +1,7 @@
 use Rattle.std.proofs.Common.{ℕ, List, suc, refl, inl, arith}
 use Rattle.std.proofs.lemmas.Bool.{ltb-true, ltb-false}
-use Rattle.class_documents.specs.Arranged.{arranged}
-use Rattle.class_documents.specs.ClassProof.{class_request_row, class_request_rows}
+use Rattle.proof_text.specs.Arranged.{arranged}
+use Rattle.proof_text.specs.ClassProof.{class_request_row, class_request_rows}
 use Rattle.class_documents.proofs.CheckedRows.{adversary_in_order, none_for, row_for, number_tested}
 use Rattle.class_documents.proofs.adversary.number_fault.Goals as goal
 

@@ -1,4 +1,4 @@
-use Rattle.class_documents.specs.ClassProof.{plain_class_proof}
+use Rattle.proof_text.specs.ClassProof.{plain_class_proof}
 use Rattle.class_documents.proofs.ClassClaims.{claim_holds, start_claim_holds}
 use Rattle.class_documents.proofs.ClassDocumentFaults.{no_fault}
 use Rattle.class_documents.proofs.NamedClasses.{names-class}

@@ -1,6 +1,6 @@
 use Rattle.std.proofs.Common.{None, Some, inl, inr, refl}
-use Rattle.class_documents.specs.ClassProof.{class_answer_row, class_request_row}
-use Rattle.class_documents.specs.ClassProof.{plain_class_proof}
+use Rattle.proof_text.specs.ClassProof.{class_answer_row, class_request_row}
+use Rattle.proof_text.specs.ClassProof.{plain_class_proof}
 use Rattle.class_documents.specs.ClassRules.{MeetsClassRequests, MeetsClassAnswers}
 use Rattle.class_documents.specs.ClassFaults.{ClassStartServes, IsWrongClassAnswer, IsWrongClassRequest}
 use Rattle.class_documents.proofs.CheckedRows.{answering, requesting}

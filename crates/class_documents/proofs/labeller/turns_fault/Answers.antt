@@ -1,7 +1,7 @@
 use Rattle.std.proofs.Common.{rules, ℕ, List, ◌↔◌, IsTrue, not, refl, inl}
 use Rattle.proof_text.specs.Rules.{IsEnough, IsWanted}
-use Rattle.class_documents.specs.Arranged.{arranged}
-use Rattle.class_documents.specs.ClassProof.{class_answer_row, class_answer_rows}
+use Rattle.proof_text.specs.Arranged.{arranged}
+use Rattle.proof_text.specs.ClassProof.{class_answer_row, class_answer_rows}
 use Rattle.class_documents.proofs.CheckedRows.{labeller_in_order, none_for, row_for, turns_tested}
 use Rattle.class_documents.proofs.labeller.turns_fault.Goals as goal
 

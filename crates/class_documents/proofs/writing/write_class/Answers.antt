@@ -1,7 +1,7 @@
 use Rattle.std.proofs.Common.{◌≡◌, ◌++◌, ◌∙◌, List, ℕ, take, sym, subst, string_bytes}
 use Rattle.std.specs.Prelude.{OnOk}
 use Rattle.board_text.specs.PlaceForms.{spaced_places}
-use Rattle.class_documents.specs.Arranged.{arranged_at}
+use Rattle.proof_text.specs.Arranged.{arranged_at}
 use Rattle.class_documents.proofs.NamedClasses.{class_at_number}
 use Rattle.class_documents.proofs.writing.write_class.Goals as goal
 

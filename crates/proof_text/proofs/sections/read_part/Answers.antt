@@ -2,63 +2,63 @@ use Rattle.std.proofs.Common.{rules, ◌≡◌, ◌+◌, ◌++◌, ◌∷◌, Li
 use Rattle.std.proofs.lemmas.List.{length_push}
 use Rattle.std.proofs.lemmas.Result.{err_from_is_err_and}
 use Rattle.board_text.specs.LineForms.{number_line}
-use Rattle.proof_text.specs.Inside.RowForm.{at_of}
 use Rattle.proof_text.proofs.SectionLemmas.{come_none, row_push, part_read, line_fault_in}
 use Rattle.proof_text.proofs.sections.read_part.Goals as goal
 
 pub returns-clause-read : goal.returns-clause-read
 returns-clause-read g c =
+    let board = g.B.BoardOfRows.board c.args.board.now in
     let i = c.loop-come.invariant in
-    part_read _ (g.R.Row.form c.args.space.now c.args.claim) _ c.in-Some.count c.loop-come.rows.items _
-    (sym (c.is_asked.ensures c.args.space.now) ∙ c.if-not-is_asked.false)
+    part_read (g.R.Row.reading board c.args.claim) _ c.in-Some.count c.loop-come.rows.items _
+    (sym (c.is_asked.ensures board) ∙ c.if-not-is_asked.false)
     (omega (arith, i.number, i.come.come, c.loop-come-test.false)) i.come
 
 pub returns-in-Err-clause-fault : goal.returns-in-Err-clause-fault
 returns-in-Err-clause-fault g c =
+    let board = g.B.BoardOfRows.board c.args.board.now in
     let i = c.loop-come.invariant in
     rw c.at-in-Err.ensures (
-      sym (c.is_asked.ensures c.args.space.now) ∙ c.if-not-is_asked.false,
-      line_fault_in _ (g.R.Row.form c.args.space.now c.args.claim) _ c.args.line _ c.in-Some.count c.loop-come.least _ _
-          c.in-Err.kind
+      sym (c.is_asked.ensures board) ∙ c.if-not-is_asked.false,
+      line_fault_in (g.R.Row.reading board c.args.claim) (g.met.R.Row.kinds board c.args.claim) _ c.args.line _
+          c.in-Some.count c.loop-come.least _ _ c.in-Err.kind
           i.come (omega (arith, i.number, c.loop-come-test.true)) (omega (arith, i.number)) i.from c.in-Err.ensures,
     )
 
 pub loop-come-preserved : goal.loop-come-preserved
 loop-come-preserved g c =
+    let board = g.B.BoardOfRows.board c.args.board.now in
     let i = c.loop-come.invariant in
-    let form = g.R.Row.form c.args.space.now c.args.claim in
     let next = c.in-Ok.ensures in
-    let rank : c.rank-least.result ≡ form.rank c.in-Ok.row =
-    c.rank-least.ensures ∙ sym (g.met.R.Row.same_rank c.args.space.now c.args.claim c.in-Ok.row) in
     let items : c.push.new.self.items ≡ c.loop-come.rows.items ++ c.in-Ok.row ∷ [] = search rules in
-    let step = row_push _ form _ c.in-Some.count c.loop-come.least _ _ c.in-Ok.row _ c.read.new.text items i.come
-    (omega (arith, i.number, c.loop-come-test.true)) i.from next in
+    let step = row_push (g.R.Row.reading board c.args.claim) _ c.in-Some.count c.loop-come.least c.read.new.least _ _
+    c.in-Ok.row _ c.read.new.text items
+    i.come (omega (arith, i.number, c.loop-come-test.true)) i.from next in
     record {
       come = step.0;
       number = ap length items ∙ length_push c.loop-come.rows.items c.in-Ok.row ∙ ap (λ (n : ℕ). n + 1) i.number;
-      from = rw rank step.1;
-      least = omega (arith, rank, next.2, next.3);
+      from = step.1;
+      least = omega (arith, next.3);
     }
 
 pub returns-in_err-rows-clause-fault : goal.returns-in_err-rows-clause-fault
 returns-in_err-rows-clause-fault g c =
-    let form = g.R.Row.form c.args.space.now c.args.claim in
+    let board = g.B.BoardOfRows.board c.args.board.now in
+    let reading = g.R.Row.reading board c.args.claim in
     let p = err_from_is_err_and c.from_residual.result c.from_residual.ensures.1 in
-    let word : c.as_bytes.result.now ≡ form.word =
-    c.as_bytes.ensures.value ∙ c.word.ensures c.args.space.now c.args.claim in
-    let head : c.args.text.now ≡ number_line form.word c.in-Some.count ++ c.number_line.new.self =
+    let word : c.as_bytes.result.now ≡ reading.form.word =
+    c.as_bytes.ensures.value ∙ c.word.ensures board c.args.claim in
+    let head : c.args.text.now ≡ number_line reading.form.word c.in-Some.count ++ c.number_line.new.self =
     c.in-Some.ensures.1 ∙ ap (λ (w : List ℕ). number_line w c.in-Some.count ++ c.number_line.new.self) word in
     rw (p.1, p.2) (
-      sym (c.is_asked.ensures c.args.space.now) ∙ c.if-not-is_asked.false,
+      sym (c.is_asked.ensures board) ∙ c.if-not-is_asked.false,
       (
         refl,
         (
           c.in-Some.count,
           [],
           c.number_line.new.self,
-          come_none c.args.space.now form.IsRow (at_of c.args.space.now form)
-              (number_line form.word) form.line c.args.text.now c.in-Some.count c.number_line.new.self
-              c.in-Some.ensures.0.1 head,
+          come_none reading c.args.text.now c.in-Some.count c.number_line.new.self
+              (omega (arith, c.in-Some.ensures.0.1, c.most.ensures.value board c.args.claim)) head,
         ),
       ),
     )

@@ -6,4 +6,4 @@ use Rattle.proof_text.proofs.sections.write_rows.Given as goal
 abbrev pub invariant-loop-row : goal.invariant-loop-row
 invariant-loop-row g l = (claim : Claim)
     → l.lines.bytes ≡ string_bytes l.fn.text
-    ++ flat_map (g.R.Row.form l.space claim).line (take l.row-index l.rows)
+    ++ flat_map (g.R.Row.reading (g.B.BoardOfRows.board l.board) claim).form.line (take l.row-index l.rows)

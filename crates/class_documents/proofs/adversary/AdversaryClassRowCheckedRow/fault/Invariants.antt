@@ -1,5 +1,5 @@
 use Rattle.std.proofs.Common.{ℕ, ◌<◌}
-use Rattle.class_documents.specs.ClassProof.{class_request_row, class_request_rows}
+use Rattle.proof_text.specs.ClassProof.{class_request_row, class_request_rows}
 use Rattle.class_documents.specs.ClassRules.{MeetsClassAnswer}
 use Rattle.class_documents.proofs.adversary.AdversaryClassRowCheckedRow.fault.Given as goal
 

@@ -1,5 +1,5 @@
 use Rattle.std.proofs.Common.{ℕ, ◌<◌}
-use Rattle.class_documents.specs.ClassProof.{class_answer_row, class_answer_rows}
+use Rattle.proof_text.specs.ClassProof.{class_answer_row, class_answer_rows}
 use Rattle.class_documents.specs.ClassRules.{MeetsClassRequest}
 use Rattle.class_documents.proofs.labeller.LabellerClassRowCheckedRow.fault.Given as goal
 

@@ -3,7 +3,7 @@ use Rattle.board_text.specs.PlainBoard.{IsConfiguration}
 use Rattle.positions.specs.Value.{HasValue}
 use Rattle.strategies.proofs.AddedRanks.{added_known, added_one}
 use Rattle.strategies.proofs.ValueOrder.{worthless}
-use Rattle.class_documents.specs.Arranged.{arranged}
+use Rattle.proof_text.specs.Arranged.{arranged}
 use Rattle.class_strategies.specs.Inside.ReachedClasses.{number_of_class_at}
 use Rattle.class_strategies.proofs.LikePebbles.{arranged-value}
 use Rattle.class_strategies.proofs.OneClassList.{labellers}

@@ -1,9 +1,0 @@
-pub mod RequestWords
-pub mod OneRequestRow
-pub mod OneClassSection
-pub mod ClassSectionLemmas
-pub mod OneDocument
-pub mod DocumentFaults
-pub mod TextSizes
-pub mod ClassRowLemmas
-pub mod Cited
