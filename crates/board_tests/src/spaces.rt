@@ -10,7 +10,7 @@ use fakes::boards::{
     NO_PAIRS, ONE_PAIR, PAIR_WITHOUT_LABELS, SHARED_LABEL, THREE_CYCLE, THREE_PEBBLES,
 };
 use fakes::build_board;
-use positions::{Space, TooLarge, is_legal};
+use positions::{Space, TooLarge, is_legal, legal_labels};
 use std::alloc::Global;
 use std::process::Abort;
 
@@ -59,7 +59,8 @@ fn ranks_lead_back(space: &Space) -> bool {
     true
 }
 
-/// Whether the space and the slow program agree about each answer to each request.
+/// Whether the space, the set of legal labels and the slow program agree about each answer to each
+/// request.
 fn legal_by_definition(board: &Board, space: &Space) -> bool
     requires same_board { space.now ≡ board.now }
 {
@@ -71,9 +72,10 @@ fn legal_by_definition(board: &Board, space: &Space) -> bool
             return false;
         }
         for pebble in 0..space.pebbles() {
+            let set = legal_labels(board, configuration, pebble);
             for label in 0..space.labels() {
-                if space.legal(board, rank, pebble, label)
-                    != is_legal(board, configuration, pebble, label)
+                let legal = is_legal(board, configuration, pebble, label);
+                if space.legal(board, rank, pebble, label) != legal || set.contains(label) != legal
                 {
                     return false;
                 }
@@ -84,7 +86,7 @@ fn legal_by_definition(board: &Board, space: &Space) -> bool
 }
 
 /// The number of a pebble's legal labels and the smallest of them, by the slow program.
-fn legal_labels(board: &Board, space: &Space, rank: u32, pebble: u8) -> (u32, Option<u16>)
+fn count_legal(board: &Board, space: &Space, rank: u32, pebble: u8) -> (u32, Option<u16>)
     requires same_board { space.now ≡ board.now }
 {
     let mut labels = [0; 6];
@@ -114,7 +116,7 @@ fn answers_by_definition(board: &Board, space: &Space) -> bool
                 space.count_answers(board, gap),
                 space.next_answer(board, gap, 0),
             );
-            if answers != legal_labels(board, space, rank, pebble) {
+            if answers != count_legal(board, space, rank, pebble) {
                 return false;
             }
         }

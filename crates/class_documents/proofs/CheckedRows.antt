@@ -1,5 +1,6 @@
 -- The rows of a document by classes, ready to be checked, and the meaning of a test of the row that is found.
-use Rattle.std.proofs.Common.{◌≡◌, ◌↔◌, ◌⊎◌, Bool, true, false, not, true≢false, IsTrue, ℕ, zero, suc, ◌<◌, ◌≤◌, List, AllPairs}
+use Rattle.std.proofs.Common.{◌≡◌, ◌↔◌, ◌⊎◌, Bool, true, false, not, true≢false, IsTrue, ℕ, zero, suc, ◌<◌, ◌≤◌, List}
+use Rattle.std.proofs.Common.{AllPairs}
 use Rattle.std.proofs.Common.{[], ◌∷◌}
 use Rattle.std.proofs.Common.{length, map, take, set, get_or, slice_get, slice_index, Option, Some, None, MatchOption}
 use Rattle.std.proofs.Common.{refl, sym, ap, ◌∙◌, subst, arith, inl, inr}

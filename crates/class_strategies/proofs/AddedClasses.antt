@@ -7,16 +7,15 @@ use Rattle.positions.specs.Counts.{IsSmallest}
 use Rattle.positions.specs.Game.{Legal, moved}
 use Rattle.positions.specs.Value.{HasValue}
 use Rattle.positions.proofs.Cited.{moved_is_configuration}
-use Rattle.strategies.specs.Best.{IsLess, HasGreatestResult, IsBestAnswer, LowersValue, IsBestRequest}
+use Rattle.strategies.specs.Best.{IsLess, IsBestAnswer, LowersValue}
 use Rattle.strategies.specs.Document.{IsAnswerable}
 use Rattle.strategies.specs.Inside.ReachedRanks.{IsWith, IsWithAll}
 use Rattle.strategies.proofs.AddedRanks.{Below, added_known, added_one, added_same, below_all}
 use Rattle.strategies.proofs.BestAnswers.{same_answer}
-use Rattle.strategies.proofs.BestRequests.{same_request}
 use Rattle.strategies.proofs.ValueOrder.{worthless}
 use Rattle.proof_text.specs.Arranged.{arranged}
 use Rattle.class_strategies.specs.Inside.ReachedClasses.{class_numbered, number_of_class_at, IsClassAnswerStep}
-use Rattle.class_strategies.specs.Inside.ReachedClasses.{ClassAnswerLeads, IsClassRequestStep}
+use Rattle.class_strategies.specs.Inside.ReachedClasses.{ClassAnswerLeads}
 use Rattle.class_strategies.specs.Inside.ReachedClasses.{ClassRequestLeads, IsOnlyOne}
 use Rattle.class_strategies.proofs.LikePebbles.{arranged-value}
 
@@ -31,9 +30,9 @@ none_added numbers P none = added_known numbers P (λ number is. absurd (none nu
 -- ---- the best answer to one request
 
 module _ (board : PlainBoard) (from : List ℕ) (pebble : ℕ) where
-  pub no_answer : IsSmallest (HasGreatestResult board from pebble) None
+  pub no_answer : ((label : ℕ) → Legal board from pebble label → ⊥)
       → IsOnlyOne (IsClassAnswerStep board from pebble) None
-  no_answer none = λ to step. none step.label step.best.0
+  no_answer none = λ to step. none step.label step.best.0.legal
 
   module _ (label : ℕ) (best : IsBestAnswer board from pebble label) (value : Value)
       (is : IsConfiguration board from) (has : HasValue board (moved from pebble label) value) where
@@ -82,28 +81,3 @@ pub no_request_added : (board : PlainBoard) (number : ℕ) (numbers : List ℕ)
     → IsWithAll numbers (ClassRequestLeads board number) numbers
 no_request_added board number numbers none =
     added_known numbers (ClassRequestLeads board number) (λ to leads. absurd (none leads.1.pebble leads.1.best.0))
-
-module _ (board : PlainBoard) (from : List ℕ) (pebble label : ℕ) (best : IsBestRequest board from pebble) where
-  pub illegal_result : ¬ Legal board from pebble label → IsOnlyOne (IsClassRequestStep board from label) None
-  illegal_result not = λ to step.
-      let same : step.pebble ≡ pebble = same_request board from step.pebble pebble step.best best in
-      not (subst (λ (p : ℕ). Legal board from p label) same step.legal)
-
-  pub legal_result : Legal board from pebble label → (to : ℕ) → to ≡ number_of_class_at board (moved from pebble label)
-      → IsOnlyOne (IsClassRequestStep board from label) (Some to)
-  legal_result legal to to_is = (
-    record { pebble = pebble; best = best; legal = legal; to_is = to_is },
-    λ other step.
-        let same : step.pebble ≡ pebble = same_request board from step.pebble pebble step.best best in
-        step.to_is ∙ ap (λ (p : ℕ). number_of_class_at board (moved from p label)) same ∙ sym to_is,
-  )
-
--- the results of all answers
-pub results_added : (board : PlainBoard) (number bound : ℕ) (numbers more : List ℕ) → board.labels ≤ bound
-    → IsWithAll numbers (Below (IsClassRequestStep board (class_numbered board number)) bound) more
-    → IsWithAll numbers (ClassRequestLeads board number) more
-results_added board number bound numbers more end added =
-    let step = IsClassRequestStep board (class_numbered board number) in
-    added_same numbers more (Below step bound) (ClassRequestLeads board number)
-    (λ to. below_all step bound to
-    (λ label is. let low : label < board.labels = is.legal.is_label in omega (arith, low, end))) added

@@ -12,6 +12,8 @@ pub mod OneClassList
 pub mod ReachedNumbers
 pub mod SpreadClasses
 pub mod AddedClasses
+pub mod ExpandedClasses
+pub mod LegalClasses
 pub mod RowsAtClasses
 pub mod MadeClassRows
 pub mod AskedClassRows

@@ -8,7 +8,7 @@ use Rattle.positions.specs.declared.value.Value.TheVariants.{Finite, Forever}
 use Rattle.positions.specs.Table.{AnswerRow, RequestRow}
 use Rattle.positions.specs.Value.{HasValue}
 use Rattle.positions.proofs.Cited.{same_value}
-use Rattle.strategies.specs.Best.{IsLess, IsBestAnswer, IsBestAnswerIfAny, IsBestRequest}
+use Rattle.strategies.specs.Best.{IsLess, IsBestAnswer, IsBestFor, IsBestRequest}
 use Rattle.strategies.specs.Document.{turns_of}
 use Rattle.strategies.proofs.DocumentRows.{answers_one}
 use Rattle.strategies.proofs.MadeRows.{AreTaken}
@@ -25,11 +25,11 @@ module _ (board : PlainBoard) (number size : ℕ) (at : List ℕ) (size_is : siz
 
   -- a class of value 1 or more has an answer to each request
   pub has_answer : IsClassReachedByAnswers board number → (pebble : ℕ) → pebble < board.pebbles
-      → IsBestAnswerIfAny board (take size at) pebble None → ⊥
+      → IsBestFor board (take size at) pebble None → ⊥
   has_answer reached pebble is_pebble none =
       let answer = answers_one board (class_numbered board number) reached.holds.value reached.holds.has_value
       reached.holds.some pebble is_pebble in
-      (subst (λ (c : List ℕ). IsBestAnswerIfAny board c pebble None) held_is none).none.0 refl answer.0 answer.1
+      (subst (λ (c : List ℕ). IsBestFor board c pebble None) held_is none) answer.0 answer.1
 
   -- the labeller's row of the class
   pub labeller_row_is : (start value : Value) (bound : ℕ) (labels : List ℕ) → IsBoard board → board.pebbles ≤ bound

@@ -1,79 +1,57 @@
--- A set of numbers beside the list of them in the order in which they were reached.
-use Rattle.std.proofs.Common.{◌≡◌, ◌≢◌, ◌↔◌, ℕ, ◌⊎◌, cond, true, false, List, [], ◌∷◌, ◌++◌, IsTrue}
-use Rattle.std.proofs.Common.{refl, sym, ap, ◌∙◌, subst, inl, inr}
-use Rattle.std.specs.BTreeSet.{BTreeSet, contains}
-use Rattle.std.specs.BTreeMap.{is_at}
-use Rattle.std.specs.List.{Contains}
-use Rattle.std.specs.List.Sorted.{IsStrictlySortedBy}
+-- A set of numbers that keeps the order in which they were reached.
+use Rattle.std.proofs.Common.{◌≢◌, ◌↔◌, ◌≤◌, IsTrue, ℕ, inl, inr, cond, List, [], ◌∷◌, ◌++◌, get_or, ap, arith}
+use Rattle.std.specs.List.{AllPairs, Contains, IsDistinct}
+use Rattle.std.specs.List.Sorted.{IsPermutation, IsSorted}
 use Rattle.std.specs.Ordering.{nat_cmp}
-use Rattle.std.proofs.lemmas.Bool.{cases_Bool, both_ways}
-use Rattle.std.proofs.lemmas.Cmp.{nat_cmp_total}
-use Rattle.std.proofs.lemmas.List.Elements.{Contains-get_or, Contains-append_left, Contains-push, Contains-push_cases}
-use Rattle.std.proofs.lemmas.List.Quantifiers.{all_pairs_push}
-use Rattle.std.proofs.lemmas.Map.Keys.{below_from_sorted}
-use Rattle.std.proofs.lemmas.Map.Lookups.{exact_unsigned}
-use Rattle.std.proofs.lemmas.Map.Views.{btree_set_contains_iff, tells_apart}
+use Rattle.std.specs.Set.{is_member}
+use Rattle.std.proofs.Math.Dec.{eqb}
+use Rattle.std.proofs.lemmas.Bool.{cases_Bool}
+use Rattle.std.proofs.lemmas.Bool.Decides.{Decides-eqb, not_from_Decides}
+use Rattle.std.proofs.lemmas.Cmp.{nat_eq_equiv}
+use Rattle.std.proofs.lemmas.List.Sorted.{Contains-permutation, IsPermutation-sym, IsNonDecreasingBy-from_sort}
+use Rattle.std.proofs.lemmas.Map.Keys.{IsDistinct-IsPermutation}
+use Rattle.std.proofs.lemmas.Map.Made.{AllPairs-from_IsDistinct, is_member-Decides}
+use Rattle.indexmap.specs.IndexSet.{insert_key}
 use Rattle.strategies.specs.Inside.ReachedRanks.{AreInOrder, IsWith}
-use Rattle.class_strategies.specs.Inside.ReachedClasses.{AreKept}
 
-module _ (set : BTreeSet ℕ) where
-  -- the set has the number exactly if it is one of its keys
-  pub has : (number : ℕ) → IsTrue (contains nat_cmp set number) ↔ Contains set.keys number
-  has number = btree_set_contains_iff nat_cmp_total exact_unsigned set number
+-- no number is there twice
+pub still_apart : (numbers : List ℕ) → IsDistinct eqb numbers → AllPairs (λ first second. first ≢ second) numbers
+still_apart numbers once = AllPairs-from_IsDistinct {eq = eqb} Decides-eqb numbers once
 
-  pub has_not : (number : ℕ) → contains nat_cmp set number ≡ false → ¬ Contains set.keys number
-  has_not number not among = both_ways (contains nat_cmp set number) not ((has number).1 among)
+-- the set's own test tells whether the number is among them
+pub tells : (numbers : List ℕ) (number : ℕ) → IsTrue (is_member eqb numbers number) ↔ Contains numbers number
+tells numbers number = is_member-Decides {eq = eqb} Decides-eqb numbers number
 
--- with one number more
-pub one_key_more : (old new : BTreeSet ℕ) (number : ℕ)
-    → ((q : ℕ) → contains nat_cmp new q ≡ cond (is_at (nat_cmp number) q) true (contains nat_cmp old q))
-    → IsTrue (contains nat_cmp new number)
-    → (other : ℕ) → Contains new.keys other ↔ (Contains old.keys other ⊎ (other ≡ number))
-one_key_more old new number updates here other = (
-  λ among. elim (cases_Bool (is_at (nat_cmp number) other)) [
-    | inl same ↦ inr (sym (tells_apart exact_unsigned number other same))
-    | inr differs ↦ inl ((has old other).0
-        (sym (updates other ∙ ap (λ b. cond b true (contains nat_cmp old other)) differs) ∙ (has new other).1 among))
-  ],
-  λ either. elim either [
-    | inl old_one ↦ (has new other).0 (updates other ∙ elim (cases_Bool (is_at (nat_cmp number) other)) [
-      | inl same ↦ ap (λ b. cond b true (contains nat_cmp old other)) same
-      | inr differs ↦
-          ap (λ b. cond b true (contains nat_cmp old other)) differs ∙ (has old other).1 old_one
-    ])
-    | inr same ↦ subst (Contains new.keys) (sym same) ((has new number).0 here)
-  ],
-)
+-- a number that is put in is the last, or was among the others
+pub key_added : (numbers : List ℕ) (number : ℕ) → IsWith numbers number (insert_key eqb numbers number)
+key_added numbers number =
+    let told = tells numbers number in
+    let more : List ℕ = numbers ++ number ∷ [] in
+    elim (cases_Bool (is_member eqb numbers number)) [
+      | inl there ↦ record {
+        known = λ among. ap (λ b. cond b numbers more) there;
+        other = λ new. absurd (new (told.0 there));
+      }
+      | inr new ↦ record {
+        known = λ among. absurd (not_from_Decides (is_member eqb numbers number) told new among);
+        other = λ not. ap (λ b. cond b numbers more) new;
+      }
+    ]
 
-pub kept_more : (keys numbers more : List ℕ) (number : ℕ) → AreKept keys numbers → ¬ Contains keys number
-    → ((other : ℕ) → Contains more other ↔ (Contains keys other ⊎ (other ≡ number)))
-    → AreKept more (numbers ++ number ∷ [])
-kept_more keys numbers more number kept new each = record {
-  same = λ other. (
-    λ among. elim ((each other).0 among) [
-      | inl old ↦ Contains-append_left numbers (number ∷ []) other ((kept.same other).0 old)
-      | inr last ↦ subst (Contains (numbers ++ number ∷ [])) (sym last) (Contains-push numbers number)
-    ],
-    λ among. (each other).1 (elim (Contains-push_cases numbers number other among) [
-      | inl old ↦ inl ((kept.same other).1 old)
-      | inr last ↦ inr (sym last)
-    ]),
-  );
-  once = all_pairs_push (λ first second. first ≢ second) numbers number kept.once (λ k d inside same.
-      new ((kept.same number).1 (subst (Contains numbers) same (Contains-get_or numbers k d inside))));
-}
-
-pub with_known : (numbers : List ℕ) (number : ℕ) → Contains numbers number → IsWith numbers number numbers
-with_known numbers number among = record { known = λ there. refl; other = λ not. absurd (not among) }
-
-pub with_other : (numbers : List ℕ) (number : ℕ) → ¬ Contains numbers number
-    → IsWith numbers number (numbers ++ number ∷ [])
-with_other numbers number new = record { known = λ there. absurd (new there); other = λ not. refl }
-
--- the keys of the set are the numbers in ascending order
-pub keys_in_order : (keys numbers : List ℕ) → AreKept keys numbers → IsStrictlySortedBy nat_cmp keys
-    → AreInOrder numbers keys
-keys_in_order keys numbers kept sorted = record {
-  each = kept.same;
-  ascending = λ i j d less inside. below_from_sorted keys i j d sorted less inside;
-}
+-- the numbers that are sorted are the same, in ascending order
+pub in_order : (numbers ordered : List ℕ) → IsDistinct eqb numbers → IsPermutation numbers ordered
+    → IsSorted nat_cmp ordered → AreInOrder numbers ordered
+in_order numbers ordered once same sorted =
+    let apart : AllPairs (λ first second. first ≢ second) ordered =
+    still_apart ordered (IsDistinct-IsPermutation eqb nat_eq_equiv.symm numbers ordered same once) in
+    let rises = IsNonDecreasingBy-from_sort (λ (n : ℕ). n) ordered sorted in
+    record {
+      each = λ number. (
+        Contains-permutation ordered numbers number (IsPermutation-sym numbers ordered same),
+        Contains-permutation numbers ordered number same,
+      );
+      ascending = λ i j d less inside.
+          let most : get_or ordered i d ≤ get_or ordered j d = rises i j d (omega arith) inside in
+          let differ : get_or ordered i d ≢ get_or ordered j d = apart i j d less inside in
+          omega (arith, most, differ);
+    }

@@ -284,7 +284,8 @@ module _ (board : PlainBoard) (is : IsConfiguration board board.start) (few : cl
         proof,
         record {
           claim = tt;
-          labeller = answering (section board few _ (IsAnswerRow board claims.Forever) (λ r. r.at) _ _ (forever_row_is board) rows);
+          labeller = answering (section board few _ (IsAnswerRow board claims.Forever) (λ r. r.at) _ _
+              (forever_row_is board) rows);
           adversary = requesting claims.Forever (no_rows board (IsClassRequestRow board) (λ r. r.at));
           no_labeller = λ e. absurd (true≢false e);
           no_adversary = λ e. refl;

@@ -1,16 +1,17 @@
 //! What a document by classes is made from.
 
-ghost use Rattle.std.specs.Prelude.{◌≡◌, ◌<◌};
+ghost use Rattle.std.specs.Prelude.{◌≡◌, ℕ, ◌<◌, None, IfOk, slice_index_or};
 ghost use Rattle.board_text.specs.PlainBoard.{IsConfiguration, PlainBoard};
 ghost use Rattle.positions.specs.Value.{HasValue};
-ghost use Rattle.strategies.specs.Best.{IsBestAnswerIfAny, IsBestRequestIfAny};
+ghost use Rattle.strategies.specs.Best.{IsBestFor, IsBestRequestIfAny};
 
-use board_text::Board;
+use board_text::{Board, MAX_PEBBLES, Memory};
 use positions::Value;
-use strategies::NumberedMoves;
+use std::alloc::Global;
+use strategies::{Best, NumberedMoves};
 
 /// The values of a board and the best moves on it, at configurations given by their places.
-pub trait MovesByPlaces {
+pub trait MovesByPlaces: Drop {
     // The board.
     ghost board: { Self → PlainBoard };
 
@@ -18,41 +19,52 @@ pub trait MovesByPlaces {
     fn board(&self) -> &Board
         ensures { result.now ≡ board self.now };
 
+    /// The same, with all that many rows need found once, here. The error is that memory ran out.
+    fn listed(&self, alloc: Global) -> Result<Self, Memory>
+        ensures { IfOk result (λ listed. board listed ≡ board self.now) };
+
     /// The value of the configuration `held`.
     fn value(&self, held: &[u16]) -> Value
         requires { IsConfiguration (board self.now) held.now }
         ensures { HasValue (board self.now) held.now result };
 
-    /// The best answer to a request of `pebble` at the configuration `held`, if a label is legal:
-    /// the smallest legal label whose result has the greatest value.
-    fn answer(&self, held: &[u16], pebble: u8) -> Option<u16>
-        requires held { IsConfiguration (board self.now) held.now }
-        requires pebble { pebble < (board self.now).pebbles }
-        ensures { IsBestAnswerIfAny (board self.now) held.now pebble result };
-
-    /// The best request at the configuration `held`, if its value is finite: the smallest pebble
-    /// all of whose legal results have a smaller value.
-    fn request(&self, held: &[u16]) -> Option<u8>
+    /// The value of the configuration `held`, and the best answer to a request of each pebble there,
+    /// with the value of its result, if a label is legal: the smallest legal label whose result has
+    /// the greatest value. The entries after those of the pebbles say nothing.
+    fn answers(&self, held: &[u16]) -> (Value, [Option<Best>; MAX_PEBBLES])
         requires { IsConfiguration (board self.now) held.now }
-        ensures { IsBestRequestIfAny (board self.now) held.now result };
+        ensures value { HasValue (board self.now) held.now result.0 }
+        ensures best { (pebble : ℕ) → pebble < (board self.now).pebbles
+            → IsBestFor (board self.now) held.now pebble (slice_index_or result.1 pebble None) };
+
+    /// The value of the configuration `held`, and the best request there, if the value is finite:
+    /// the smallest pebble all of whose legal results have a smaller value.
+    fn request(&self, held: &[u16]) -> (Value, Option<u8>)
+        requires { IsConfiguration (board self.now) held.now }
+        ensures value { HasValue (board self.now) held.now result.0 }
+        ensures request { IsBestRequestIfAny (board self.now) held.now result.1 };
 }
 
-impl MovesByPlaces for NumberedMoves<'_> {
+impl<'a> MovesByPlaces for NumberedMoves<'a> {
     ghost board = { λ moves. moves };
 
     fn board(&self) -> &Board {
         self.board()
     }
 
+    fn listed(&self, alloc: Global) -> Result<NumberedMoves<'a>, Memory> {
+        self.listed(alloc)
+    }
+
     fn value(&self, held: &[u16]) -> Value {
         self.value(held)
     }
 
-    fn answer(&self, held: &[u16], pebble: u8) -> Option<u16> {
-        self.answer(held, pebble)
+    fn answers(&self, held: &[u16]) -> (Value, [Option<Best>; MAX_PEBBLES]) {
+        self.answers(held)
     }
 
-    fn request(&self, held: &[u16]) -> Option<u8> {
-        self.request(held)
+    fn request(&self, held: &[u16]) -> (Value, Option<u8>) {
+        self.valued_request(held)
     }
 }

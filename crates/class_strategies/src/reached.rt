@@ -1,11 +1,11 @@
-//! A set of reached classes that keeps the order in which they were reached.
+//! A set of numbers of classes that keeps the order in which they were reached.
 
-ghost use Rattle.std.specs.Prelude.{◌≡◌, ◌≢◌, [], AllPairs, IfOk, slice_get};
+ghost use Rattle.std.specs.Prelude.{◌≡◌, ◌↔◌, ◌≢◌, [], AllPairs, Contains, IfOk, IsTrue, slice_get};
 ghost use Rattle.strategies.specs.Inside.ReachedRanks.{AreInOrder, IsWith};
 
 use board_text::Memory;
+use indexmap::IndexSet;
 use std::alloc::Global;
-use std::collections::BTreeSet;
 use std::marker::Model;
 
 /// The numbers of classes that were reached, each once.
@@ -13,19 +13,15 @@ use std::marker::Model;
 /// Contracts see them in the order in which they were reached.
 #[derive(Drop)]
 pub(crate) struct Reached {
-    known: BTreeSet<u64>,
-    numbers: Vec<u64>,
+    numbers: IndexSet<u64>,
 }
 
 impl Model for Reached {
     ghost use Rattle.std.specs.Prelude.{ℕ, List};
-    ghost use Rattle.class_strategies.specs.Inside.ReachedClasses.{AreKept};
 
     ghost Value = { List ℕ };
 
-    ghost view = { λ s. s.numbers.items };
-
-    ghost invariant = { λ s. AreKept s.known.keys s.numbers.items };
+    ghost view = { λ s. s.numbers.keys };
 }
 
 impl Reached {
@@ -34,8 +30,7 @@ impl Reached {
         ensures { result ≡ [] }
     {
         Reached {
-            known: BTreeSet::new(alloc),
-            numbers: Vec::new(alloc),
+            numbers: IndexSet::new(alloc),
         }
     }
 
@@ -43,25 +38,27 @@ impl Reached {
     pub(crate) fn add(&mut self, number: u64) -> Result<(), Memory>
         ensures { IfOk result (λ _. IsWith self.old number self.new) }
     {
-        if self.known.contains(&number) {
-            return Ok(());
+        match self.numbers.insert(number) {
+            Ok(_) => Ok(()),
+            Err(_) => Err(Memory),
         }
-        self.numbers.push(number)?;
-        let Ok(_) = self.known.insert(number) else {
-            self.numbers.pop();
-            return Err(Memory);
-        };
-        Ok(())
+    }
+
+    /// Whether `number` is among the others.
+    pub(crate) fn contains(&self, number: u64) -> bool
+        ensures { IsTrue result ↔ Contains self.now number }
+    {
+        self.numbers.contains(&number)
     }
 
     /// The numbers that were reached, in ascending order.
     pub(crate) fn in_order(&self, alloc: Global) -> Result<Vec<u64>, Memory>
         ensures { IfOk result (λ ordered. AreInOrder self.now ordered.items) }
     {
-        let mut ordered = Vec::with_capacity(alloc, self.known.len())?;
-        for number in &self.known {
-            ordered.push(*number)?;
-        }
+        let numbers = self.numbers.as_slice();
+        let mut ordered = Vec::with_capacity(alloc, numbers.len())?;
+        ordered.extend_from_slice(numbers)?;
+        ordered.sort_unstable();
         Ok(ordered)
     }
 
@@ -70,6 +67,6 @@ impl Reached {
         ensures number { result ≡ slice_get self.now index }
         ensures once { AllPairs (λ first second. first ≢ second) self.now }
     {
-        self.numbers.get(index).copied()
+        self.numbers.as_slice().get(index).copied()
     }
 }

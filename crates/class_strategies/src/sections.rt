@@ -56,13 +56,14 @@ impl SectionRow for LabellerClassRow {
         let board = moves.board();
         let at = places_at(board, number);
         let held = &at[..board.pebbles() as usize];
+        let (value, answers) = moves.answers(held);
         let mut take = [0; MAX_PEBBLES];
         for pebble in 0..board.pebbles() {
-            if let Some(label) = moves.answer(held, pebble) {
-                take[pebble as usize] = label;
+            if let Some(best) = answers[pebble as usize] {
+                take[pebble as usize] = best.label;
             }
         }
-        let turns = turns(start, moves.value(held));
+        let turns = turns(start, value);
         Some(LabellerClassRow { at, turns, take })
     }
 }
@@ -73,11 +74,12 @@ impl SectionRow for AdversaryClassRow {
     /// The classes that legal answers to best requests lead to from the start's class.
     fn reached<M: MovesByPlaces>(alloc: Global, moves: &M) -> Result<Reached, Memory> {
         let mut reached = Reached::new(alloc);
+        let mut expanded = Reached::new(alloc);
         let board = moves.board();
         reached.add(class_order(board, board.start()))?;
         let mut index = 0;
         while let Some(number) = reached.at(index) {
-            add_results(moves, number, &mut reached)?;
+            add_results(moves, number, &mut reached, &mut expanded)?;
             index += 1;
         }
         Ok(reached)
@@ -87,10 +89,11 @@ impl SectionRow for AdversaryClassRow {
         let board = moves.board();
         let at = places_at(board, number);
         let held = &at[..board.pebbles() as usize];
-        let Value::Finite(left) = moves.value(held) else {
+        let (value, request) = moves.request(held);
+        let Value::Finite(left) = value else {
             return None;
         };
-        let pebble = moves.request(held)?;
+        let pebble = request?;
         let ask = held[pebble as usize];
         Some(AdversaryClassRow { at, left, ask })
     }

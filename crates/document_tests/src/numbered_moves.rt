@@ -3,9 +3,9 @@
 ghost use Rattle.std.specs.Prelude.{◌≡◌};
 
 use crate::assertions::{assert_same, board_of};
-use board_text::Board;
+use board_text::{Board, Memory};
 use fakes::boards::CYCLE_WITHOUT_LABELS;
-use fakes::{Shape, is_configuration, shaped};
+use fakes::{Shape, is_configuration, once_more, shaped};
 use positions::Value;
 use solved_boards::numbered_values_of;
 use std::alloc::Global;
@@ -21,20 +21,24 @@ struct Best {
     request: Option<u8>,
 }
 
+/// The label of a best answer.
+fn label_of(best: Option<strategies::Best>) -> Option<u16> {
+    let best = best?;
+    Some(best.label)
+}
+
 /// The best moves at a configuration, if it is one and has three pebbles.
 fn best_at(moves: &NumberedMoves<'_>, held: [u16; 3]) -> Option<Best> {
     let board = moves.board();
     if board.pebbles() != 3 || !is_configuration(board, &held) {
         return None;
     }
+    let (value, [first, second, third, ..]) = moves.answers(&held);
+    let (_, request) = moves.valued_request(&held);
     Some(Best {
-        value: moves.value(&held),
-        answers: [
-            moves.answer(&held, 0),
-            moves.answer(&held, 1),
-            moves.answer(&held, 2),
-        ],
-        request: moves.request(&held),
+        value,
+        answers: [label_of(first), label_of(second), label_of(third)],
+        request,
     })
 }
 
@@ -71,30 +75,22 @@ fn best_in_an_order_without_ranks(rt: HostRuntime) {
     // other pebbles, and the adversary asks one that doesn't hold the greatest label.
     let board = shaped(rt.alloc(), Shape::Order, 103, 3).expect(&rt, "a board");
     let values = numbered_values_of(rt.alloc(), &board).expect(&rt, "values");
-    let moves = NumberedMoves::new(&board, &values);
-    assert_best(&rt, &moves, [0, 0, 0], 102, [Some(1), Some(1), Some(1)], 0);
-    assert_best(&rt, &moves, [1, 0, 0], 101, [Some(1), Some(2), Some(2)], 1);
-    assert_best(&rt, &moves, [1, 2, 0], 100, [Some(3), Some(2), Some(3)], 0);
-    assert_best(&rt, &moves, [5, 5, 5], 97, [Some(6), Some(6), Some(6)], 0);
-    assert_best(&rt, &moves, [102, 0, 7], 0, [Some(8), None, None], 1);
-    assert_same(
-        &rt,
-        "2 on 2",
-        legal_at(&moves, &[1, 2, 0], 0, 2),
-        Some(false),
-    );
-    assert_same(
-        &rt,
-        "3 on 2",
-        legal_at(&moves, &[1, 2, 0], 0, 3),
-        Some(true),
-    );
-    assert_same(
-        &rt,
-        "2 on 1",
-        legal_at(&moves, &[1, 2, 0], 1, 2),
-        Some(true),
-    );
+    let unlisted = NumberedMoves::new(&board, &values);
+    let listed = once_more(Memory, || unlisted.listed(rt.alloc()));
+    assert_moves_in_an_order(&rt, &unlisted);
+    assert_moves_in_an_order(&rt, &listed.expect(&rt, "a list"));
+}
+
+/// Asserts the best moves in the order of 103 labels, with three pebbles.
+fn assert_moves_in_an_order(rt: &impl Abort, moves: &NumberedMoves<'_>) {
+    assert_best(rt, moves, [0, 0, 0], 102, [Some(1), Some(1), Some(1)], 0);
+    assert_best(rt, moves, [1, 0, 0], 101, [Some(1), Some(2), Some(2)], 1);
+    assert_best(rt, moves, [1, 2, 0], 100, [Some(3), Some(2), Some(3)], 0);
+    assert_best(rt, moves, [5, 5, 5], 97, [Some(6), Some(6), Some(6)], 0);
+    assert_best(rt, moves, [102, 0, 7], 0, [Some(8), None, None], 1);
+    assert_same(rt, "2 on 2", legal_at(moves, &[1, 2, 0], 0, 2), Some(false));
+    assert_same(rt, "3 on 2", legal_at(moves, &[1, 2, 0], 0, 3), Some(true));
+    assert_same(rt, "2 on 1", legal_at(moves, &[1, 2, 0], 1, 2), Some(true));
 }
 
 /// The best answer to a request of pebble 0 or 1 at a configuration of two, if it is one, and its

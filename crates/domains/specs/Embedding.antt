@@ -6,8 +6,8 @@ use Rattle.board_text.specs.PlainBoard.{PlainBoard, Dominates}
 pub record IsWithin (board wider : PlainBoard) : Type 0 where
   pub labels : board.labels ≤ wider.labels
   pub pebbles : wider.pebbles ≡ board.pebbles
-  pub beats : (x y : ℕ) → x < board.labels → y < board.labels → Dominates board x y
-      → Dominates wider x y
+  pub beats : (x y : ℕ) → x < board.labels → y < board.labels
+      → Dominates board x y → Dominates wider x y
 
 -- each pebble holds a label of the first board, or no label of the second
 pub record IsOnBoth (board wider : PlainBoard) (configuration : List ℕ) : Type 0 where

@@ -59,6 +59,18 @@ beating_same board held words pebble bound blank are label small = (
   λ is. (are label small).1 (is.0, λ other low. is.1 other (omega arith)),
 )
 
+-- once all pebbles were seen, the bits are those of the legal labels
+pub legal_by_places : (board : PlainBoard) (held words : List ℕ) (pebble bound : ℕ) → bound ≡ board.pebbles
+    → AreDominating board held pebble bound words → (label : ℕ) → label < MAX_LABELS
+    → (has_bit words label ≡ true) ↔ Legal board held pebble label
+legal_by_places board held words pebble bound end are label small = (
+  λ set.
+      let is = (are label small).0 set in
+      record { is_label = is.0; dominates = λ other inside differs. is.1 other (omega (arith, inside, end)) differs },
+  λ legal. (are label small).1
+      (legal.is_label, λ other low differs. legal.dominates other (omega (arith, low, end)) differs),
+)
+
 module _ (position : Position) (board space : PlainBoard) (rank : ℕ) (held : List ℕ)
     (is : position_at board rank ≡ position) (has : HasPlaces board space rank held) where
   -- a label is legal exactly if it beats the labels of all other pebbles

@@ -9,6 +9,7 @@ mod label_walk;
 mod laws;
 mod laws_of_gaps;
 mod laws_of_ranks;
+mod legal;
 mod members;
 mod moves;
 mod side;
@@ -31,6 +32,7 @@ pub use laws_of_gaps::{
     answers_of_gaps, gaps_of_configurations, members_of_gaps, pebbles_are_alike,
 };
 pub use laws_of_ranks::{ranks_and_configurations, ranks_are_in_order};
+pub use legal::legal_labels;
 pub use members::Members;
 pub use moves::Moves;
 pub use side::Side;

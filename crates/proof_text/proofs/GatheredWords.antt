@@ -7,14 +7,15 @@ use Rattle.std.specs.Str.{IsAscii}
 use Rattle.std.proofs.Math.Seq.{take-append-add}
 use Rattle.std.proofs.lemmas.Bool.{cases_lt}
 use Rattle.std.proofs.lemmas.Fmt.{IsAscii-decimal}
-use Rattle.std.proofs.lemmas.List.{length-take-le, length-drop, length_push, take-append-le, get_or_append_left, get_or_push}
+use Rattle.std.proofs.lemmas.List.{length-take-le, length-drop, length_push, take-append-le, get_or_append_left}
+use Rattle.std.proofs.lemmas.List.{get_or_push}
 use Rattle.std.proofs.lemmas.Str.{IsAscii-append}
 use Rattle.std.proofs.lemmas.Str.Ascii.{IsAscii-cons, IsAscii-nil}
 use Rattle.board_text.specs.PlaceForms.{place_word}
 use Rattle.board_text.proofs.PlaceLemmas.{blank_word, label_word}
 use Rattle.board_text.proofs.WrittenNumbers.{decimal_one, decimal_more}
 use Rattle.proof_text.specs.declared.row_text.Word.{Word}
-use Rattle.proof_text.specs.Inside.RowText.{IsWord, ArePlaceWords, IsGathered}
+use Rattle.proof_text.specs.Inside.RowText.{IsWordWith, ArePlaceWords, IsGathered}
 
 -- ---- words
 
@@ -24,7 +25,8 @@ digits_two n several few =
     decimal_more n several (omega (arith, few))
     ∙ ap (λ (ds : List ℕ). ds ++ (48 + n % 10) ∷ []) (ap decimal tens ∙ decimal_one (n / 10 % 10) (omega arith))
 
-pub word_one : (n : ℕ) → n < 10 → IsWord (32 ∷ decimal n) (record { bytes = 32 ∷ (48 + n % 10) ∷ 32 ∷ 32 ∷ []; size = 2 })
+pub word_one : (n : ℕ) → n < 10 → IsWordWith (32 ∷ decimal n)
+    (record { bytes = 32 ∷ (48 + n % 10) ∷ 32 ∷ 32 ∷ []; size = 2 })
 word_one n few =
     let same : 48 + n ≡ 48 + n % 10 = omega (arith, few) in
     let is : decimal n ≡ (48 + n % 10) ∷ [] = decimal_one n few ∙ ap (λ d. d ∷ []) same in
@@ -35,7 +37,7 @@ word_one n few =
     }
 
 pub word_two : (n : ℕ) → 10 ≤ n → n < 100
-    → IsWord (32 ∷ decimal n) (record { bytes = 32 ∷ (48 + n / 10 % 10) ∷ (48 + n % 10) ∷ 32 ∷ []; size = 3 })
+    → IsWordWith (32 ∷ decimal n) (record { bytes = 32 ∷ (48 + n / 10 % 10) ∷ (48 + n % 10) ∷ 32 ∷ []; size = 3 })
 word_two n several few = record {
   few = omega arith;
   is = ap (λ (ds : List ℕ). 32 ∷ ds) (sym (digits_two n several few));
@@ -43,7 +45,7 @@ word_two n several few = record {
 }
 
 pub word_three : (n : ℕ) → 100 ≤ n → n < 1000
-    → IsWord (32 ∷ decimal n)
+    → IsWordWith (32 ∷ decimal n)
     (record { bytes = 32 ∷ (48 + n / 100) ∷ (48 + n / 10 % 10) ∷ (48 + n % 10) ∷ []; size = 4 })
 word_three n many few =
     let hundreds : n / 10 / 10 ≡ n / 100 = omega (arith, few) in
@@ -63,7 +65,7 @@ word_three n many few =
 
 pub record AreLabelWords (labels count : ℕ) (words : List Word) : Type 0 where
   pub many : length words ≡ count
-  pub each : (place : ℕ) (d : Word) → place < count → IsWord (32 ∷ place_word labels place) (get_or words place d)
+  pub each : (place : ℕ) (d : Word) → place < count → IsWordWith (32 ∷ place_word labels place) (get_or words place d)
 
 pub labels_begin : (labels : ℕ) (words : List Word) → words ≡ [] → AreLabelWords labels 0 words
 labels_begin labels words none = record {
@@ -72,22 +74,22 @@ labels_begin labels words none = record {
 }
 
 pub labels_more : (labels count : ℕ) (words : List Word) (word : Word) → count < labels
-    → AreLabelWords labels count words → IsWord (32 ∷ decimal count) word
+    → AreLabelWords labels count words → IsWordWith (32 ∷ decimal count) word
     → AreLabelWords labels (count + 1) (words ++ word ∷ [])
 labels_more labels count words word low are is =
     let many : length words ≡ count = are.many in
     record {
       many = length_push words word ∙ omega arith;
       each = λ place d below. elim (cases_lt place count) [
-        | inl before ↦ subst (IsWord (32 ∷ place_word labels place))
+        | inl before ↦ subst (IsWordWith (32 ∷ place_word labels place))
             (sym (get_or_append_left words (word ∷ []) d place (omega arith))) (are.each place d before)
         | inr last ↦
             let same : place ≡ count = omega arith in
             let text : 32 ∷ decimal count ≡ 32 ∷ place_word labels place =
             ap (λ (ds : List ℕ). 32 ∷ ds)
             (sym (ap (place_word labels) same ∙ label_word labels count (λ e. omega (arith, e, low)))) in
-            subst (IsWord (32 ∷ place_word labels place)) (sym (get_or_push words word d place (omega arith)))
-            (subst (λ t. IsWord t word) text is)
+            subst (IsWordWith (32 ∷ place_word labels place)) (sym (get_or_push words word d place (omega arith)))
+            (subst (λ t. IsWordWith t word) text is)
       ];
     }
 
@@ -99,16 +101,17 @@ pub places_end : (labels count : ℕ) (words all : List Word) → count ≡ labe
 places_end labels count words all end are is = subst (ArePlaceWords labels) (sym is) (record {
   many = length_push words blank ∙ (let many : length words ≡ count = are.many in omega arith);
   each = λ place d below. elim (cases_lt place count) [
-    | inl before ↦ subst (IsWord (32 ∷ place_word labels place))
-        (sym (get_or_append_left words (blank ∷ []) d place (let many : length words ≡ count = are.many in omega arith)))
+    | inl before ↦ subst (IsWordWith (32 ∷ place_word labels place))
+        (sym (get_or_append_left words (blank ∷ []) d place (let many : length words ≡ count = are.many in
+        omega arith)))
         (are.each place d before)
     | inr last ↦
         let same : place ≡ labels = omega arith in
         let text : 32 ∷ 45 ∷ [] ≡ 32 ∷ place_word labels place =
         ap (λ (ds : List ℕ). 32 ∷ ds) (sym (ap (place_word labels) same ∙ blank_word labels)) in
-        subst (IsWord (32 ∷ place_word labels place))
+        subst (IsWordWith (32 ∷ place_word labels place))
         (sym (get_or_push words blank d place (let many : length words ≡ count = are.many in omega arith)))
-        (subst (λ t. IsWord t blank) text (record {
+        (subst (λ t. IsWordWith t blank) text (record {
           few = omega arith;
           is = refl;
           ascii = IsAscii-cons 32 (45 ∷ []) (omega arith) (IsAscii-cons 45 [] (omega arith) IsAscii-nil);

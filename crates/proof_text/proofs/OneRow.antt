@@ -38,15 +38,19 @@ pub record RowLaws {X : Type 0} (reading : RowReading X) : Type 1 where
   pub one_kind : (MayStand : List ℕ → Type 0) (rest : List ℕ) (kind other : ProofKind)
       → RowFault reading MayStand rest kind → RowFault reading MayStand rest other → kind ≡ other
   pub sound : (MayStand : List ℕ → Type 0) (row : X) (rest more : List ℕ) (kind : ProofKind)
-      → reading.form.IsRow row → MayStand (reading.form.at row) → rest ≡ reading.form.line row ++ more → RowFault reading MayStand rest kind → ⊥
+      → reading.form.IsRow row → MayStand (reading.form.at row) → rest ≡ reading.form.line row ++ more
+          → RowFault reading MayStand rest kind → ⊥
 
 -- This holds if the words are read in one way: they are misread, or they are those of a row.
-module _ {X : Type 0} (reading : RowReading X) (few : reading.form.most < 2 ^ 32) (Read : List ℕ → Option ProofKind → Type 0)
+module _ {X : Type 0} (reading : RowReading X) (few : reading.form.most < 2 ^ 32) (Read : List ℕ → Option ProofKind
+    → Type 0)
     (one : OneReading reading.form.IsRow reading.form.line)
     (one_read : (rest : List ℕ) (v w : Option ProofKind) → Read rest v → Read rest w → v ≡ w)
     (misread : (rest : List ℕ) (kind : ProofKind) → reading.Misread rest kind → Read rest (Some kind))
-    (right : (row : X) (rest more : List ℕ) → reading.form.IsRow row → rest ≡ reading.form.line row ++ more → Read rest None) where
-  not_misread : (row : X) (rest more : List ℕ) (kind : ProofKind) → reading.form.IsRow row → rest ≡ reading.form.line row ++ more
+    (right : (row : X) (rest more : List ℕ) → reading.form.IsRow row → rest ≡ reading.form.line row ++ more
+        → Read rest None) where
+  not_misread : (row : X) (rest more : List ℕ) (kind : ProofKind) → reading.form.IsRow row
+      → rest ≡ reading.form.line row ++ more
       → reading.Misread rest kind → ⊥
   not_misread row rest more kind is e h =
       let same = one_read rest None (Some kind) (right row rest more is e) (misread rest kind h) in absurd cc
@@ -57,13 +61,15 @@ module _ {X : Type 0} (reading : RowReading X) (few : reading.form.most < 2 ^ 32
 
     abbrev Early : ProofKind → Type 0
     Early kind = (kind ≡ kinds.Order)
-        × ((row : X) × reading.form.IsRow row × (more : List ℕ) × (rest ≡ reading.form.line row ++ more) × ¬ MayStand (reading.form.at row))
+        × ((row : X) × reading.form.IsRow row × (more : List ℕ) × (rest ≡ reading.form.line row ++ more)
+            × ¬ MayStand (reading.form.at row))
 
     early_or_misread : (kind : ProofKind) → Fault kind → Early kind ⊎ reading.Misread rest kind
     early_or_misread kinds.Order h = inl (refl, h)
     early_or_misread kind h = inr h
 
-    same_kind : (kind other : ProofKind) → Early kind ⊎ reading.Misread rest kind → Early other ⊎ reading.Misread rest other
+    same_kind : (kind other : ProofKind) → Early kind ⊎ reading.Misread rest kind → Early other
+        ⊎ reading.Misread rest other
         → kind ≡ other
     same_kind kind other (inl f) (inl g) = f.0 ∙ sym g.0
     same_kind kind other (inl (e, (row, is, more, stands, early))) (inr g) =
@@ -76,7 +82,8 @@ module _ {X : Type 0} (reading : RowReading X) (few : reading.form.most < 2 ^ 32
     one_kind : (kind other : ProofKind) → Fault kind → Fault other → kind ≡ other
     one_kind kind other f g = same_kind kind other (early_or_misread kind f) (early_or_misread other g)
 
-    sound : (row : X) (more : List ℕ) (kind : ProofKind) → reading.form.IsRow row → MayStand (reading.form.at row) → rest ≡ reading.form.line row ++ more
+    sound : (row : X) (more : List ℕ) (kind : ProofKind) → reading.form.IsRow row → MayStand (reading.form.at row)
+        → rest ≡ reading.form.line row ++ more
         → Early kind ⊎ reading.Misread rest kind → ⊥
     sound row more kind is may e (inl (same, (other, is_other, after, f, early))) =
         early (subst (λ (r : X). MayStand (reading.form.at r)) (one row other more after is is_other (sym e ∙ f)).0 may)
@@ -225,12 +232,14 @@ module _ (board : PlainBoard) (claim : Claim) (is_board : IsBoard board) where
 
   pub answer_laws : RowLaws (answers_read (read_by_configurations board) claim)
   answer_laws =
-      row_laws (answers_read (read_by_configurations board) claim) (omega arith) (AnswerRead board claim) one_answer answer_once
+      row_laws (answers_read (read_by_configurations board) claim) (omega arith)
+          (AnswerRead board claim) one_answer answer_once
       (answer_misread board claim) answer_right
 
   pub class_answer_laws : RowLaws (answers_read (read_by_classes board) claim)
   class_answer_laws =
-      row_laws (answers_read (read_by_classes board) claim) (omega arith) (AnswerRead board claim) one_answer answer_once
+      row_laws (answers_read (read_by_classes board) claim) (omega arith)
+          (AnswerRead board claim) one_answer answer_once
       (answer_misread board claim) answer_right
 
 -- ---- an adversary's row

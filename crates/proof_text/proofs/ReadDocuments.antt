@@ -67,7 +67,8 @@ module _ (board : PlainBoard) where
   sections proof =
       record { claim = proof.claim; labeller = proof.labeller.items; adversary = proof.adversary.items }
 
-  pub text_shown : (proof : Proof) → text_of Ranked.version (sections proof) ≡ proof_text board (plain_proof board proof)
+  pub text_shown : (proof : Proof) → text_of Ranked.version (sections proof) ≡ proof_text board
+      (plain_proof board proof)
   text_shown proof =
       whole_text_seen (by_configurations board) (answer_row board) (request_row board) (IsPadded board)
       (λ row. Unit {0}) (sections proof)
@@ -87,7 +88,8 @@ module _ (board : PlainBoard) where
   pub fault_read : (bytes : List ℕ) (line : ℕ) (kind : ProofKind) → HasFaultOf Ranked bytes line kind
       → HasProofFault board bytes line kind
   fault_read bytes line kind =
-      fault_seen (read_by_configurations board) (answer_row board) (request_row board) (IsPadded board) (λ row. Unit {0})
+      fault_seen (read_by_configurations board) (answer_row board) (request_row board) (IsPadded board)
+          (λ row. Unit {0})
       bytes line kind
 
   pub only_read : (proof : Proof) (bytes : List ℕ) → IsBoard board

@@ -1,5 +1,6 @@
 -- From the words of a row to the row, or to its fault.
-use Rattle.std.proofs.Common.{◌≡◌, ℕ, ◌+◌, ◌-◌, ◌^◌, ◌<◌, ◌≤◌, ◌⊎◌, Bool, true, false, List, [], ◌∷◌, ◌++◌, Option, Some}
+use Rattle.std.proofs.Common.{◌≡◌, ℕ, ◌+◌, ◌-◌, ◌^◌, ◌<◌, ◌≤◌, ◌⊎◌, Bool, true, false, List, [], ◌∷◌, ◌++◌, Option}
+use Rattle.std.proofs.Common.{Some}
 use Rattle.std.proofs.Common.{None, length, take, drop, get_or, slice_index, All, refl, sym, ap, subst, ◌∙◌}
 use Rattle.std.proofs.Common.{append_assoc, arith, inl, inr}
 use Rattle.std.proofs.lemmas.List.{length-map, length-take, take_at, get_or-append_right, get_or-drop, get_or-replicate}
@@ -88,7 +89,8 @@ words_fault reading MayStand rest kind none h = h
 
 -- ---- the order of rows
 
-module _ {R : Type 0} (reading : RowReading R) (least : ℕ) {row : R} {old new : List ℕ} (read : RowRead reading.form row old new)
+module _ {R : Type 0} (reading : RowReading R) (least : ℕ) {row : R} {old new : List ℕ}
+    (read : RowRead reading.form row old new)
     (held : List ℕ) (held_is : held ≡ reading.form.at row) where
   order_fault : ¬ IsFrom reading.form least held → RowFault reading (IsFrom reading.form least) old kinds.Order
   order_fault not = (row, read.is, new, read.spelled, subst (λ l. ¬ IsFrom reading.form least l) held_is not)

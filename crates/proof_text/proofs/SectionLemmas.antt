@@ -28,13 +28,15 @@ module _ {R : Type 0} (reading : RowReading R) where
 
   -- places that may follow the last row come after those of all rows
   follows_all : (rows : List R) (places : List ℕ)
-      → AllPairs (λ first second. Before (reading.form.at first) (reading.form.at second)) rows → MayFollow reading.form rows places
+      → AllPairs (λ first second. Before (reading.form.at first) (reading.form.at second)) rows
+          → MayFollow reading.form rows places
       → (k : ℕ) (d : R) → k < length rows → Before (reading.form.at (get_or rows k d)) places
   follows_all rows places ascending follows k d lt =
       let n = length rows - 1 in
       let ends : rows ≡ take n rows ++ get_or rows n d ∷ [] =
       sym (take_all (n + 1) rows (omega arith)) ∙ take_more rows n d (omega arith) in
-      let last : Before (reading.form.at (get_or rows n d)) places = follows.after (take n rows) (get_or rows n d) ends in
+      let last : Before (reading.form.at (get_or rows n d)) places =
+          follows.after (take n rows) (get_or rows n d) ends in
       elim (cases_lt k n) [
         | inl before ↦ let earlier : Before (reading.form.at (get_or rows k d)) (reading.form.at (get_or rows n d)) =
             ascending k n d before (omega arith) in omega (arith, earlier, last)
@@ -42,13 +44,15 @@ module _ {R : Type 0} (reading : RowReading R) where
             subst (λ (i : ℕ). Before (reading.form.at (get_or rows i d)) places) same last
       ]
 
-  rows_push : (rows : List R) (row : R) → AreRows reading.form rows → reading.form.IsRow row → MayFollow reading.form rows (reading.form.at row)
+  rows_push : (rows : List R) (row : R) → AreRows reading.form rows → reading.form.IsRow row
+      → MayFollow reading.form rows (reading.form.at row)
       → length rows < reading.form.most → AreRows reading.form (rows ++ row ∷ [])
   rows_push rows row are is follows few = record {
     few = omega (arith, length_push rows row, few);
     each = All-push reading.form.IsRow rows row are.each is;
     in_order = All-push (λ (r : R). reading.form.AreInOrder (reading.form.at r)) rows row are.in_order follows.in_order;
-    ascending = all_pairs_push (λ first second. Before (reading.form.at first) (reading.form.at second)) rows row are.ascending
+    ascending = all_pairs_push (λ first second. Before (reading.form.at first)
+        (reading.form.at second)) rows row are.ascending
         (follows_all rows (reading.form.at row) are.ascending follows);
   }
 
@@ -71,12 +75,14 @@ module _ {R : Type 0} (reading : RowReading R) where
   from_push rows row least e places = (
     λ follows. record {
       in_order = follows.in_order;
-      above = let after : reading.form.number (reading.form.at row) < reading.form.number places = follows.after rows row refl in
+      above = let after : reading.form.number (reading.form.at row) < reading.form.number places =
+          follows.after rows row refl in
           omega (arith, e, after);
     },
     λ from. record {
       in_order = from.in_order;
-      after = λ before last same. subst (λ (r : R). Before (reading.form.at r) places) (last_is rows before row last same)
+      after = λ before last same. subst (λ (r : R). Before (reading.form.at r) places)
+          (last_is rows before row last same)
           (omega (arith, e, from.above));
     },
   )
@@ -96,7 +102,8 @@ module _ {R : Type 0} (reading : RowReading R) where
   }
 
   -- all rows
-  pub part_read : (text : List ℕ) (count : ℕ) (rows : List R) (rest : List ℕ) → reading.form.asked ≡ true → count ≡ length rows
+  pub part_read : (text : List ℕ) (count : ℕ) (rows : List R) (rest : List ℕ) → reading.form.asked ≡ true
+      → count ≡ length rows
       → RowsCome reading.form text count rows rest → PartRead reading.form rows text rest
   part_read text count rows rest asked all come = record {
     are_rows = come.are_rows;
@@ -115,7 +122,8 @@ module _ {R : Type 0} (reading : RowReading R) where
         record {
           few = come.few;
           come = omega (arith, length_push rows row, short);
-          are_rows = rows_push rows row come.are_rows is ((from (reading.form.at row)).1 may) (omega (arith, short, come.few));
+          are_rows = rows_push rows row come.are_rows is ((from (reading.form.at row)).1 may) (omega (arith, short,
+              come.few));
           spelled = come.spelled ∙ ap (λ (t : List ℕ). number_line reading.form.word count ++ t)
               (ap (λ (t : List ℕ). flat_map reading.form.line rows ++ t) spelled
               ∙ sym (append_assoc (flat_map reading.form.line rows) (reading.form.line row) new)

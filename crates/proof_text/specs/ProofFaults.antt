@@ -87,7 +87,8 @@ HasFaultOf reading text line kinds.Claim = (line ≡ 2) × (rest : List ℕ)
     × (text ≡ reading.version.line ++ rest) × Lacks IsClaim claim_line rest
 HasFaultOf {X} {Y} reading text line kinds.End =
     (proof : Sections X Y) × (rest : List ℕ) × IsDocumentIn reading.version proof
-    × (text ≡ text_before_end reading.version proof ++ rest) × (line ≡ end_number reading.version proof)
+    × (text ≡ text_before_end reading.version proof ++ rest)
+        × (line ≡ end_number reading.version proof)
     × Lacks (λ (u : Unit {0}). Unit {0}) (λ u. end_line) rest
 HasFaultOf {X} {Y} reading text line kinds.Trailing =
     (proof : Sections X Y) × (first : ℕ) × (more : List ℕ) × IsDocumentIn reading.version proof

@@ -43,7 +43,8 @@ request_words_line words =
     with_line_feed (codes "at" ++ (spaced_texts words.at
     ++ (codes " for " ++ (words.left ++ (codes " ask " ++ words.ask)))))
 
--- the texts of an adversary's row by classes: those of its places, of its number, and of the place that is
+-- the texts of an adversary's row by classes: those of its places, of its number, and of the place
+-- that is
 -- asked
 pub record ClassRequestWords : Type 0 where
   pub at : List (List ℕ)

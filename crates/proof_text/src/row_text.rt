@@ -5,7 +5,7 @@ ghost use Rattle.std.specs.Prelude.{string_bytes};
 ghost use Rattle.std.specs.Fmt.{decimal};
 ghost use Rattle.std.specs.Str.{IsAscii};
 ghost use Rattle.board_text.specs.PlaceForms.{place_word};
-ghost use Rattle.proof_text.specs.Inside.RowText.{IsWord, word_text};
+ghost use Rattle.proof_text.specs.Inside.RowText.{IsWordWith, bytes_of_word};
 
 use board_text::{Memory, write_number};
 use std::alloc::{AllocError, Global};
@@ -26,7 +26,7 @@ impl Word {
     /// The word of a number below 1000.
     fn of(number: u32) -> Word
         requires { number < 1000 }
-        ensures { IsWord (32 ∷ decimal number) result }
+        ensures { IsWordWith (32 ∷ decimal number) result }
     {
         let ones = b'0' + (number % 10) as u8;
         let tens = b'0' + (number / 10 % 10) as u8;
@@ -90,7 +90,7 @@ impl PlaceWords {
     /// The word of `place`, if it is one of the board.
     fn word(&self, place: u16) -> Option<Word>
         ensures { MatchOption result (self.now < place)
-            (IsWord (32 ∷ place_word self.now place)) }
+            (IsWordWith (32 ∷ place_word self.now place)) }
     {
         if place > self.labels {
             return None;
@@ -153,8 +153,8 @@ impl RowText {
     /// Appends a word.
     pub(crate) fn push_word(&mut self, word: Word) -> Result<(), AllocError>
         requires few { word.size ≤ 4 }
-        requires ascii { IsAscii (word_text word) }
-        ensures { OnOk result (self.new.bytes ≡ self.old.bytes ++ word_text word) }
+        requires ascii { IsAscii (bytes_of_word word) }
+        ensures { OnOk result (self.new.bytes ≡ self.old.bytes ++ bytes_of_word word) }
     {
         if self.count + 4 > ROOM {
             self.flush()?;
@@ -167,8 +167,8 @@ impl RowText {
     fn put(&mut self, word: Word)
         requires room { self.old.count + 4 ≤ ROOM }
         requires few { word.size ≤ 4 }
-        requires ascii { IsAscii (word_text word) }
-        ensures { self.new.bytes ≡ self.old.bytes ++ word_text word }
+        requires ascii { IsAscii (bytes_of_word word) }
+        ensures { self.new.bytes ≡ self.old.bytes ++ bytes_of_word word }
     {
         let count = self.count;
         self.room[count..count + 4].copy_from_slice(&word.bytes);

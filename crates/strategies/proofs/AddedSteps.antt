@@ -17,8 +17,7 @@ use Rattle.positions.proofs.Cited.{AreFrom, after_step, from_zero, next_of, none
 use Rattle.positions.proofs.Cited.{configuration_at_is}
 use Rattle.solver.specs.LabelSets.{IsInSet}
 use Rattle.strategies.specs.declared.gap_best.Best.{Best}
-use Rattle.strategies.specs.Best.{IsLess, LowersValue, IsBestRequest}
-use Rattle.strategies.specs.Inside.GapBest.{IsBestFor}
+use Rattle.strategies.specs.Best.{IsLess, LowersValue, IsBestRequest, IsBestFor}
 use Rattle.strategies.specs.Inside.ReachedRanks.{IsAnswerStep, RequestLeads, IsWith, IsWithAll, IsAnswerLeadingTo}
 use Rattle.strategies.specs.Inside.ReachedRanks.{IsAnswerOf}
 use Rattle.strategies.specs.Inside.ReachedRanks.{AreExpanded}

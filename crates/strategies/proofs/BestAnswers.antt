@@ -9,7 +9,8 @@ use Rattle.positions.specs.Value.{HasValue}
 use Rattle.positions.proofs.Cited.{dominates_or_not, moved_is_configuration, some_value, same_value}
 use Rattle.strategies.specs.declared.gap_best.Best.{Best}
 use Rattle.strategies.specs.Best.{IsLess, HasSmallerValue, HasNoGreaterValue, HasGreatestResult, IsBestAnswer}
-use Rattle.strategies.specs.Inside.GapBest.{IsBestFor, IsBetter}
+use Rattle.strategies.specs.Best.{IsBestFor}
+use Rattle.strategies.specs.Inside.GapBest.{IsBetter}
 use Rattle.strategies.proofs.ValueOrder.{cases_value, IsLess-trans, not_above, lasts_too, one_smallest}
 
 -- the best label's result has a greater value than the label's, or the same and then the best label isn't larger

@@ -19,8 +19,8 @@ use Rattle.graphs.specs.Numbered.{Numbered}
 use Rattle.solver.specs.GapRequests.{NumberedGap, IsRequestIn, numbered_gap}
 use Rattle.solver.specs.LabelSets.{IsInSet}
 use Rattle.strategies.specs.declared.gap_best.Best.{Best}
-use Rattle.strategies.specs.Best.{IsLess}
-use Rattle.strategies.specs.Inside.GapBest.{IsBestFor, IsBetter, IsGapBest}
+use Rattle.strategies.specs.Best.{IsLess, IsBestFor}
+use Rattle.strategies.specs.Inside.GapBest.{IsBetter, IsGapBest}
 use Rattle.strategies.proofs.BestAnswers.{IsBestBelow, IsFoundBelow, widen, next_label, best_of_all}
 
 -- the configuration is a member of the gap, and the gap is one of the pebble

@@ -12,6 +12,7 @@ pub mod SmallBoard
 pub mod RowLists
 pub mod BitSearch
 pub mod FirstRows
+pub mod FoundAnswers
 pub mod ShownClaims
 pub mod LonePebble
 pub mod BitMarks

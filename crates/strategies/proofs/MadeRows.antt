@@ -11,8 +11,7 @@ use Rattle.positions.specs.declared.value.Value.TheVariants.{Finite}
 use Rattle.positions.specs.Value.{HasValue}
 use Rattle.positions.specs.Ranks.{configuration_at}
 use Rattle.positions.proofs.Cited.{same_value}
-use Rattle.strategies.specs.Best.{IsLess, IsBestAnswer}
-use Rattle.strategies.specs.Inside.GapBest.{IsBestFor}
+use Rattle.strategies.specs.Best.{IsLess, IsBestAnswer, IsBestFor}
 use Rattle.strategies.specs.Document.{IsLabellerRow, turns_of}
 use Rattle.strategies.specs.Inside.ReachedRanks.{IsReachedByAnswers}
 use Rattle.strategies.proofs.DocumentRows.{answers_one}

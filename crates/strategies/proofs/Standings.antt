@@ -9,7 +9,8 @@ use Rattle.graphs.specs.NumberedRanks.{number_in}
 use Rattle.graphs.proofs.Cited.{gap-in-below, number-below}
 use Rattle.solver.specs.GapRequests.{IsRequestIn, numbered_gap}
 use Rattle.strategies.specs.declared.gap_best.Best.{Best}
-use Rattle.strategies.specs.Inside.GapBest.{IsBestFor, IsGapBest}
+use Rattle.strategies.specs.Inside.GapBest.{IsGapBest}
+use Rattle.strategies.specs.Best.{IsBestFor}
 use Rattle.strategies.specs.Inside.MovesAt.{IsStanding}
 
 module _ (n : Numbered) (held : List ℕ) (standing : Standing) (is : IsStanding n held standing) where

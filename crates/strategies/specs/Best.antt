@@ -6,6 +6,7 @@ use Rattle.positions.specs.declared.value.Value.TheVariants.{Finite, Forever}
 use Rattle.positions.specs.Game.{Legal, moved}
 use Rattle.positions.specs.Value.{HasValue}
 use Rattle.positions.specs.Counts.{IsSmallest}
+use Rattle.strategies.specs.declared.gap_best.Best.{Best}
 
 -- the first value is smaller than the second; forever is greater than all numbers
 abbrev pub IsLess : Value → Value → Type 0
@@ -47,6 +48,15 @@ pub record IsBestAnswerIfAny (board : PlainBoard) (configuration : List ℕ) (pe
     (answer : Option ℕ) : Type 0 where
   pub best : IsSmallest (HasGreatestResult board configuration pebble) answer
   pub none : (answer ≡ None) ↔ ((label : ℕ) → Legal board configuration pebble label → ⊥)
+
+-- the best answer to a request of the pebble, with the value of its result; none if no label is
+-- legal
+abbrev pub IsBestFor : PlainBoard → List ℕ → ℕ → Option Best → Type 0
+IsBestFor board configuration pebble (Some best) =
+    IsBestAnswer board configuration pebble best.label
+    × HasValue board (moved configuration pebble best.label) best.value
+IsBestFor board configuration pebble None =
+    (label : ℕ) → Legal board configuration pebble label → ⊥
 
 -- all legal results of a request of the pebble have a smaller value than the configuration
 pub record LowersValue (board : PlainBoard) (configuration : List ℕ) (pebble : ℕ) : Type 0 where

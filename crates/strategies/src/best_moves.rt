@@ -148,7 +148,8 @@ pub fn best_answer(board: &Board, values: &Values, rank: u32, pebble: u8) -> Opt
     requires pebble { pebble < board.now.pebbles }
     ensures { IsBestAnswerIfAny board.now (configuration_at board.now rank) pebble result }
 {
-    BestMoves::new(board, values).answer(rank, pebble)
+    let moves = BestMoves::new(board, values);
+    moves.answer(rank, pebble)
 }
 
 /// The best request at the configuration of `rank`, if its value is finite:
@@ -160,5 +161,6 @@ pub fn best_request(board: &Board, values: &Values, rank: u32) -> Option<u8>
     requires rank { rank < configurations board.now }
     ensures { IsBestRequestIfAny board.now (configuration_at board.now rank) result }
 {
-    BestMoves::new(board, values).request(rank)
+    let moves = BestMoves::new(board, values);
+    moves.request(rank)
 }

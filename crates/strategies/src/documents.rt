@@ -33,9 +33,8 @@ impl BestMoves<'_> {
             (answer_rows self.now proof.labeller.items)
             (request_rows self.now proof.adversary.items) proof.claim) }
     {
-        let best = GapBest::new(self.values().numbered());
-        let listed = best.list(alloc)?;
-        let moves = BestMoves::by(self.board(), self.values(), best.with_listed(&listed));
+        let best = GapBest::new(self.values().numbered()).listed(alloc)?;
+        let moves = BestMoves::by(self.board(), self.values(), best);
         let value = moves.value(moves.start());
         let labeller = section(alloc, &moves, value)?;
         let adversary = match value {
@@ -62,9 +61,8 @@ impl BestMoves<'_> {
             (answer_rows self.now proof.labeller.items)
             (request_rows self.now proof.adversary.items) proof.claim) }
     {
-        let best = GapBest::new(self.values().numbered());
-        let listed = best.list(alloc)?;
-        let moves = BestMoves::by(self.board(), self.values(), best.with_listed(&listed));
+        let best = GapBest::new(self.values().numbered()).listed(alloc)?;
+        let moves = BestMoves::by(self.board(), self.values(), best);
         let value = moves.value(moves.start());
         let labeller = section_in_parts(rt, alloc, &moves, value, parts)?;
         let adversary = match value {
@@ -114,5 +112,6 @@ pub fn document(alloc: Global, board: &Board, values: &Values) -> Result<Proof, 
         (answer_rows board.now proof.labeller.items)
         (request_rows board.now proof.adversary.items) proof.claim) }
 {
-    BestMoves::new(board, values).document(alloc)
+    let moves = BestMoves::new(board, values);
+    moves.document(alloc)
 }

@@ -13,9 +13,9 @@ use std::marker::Model;
 
 /// The best answer to a request, and the value of the configuration after it.
 #[derive(Clone, Copy)]
-pub(crate) struct Best {
-    pub(crate) label: u16,
-    pub(crate) value: Value,
+pub struct Best {
+    pub label: u16,
+    pub value: Value,
 }
 
 /// The best answers of gaps, by their numbers.
@@ -25,7 +25,7 @@ pub(crate) struct Best {
 pub(crate) struct GapBest<'a> {
     values: &'a NumberedValues,
     /// The best answer of each gap, or `None` if it is found whenever it is asked for.
-    listed: Option<&'a [Option<Best>]>,
+    listed: Option<Vec<Option<Best>>>,
 }
 
 impl<'a> Model for GapBest<'a> {
@@ -38,7 +38,7 @@ impl<'a> Model for GapBest<'a> {
     ghost view = { λ s. s.values.now };
 
     ghost invariant = { λ s. MatchOption s.listed (Unit {0})
-        (λ listed. AreGapsBest s.values.now listed.now) };
+        (λ listed. AreGapsBest s.values.now listed.items) };
 }
 
 impl<'a> GapBest<'a> {
@@ -52,15 +52,14 @@ impl<'a> GapBest<'a> {
         }
     }
 
-    /// The same, as `listed` has them.
-    pub(crate) fn with_listed(self, listed: &'a [Option<Best>]) -> GapBest<'a>
-        requires { AreGapsBest self listed.now }
-        ensures { result ≡ self.entry }
+    /// The same, each found once, here. The error is that memory ran out.
+    pub(crate) fn listed(&self, alloc: Global) -> Result<GapBest<'a>, Memory>
+        ensures { IfOk result (λ best. best ≡ self.now) }
     {
-        GapBest {
+        Ok(GapBest {
             values: self.values,
-            listed: Some(listed),
-        }
+            listed: Some(self.list(alloc)?),
+        })
     }
 
     /// The values by the numbers of gaps.
@@ -71,7 +70,7 @@ impl<'a> GapBest<'a> {
     }
 
     /// The best answer of each gap.
-    pub(crate) fn list(&self, alloc: Global) -> Result<Vec<Option<Best>>, Memory>
+    fn list(&self, alloc: Global) -> Result<Vec<Option<Best>>, Memory>
         ensures { IfOk result (λ answers. AreGapsBest self.now answers.items) }
     {
         let gaps = self.values.gaps();
@@ -87,7 +86,7 @@ impl<'a> GapBest<'a> {
         requires { gap < (graph_of self.now).gaps }
         ensures { IsGapBest (numbered_gap self.now gap) result }
     {
-        match self.listed {
+        match &self.listed {
             Some(listed) => listed[gap as usize],
             None => best_of(&self.values.results(gap)),
         }

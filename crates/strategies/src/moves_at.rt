@@ -1,16 +1,17 @@
 //! The best moves at one configuration.
 
-ghost use Rattle.std.specs.Prelude.{◌≡◌, ◌<◌, ◌↔◌, IsTrue};
+ghost use Rattle.std.specs.Prelude.{◌≡◌, ℕ, ◌<◌, ◌↔◌, None, IsTrue, slice_index_or};
 ghost use Rattle.board_text.specs.PlainBoard.{IsBoard, IsConfiguration};
 ghost use Rattle.positions.specs.Game.{Legal};
 ghost use Rattle.positions.specs.Value.{HasValue};
 ghost use Rattle.solver.specs.GapRequests.{IsRequestIn};
-ghost use Rattle.strategies.specs.Best.{IsBestAnswerIfAny, IsBestRequestIfAny};
-ghost use Rattle.strategies.specs.Inside.GapBest.{IsBestFor, LeadsBelow};
+ghost use Rattle.strategies.specs.Best.{IsBestAnswerIfAny, IsBestRequestIfAny, IsBestFor};
+ghost use Rattle.strategies.specs.Inside.GapBest.{LeadsBelow};
 ghost use Rattle.strategies.specs.Inside.MovesAt.{position};
 
 use crate::configuration::Configuration;
 use crate::gap_best::{Best, GapBest};
+use board_text::MAX_PEBBLES;
 use classes::Standing;
 use positions::Value;
 use solver::Results;
@@ -89,6 +90,18 @@ impl<'a> MovesAt<'a> {
         ensures { IsBestFor self.now.board self.now.held pebble result }
     {
         self.best.of(self.standing.gaps[pebble as usize])
+    }
+
+    /// The best answer to a request of each pebble, as `answer` gives it.
+    pub(crate) fn answers(&self) -> [Option<Best>; MAX_PEBBLES]
+        ensures { (pebble : ℕ) → pebble < self.now.board.pebbles
+            → IsBestFor self.now.board self.now.held pebble (slice_index_or result pebble None) }
+    {
+        let mut answers = [None; MAX_PEBBLES];
+        for pebble in 0..self.pebbles() {
+            answers[pebble as usize] = self.answer(pebble);
+        }
+        answers
     }
 
     /// The best request, if the value of the configuration is finite: the smallest pebble all of

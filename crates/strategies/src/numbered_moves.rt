@@ -1,18 +1,19 @@
 //! The best answers to requests and the best requests at configurations given by their places.
 
-ghost use Rattle.std.specs.Prelude.{◌≡◌, ◌<◌, ◌↔◌, IsTrue};
+ghost use Rattle.std.specs.Prelude.{◌≡◌, ℕ, ◌<◌, ◌↔◌, None, IfOk, IsTrue, slice_index_or};
 ghost use Rattle.board_text.specs.PlainBoard.{IsBoard, IsConfiguration};
 ghost use Rattle.positions.specs.Game.{Legal};
 ghost use Rattle.positions.specs.Value.{HasValue};
-ghost use Rattle.strategies.specs.Best.{IsBestAnswerIfAny, IsBestRequestIfAny};
+ghost use Rattle.strategies.specs.Best.{IsBestAnswerIfAny, IsBestFor, IsBestRequestIfAny};
 ghost use Rattle.strategies.specs.Inside.MovesAt.{position};
 
 use crate::configuration::Configuration;
-use crate::gap_best::GapBest;
+use crate::gap_best::{Best, GapBest};
 use crate::moves_at::MovesAt;
-use board_text::Board;
+use board_text::{Board, MAX_PEBBLES, Memory};
 use positions::Value;
 use solver::NumberedValues;
+use std::alloc::Global;
 use std::marker::Model;
 
 /// The best moves on a board, by its values. Configurations are given by their places, so the
@@ -53,6 +54,15 @@ impl<'a> NumberedMoves<'a> {
         NumberedMoves { board, best }
     }
 
+    /// The same moves, which find the best answers of all gaps here, once. The error is that memory
+    /// ran out.
+    pub fn listed(&self, alloc: Global) -> Result<NumberedMoves<'a>, Memory>
+        ensures { IfOk result (λ moves. moves ≡ self.now) }
+    {
+        let best = self.best.listed(alloc)?;
+        Ok(NumberedMoves::by(self.board, best))
+    }
+
     /// The board.
     pub fn board(&self) -> &'a Board
         ensures { result.now ≡ self.now }
@@ -86,6 +96,29 @@ impl<'a> NumberedMoves<'a> {
         ensures { IsBestAnswerIfAny self.now held.now pebble result }
     {
         self.at(held).label(pebble)
+    }
+
+    /// The value of the configuration `held`, and the best answer to a request of each pebble there,
+    /// with the value of its result, if a label is legal. The entries after those of the pebbles say
+    /// nothing.
+    pub fn answers(&self, held: &[u16]) -> (Value, [Option<Best>; MAX_PEBBLES])
+        requires { IsConfiguration self.now held.now }
+        ensures value { HasValue self.now held.now result.0 }
+        ensures best { (pebble : ℕ) → pebble < self.now.pebbles
+            → IsBestFor self.now held.now pebble (slice_index_or result.1 pebble None) }
+    {
+        let here = self.at(held);
+        (here.value(), here.answers())
+    }
+
+    /// The value of the configuration `held`, and the best request there, as `request` gives it.
+    pub fn valued_request(&self, held: &[u16]) -> (Value, Option<u8>)
+        requires { IsConfiguration self.now held.now }
+        ensures value { HasValue self.now held.now result.0 }
+        ensures request { IsBestRequestIfAny self.now held.now result.1 }
+    {
+        let here = self.at(held);
+        (here.value(), here.request())
     }
 
     /// The best request at the configuration `held`, if its value is finite: the smallest pebble

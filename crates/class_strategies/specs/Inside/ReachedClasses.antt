@@ -1,7 +1,7 @@
 -- Classes by their numbers in the order of documents, the steps from one to another, and those that
 -- are reached from the start's.
-use Rattle.std.specs.Prelude.{◌≡◌, ℕ, zero, suc, ◌+◌, ◌<◌, ◌↔◌, ◌≢◌, List, map, Option, Some, None}
-use Rattle.std.specs.Prelude.{Contains, AllPairs}
+use Rattle.std.specs.Prelude.{◌≡◌, ℕ, zero, suc, ◌+◌, ◌<◌, ◌↔◌, List, map, Option, Some, None}
+use Rattle.std.specs.Prelude.{Contains}
 use Rattle.board_text.specs.PlainBoard.{PlainBoard, IsConfiguration}
 use Rattle.positions.specs.Game.{Legal, moved}
 use Rattle.positions.specs.Ranks.{digits_of}
@@ -85,7 +85,20 @@ abbrev pub AreClassNumbersOf : PlainBoard → (ℕ → Type 0) → List ℕ → 
 AreClassNumbersOf board P numbers =
     (number : ℕ) → Contains numbers number ↔ (IsClassNumber board number × P number)
 
--- the keys are the numbers, of which each is there once
-pub record AreKept (keys numbers : List ℕ) : Type 0 where
-  pub same : (number : ℕ) → Contains keys number ↔ Contains numbers number
-  pub once : AllPairs (λ first second. first ≢ second) numbers
+-- the label is a legal answer to a request of the pebble, and leads from the configuration to the
+-- class
+pub record IsLegalStep (board : PlainBoard) (from : List ℕ) (pebble label to : ℕ) : Type 0 where
+  pub legal : Legal board from pebble label
+  pub to_is : to ≡ number_of_class_at board (moved from pebble label)
+
+-- some legal answer to a request of the pebble leads from the configuration to the class
+abbrev pub LegalLeads : PlainBoard → List ℕ → ℕ → ℕ → Type 0
+LegalLeads board from pebble to = (label : ℕ) × IsLegalStep board from pebble label to
+
+-- the classes after all legal answers to each request are among the numbers, if the class after
+-- its pebble is put on the label 0, which stands for the request's gap, is among the expanded ones
+abbrev pub AreExpandedClasses : PlainBoard → List ℕ → List ℕ → Type 0
+AreExpandedClasses board expanded numbers = (from : List ℕ) (pebble : ℕ)
+    → IsConfiguration board from → pebble < board.pebbles
+    → Contains expanded (number_of_class_at board (moved from pebble 0))
+    → (to : ℕ) → LegalLeads board from pebble to → Contains numbers to

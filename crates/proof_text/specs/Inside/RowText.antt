@@ -6,20 +6,20 @@ use Rattle.proof_text.specs.declared.row_text.Word.{Word}
 use Rattle.proof_text.specs.declared.row_text.TheConstants.{ROOM}
 
 -- the bytes of a word
-abbrev pub word_text : Word → List ℕ
-word_text word = take word.size word.bytes
+abbrev pub bytes_of_word : Word → List ℕ
+bytes_of_word word = take word.size word.bytes
 
 -- the word has this text
-pub record IsWord (text : List ℕ) (word : Word) : Type 0 where
+pub record IsWordWith (text : List ℕ) (word : Word) : Type 0 where
   pub few : word.size ≤ 4
-  pub is : word_text word ≡ text
+  pub is : bytes_of_word word ≡ text
   pub ascii : IsAscii text
 
 -- a word for each place, and one for a pebble that holds no label
 pub record ArePlaceWords (labels : ℕ) (words : List Word) : Type 0 where
   pub many : length words ≡ suc labels
   pub each : (place : ℕ) (d : Word) → place ≤ labels
-      → IsWord (32 ∷ place_word labels place) (slice_index_or words place d)
+      → IsWordWith (32 ∷ place_word labels place) (slice_index_or words place d)
 
 -- the bytes of a text with those that are gathered after it, and how many these are
 pub record RowBytes : Type 0 where

@@ -1,20 +1,10 @@
 -- The best answers of gaps, with the values that they lead to.
 use Rattle.std.specs.Prelude.{◌≡◌, ℕ, ◌<◌, List, length, Option, None, Some, slice_index_or}
-use Rattle.board_text.specs.PlainBoard.{PlainBoard}
 use Rattle.graphs.specs.Numbered.{Numbered, graph_of}
 use Rattle.positions.specs.declared.value.Value.{Value}
-use Rattle.positions.specs.Game.{Legal, moved}
-use Rattle.positions.specs.Value.{HasValue}
 use Rattle.solver.specs.GapRequests.{NumberedGap, IsRequestIn, numbered_gap}
 use Rattle.strategies.specs.declared.gap_best.Best.{Best}
-use Rattle.strategies.specs.Best.{IsLess, IsBestAnswer}
-
--- the best answer to a request, with the value of its result; none if no label is legal
-abbrev pub IsBestFor : PlainBoard → List ℕ → ℕ → Option Best → Type 0
-IsBestFor board configuration pebble (Some best) =
-    IsBestAnswer board configuration pebble best.label × HasValue board
-    (moved configuration pebble best.label) best.value
-IsBestFor board configuration pebble None = (label : ℕ) → Legal board configuration pebble label → ⊥
+use Rattle.strategies.specs.Best.{IsLess, IsBestFor}
 
 -- the better of the best answer so far and a later one, which must lead to a greater value
 abbrev pub IsBetter : Option Best → Best → Best → Type 0

@@ -20,7 +20,7 @@ returns-in_default g c =
     let at = (goal.at.returns-in_default g c).After-pebbles in
     no_request (g.M.MovesByPlaces.board c.args.moves.now) c.args.number c.pebbles.result c.places_at-at.result
     (size g at) (here g at)
-    c.in_default.ensures
+    (rw c.in_default.is at c.request-value.ensures.value)
 
 pub returns-in_err-pebble : goal.returns-in_err-pebble
 returns-in_err-pebble g c =
@@ -28,15 +28,16 @@ returns-in_err-pebble g c =
     rw c.from_residual.ensures
     (no_request (g.M.MovesByPlaces.board c.args.moves.now) c.args.number c.pebbles.result c.places_at-at.result
     (size g at) (here g at)
-    (c.request.ensures.none.0 c.in_err-pebble.was))
+    (c.request-value.ensures.request.none.0 c.in_err-pebble.was))
 
 pub returns : goal.returns
 returns g c =
     let at = (goal.at.returns g c).After-pebbles in (
       adversary_row_is (g.M.MovesByPlaces.board c.args.moves.now) c.args.number c.pebbles.result c.places_at-at.result
           (size g at) (here g at)
-          c.in_ok-pebble.pebble c.in-Finite.left c.requires.0 c.requires.1 c.in-Finite.ensures
-          c.in_ok-pebble.ensures.best,
+          c.in_ok-pebble.pebble c.in-Finite.left c.requires.0 c.requires.1
+          (rw c.in-Finite.is at c.request-value.ensures.value)
+          (rw c.in_ok-pebble.was at c.request-value.ensures.request).best,
       here g at,
       rw c.board-board.ensures at c.places_at-at.ensures.padded,
     )

@@ -27,15 +27,16 @@ loop-pebble-preserved g c =
     let is_board = rw c.board-board.ensures at c.pebbles.ensures.is_board in
     let is_pebble : pebble < b.pebbles = omega (arith, end, c.loop-pebble-test.true) in
     let low : pebble < MAX_PEBBLES = omega (arith, is_pebble, is_board.pebbles.1) in
-    elim c.match-answer.branch [
+    let best = c.answers-value.ensures.best pebble is_pebble in
+    elim c.match-answers-pebble.branch [
       | in-Some w ↦ rw w.take-is
           (taken_more b
-          (class_numbered b c.args.number) pebble w.in-Some.label c.loop-pebble.take low c.loop-pebble.invariant
-          (subst (λ (l : List ℕ). IsBestAnswer b l pebble w.in-Some.label)
+          (class_numbered b c.args.number) pebble w.in-Some.best.label c.loop-pebble.take low c.loop-pebble.invariant
+          (subst (λ (l : List ℕ). IsBestAnswer b l pebble w.in-Some.best.label)
           (held_is b c.args.number c.pebbles.result c.places_at-at.result (size g at)
-          (here g at)) w.in-Some.ensures.best))
+          (here g at)) (rw w.in-Some.is at best).0))
       | in_default w ↦ absurd (has_answer b c.args.number c.pebbles.result c.places_at-at.result (size g at) (here g at)
-          c.requires.1 pebble is_pebble w.in_default.ensures)
+          c.requires.1 pebble is_pebble (rw w.in_default.is at best))
     ]
 
 pub returns : goal.returns
@@ -46,9 +47,9 @@ returns g c =
     let past : b.pebbles ≤ c.loop-pebble.pebble = omega (arith, end, c.loop-pebble-test.false) in
     rw c.turns-turns.ensures (
       labeller_row_is b c.args.number c.pebbles.result c.places_at-at.result (size g at) (here g at) c.args.start
-          c.value.result c.loop-pebble.pebble c.loop-pebble.take
+          c.answers-value.result.0 c.loop-pebble.pebble c.loop-pebble.take
           (rw c.board-board.ensures at c.pebbles.ensures.is_board)
-          past c.requires.1 c.value.ensures c.loop-pebble.invariant,
+          past c.requires.1 c.answers-value.ensures.value c.loop-pebble.invariant,
       here g at,
       (
         rw c.board-board.ensures at c.places_at-at.ensures.padded,

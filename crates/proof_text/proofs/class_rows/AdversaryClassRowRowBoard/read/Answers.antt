@@ -59,7 +59,8 @@ returns-in_default-left c =
     let taken = words_of (goal.at.returns-in_default-left c).In-Some in
     let held = class_request_held taken c.if-not-values.false c.if-not-values-2.false c.pebbles-pebbles.result
     c.pebbles-pebbles.ensures.value in
-    let asked = held_asked _ _ (get_or c.class_request_words.new.ask 0 0) c.contains.result c.contains.ensures.value held
+    let asked = held_asked _ _
+        (get_or c.class_request_words.new.ask 0 0) c.contains.result c.contains.ensures.value held
     c.if-not-contains.false in
     class_request_number taken c.if-not-values.false c.if-not-values-2.false asked c.in_default-left.is
 
@@ -76,7 +77,8 @@ returns-in_default-arranged_order c =
     let taken = words_of (goal.at.returns-in_default-arranged_order c).In-Some in
     let held = class_request_held taken c.if-not-values.false c.if-not-values-2.false c.pebbles-pebbles.result
     c.pebbles-pebbles.ensures.value in
-    let asked = held_asked _ _ (get_or c.class_request_words.new.ask 0 0) c.contains.result c.contains.ensures.value held
+    let asked = held_asked _ _
+        (get_or c.class_request_words.new.ask 0 0) c.contains.result c.contains.ensures.value held
     c.if-not-contains.false in
     let read = padded_request taken c.if-not-values.false c.if-not-values-2.false asked c.args._claim
     c.in-Some-left.left c.pebbles-pebbles.result c.in-Some-left.is c.pebbles-pebbles.ensures.value in
@@ -90,7 +92,8 @@ returns-then-number-least c =
     let taken = words_of (goal.at.returns-then-number-least c).In-Some in
     let held = class_request_held taken c.if-not-values.false c.if-not-values-2.false c.pebbles-pebbles.result
     c.pebbles-pebbles.ensures.value in
-    let asked = held_asked _ _ (get_or c.class_request_words.new.ask 0 0) c.contains.result c.contains.ensures.value held
+    let asked = held_asked _ _
+        (get_or c.class_request_words.new.ask 0 0) c.contains.result c.contains.ensures.value held
     c.if-not-contains.false in
     let read = padded_request taken c.if-not-values.false c.if-not-values-2.false asked c.args._claim
     c.in-Some-left.left c.pebbles-pebbles.result c.in-Some-left.is c.pebbles-pebbles.ensures.value in
@@ -104,7 +107,8 @@ returns c =
     let taken = words_of (goal.at.returns c).In-Some in
     let held = class_request_held taken c.if-not-values.false c.if-not-values-2.false c.pebbles-pebbles.result
     c.pebbles-pebbles.ensures.value in
-    let asked = held_asked _ _ (get_or c.class_request_words.new.ask 0 0) c.contains.result c.contains.ensures.value held
+    let asked = held_asked _ _
+        (get_or c.class_request_words.new.ask 0 0) c.contains.result c.contains.ensures.value held
     c.if-not-contains.false in
     let read = padded_request taken c.if-not-values.false c.if-not-values-2.false asked c.args._claim
     c.in-Some-left.left c.pebbles-pebbles.result c.in-Some-left.is c.pebbles-pebbles.ensures.value in

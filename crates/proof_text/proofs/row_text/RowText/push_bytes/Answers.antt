@@ -4,7 +4,8 @@ use Rattle.std.proofs.lemmas.List.{take_all}
 use Rattle.proof_text.proofs.GatheredWords.{gathered_more, bytes_more}
 use Rattle.proof_text.proofs.row_text.RowText.push_bytes.Goals as goal
 use Rattle.proof_text.proofs.row_text.RowText.push_bytes.Goals.{After-copy_from_slice}
-use Rattle.proof_text.proofs.row_text.RowText.push_bytes.Goals.{then-self-bytes-gt-ROOM+in_ok-flush, else-self-bytes-gt-ROOM}
+use Rattle.proof_text.proofs.row_text.RowText.push_bytes.Goals.{then-self-bytes-gt-ROOM+in_ok-flush}
+use Rattle.proof_text.proofs.row_text.RowText.push_bytes.Goals.{else-self-bytes-gt-ROOM}
 
 -- there is room, after the gathered bytes were appended if there was none
 fits : (c : After-copy_from_slice) → c.self-2.inside.count + length c.args.bytes.now ≤ 512

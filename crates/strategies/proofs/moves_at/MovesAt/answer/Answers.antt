@@ -1,5 +1,5 @@
 use Rattle.std.proofs.Common.{subst}
-use Rattle.strategies.specs.Inside.GapBest.{IsBestFor}
+use Rattle.strategies.specs.Best.{IsBestFor}
 use Rattle.strategies.specs.Inside.MovesAt.{HeldPosition}
 use Rattle.strategies.proofs.Standings.{best-there, gap-fits}
 use Rattle.strategies.proofs.moves_at.MovesAt.answer.Goals as goal
