@@ -75,7 +75,8 @@ fn legal_by_definition(board: &Board, space: &Space) -> bool
             let set = legal_labels(board, configuration, pebble);
             for label in 0..space.labels() {
                 let legal = is_legal(board, configuration, pebble, label);
-                if space.legal(board, rank, pebble, label) != legal || set.contains(label) != legal
+                if space.legal(board, rank, pebble, label) != legal
+                    || set.contains(label) != legal
                 {
                     return false;
                 }

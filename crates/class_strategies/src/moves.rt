@@ -28,9 +28,9 @@ pub trait MovesByPlaces: Drop {
         requires { IsConfiguration (board self.now) held.now }
         ensures { HasValue (board self.now) held.now result };
 
-    /// The value of the configuration `held`, and the best answer to a request of each pebble there,
-    /// with the value of its result, if a label is legal: the smallest legal label whose result has
-    /// the greatest value. The entries after those of the pebbles say nothing.
+    /// The value of the configuration `held`, and the best answer to a request of each pebble
+    /// there, with the value of its result, if a label is legal: the smallest legal label whose
+    /// result has the greatest value. The entries after those of the pebbles say nothing.
     fn answers(&self, held: &[u16]) -> (Value, [Option<Best>; MAX_PEBBLES])
         requires { IsConfiguration (board self.now) held.now }
         ensures value { HasValue (board self.now) held.now result.0 }

@@ -1,6 +1,7 @@
 -- The lemmas that crates above cite, passed on from one place. Declares nothing.
 pub use Rattle.classes.proofs.FamilyNumbers.{first-family, last-family, least-below, least-last, least-some}
-pub use Rattle.classes.proofs.FamilyNumbers.{least-within, next-family, number-of-least, put-least, with-least}
+pub use Rattle.classes.proofs.FamilyNumbers.{least-within, next-family, number-last, number-of-least, put-least}
+pub use Rattle.classes.proofs.FamilyNumbers.{with-least}
 pub use Rattle.classes.proofs.Numbers.{is-below, with-is, with-number}
 pub use Rattle.classes.proofs.OrderCounts.{weighed-sum}
 pub use Rattle.classes.proofs.Places.{all-class_of, of-all-class_of, class_of-own, class_of-set, falls-class_of}

@@ -76,7 +76,7 @@ module _ (board : PlainBoard) (configuration : List ℕ) (pebble : ℕ) where
   lasting_answer long below lasts =
       elim (each_or_some Ends
       (λ label. DominatesOthers board configuration pebble label
-          × HasValue board (moved configuration pebble label) Forever)
+      × HasValue board (moved configuration pebble label) Forever)
       board.labels
       (λ label low. elim (dominates_or_not board configuration pebble label) [
         | inr not ↦ inl (λ dominates. absurd (not dominates))

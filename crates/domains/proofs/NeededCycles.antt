@@ -155,7 +155,7 @@ all_row P at first (suc count) each = All-cons P (at first) (row at (suc first) 
 pub on_a_cycle : (board : PlainBoard) (configuration : List ℕ) → board.pebbles ≡ 2 → length configuration ≡ 2
     → get_or configuration 1 0 < board.labels
     → LabellerTree board board.labels configuration → (labels : List ℕ) × (0 < length labels)
-        × HaveDominators board labels
+    × HaveDominators board labels
 on_a_cycle board configuration two long held tree =
     let up = rises board board.labels configuration 0 1 (long ∙ sym two) (omega (arith, two)) (omega (arith, two))
     (λ one. omega (arith, one)) held tree in

@@ -38,7 +38,7 @@ zeroed-none counts old rest = record {
 pub zeroed-more : (counts old now : List ℕ) (rest index value : ℕ) → index < length now
     → AreZeroedTo counts rest index old now
     → ((get_or counts (rest + index) 0 ≡ 0) × (value ≡ 0)) ⊎ ((get_or counts (rest + index) 0 ≢ 0)
-        × (value ≡ get_or now index 0))
+    × (value ≡ get_or now index 0))
     → AreZeroedTo counts rest (index + 1) old (set now index value)
 zeroed-more counts old now rest index value low z chosen = record {
   same_length = length-set now index value ∙ z.same_length;

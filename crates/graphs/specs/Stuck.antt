@@ -26,7 +26,7 @@ pub record IsPartZeroed (a : PlainGraph) (counts : List ℕ) (start : ℕ)
   pub zeroed : (v : ℕ) → v < length old → IsStuckBy a counts (start + v) → slice_index new v ≡ 0
   pub others : (v : ℕ) → v < length old
       → (slice_index new v ≡ slice_index old v) ⊎ ((slice_index new v ≡ 0)
-          × IsStuckBy a counts (start + v))
+      × IsStuckBy a counts (start + v))
 
 -- words are 0 where the counts from one on are, and nothing else changes
 pub record AreZeroedWhere (counts : List ℕ) (rest : ℕ) (old new : List ℕ) : Type 0 where
@@ -34,4 +34,4 @@ pub record AreZeroedWhere (counts : List ℕ) (rest : ℕ) (old new : List ℕ) 
   pub zeroed : (v : ℕ) → v < length old → slice_index counts (rest + v) ≡ 0 → slice_index new v ≡ 0
   pub others : (v : ℕ) → v < length old
       → (slice_index new v ≡ slice_index old v) ⊎ ((slice_index new v ≡ 0)
-          × (slice_index counts (rest + v) ≡ 0))
+      × (slice_index counts (rest + v) ≡ 0))

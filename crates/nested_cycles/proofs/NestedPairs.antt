@@ -112,7 +112,7 @@ pair_at (suc n) place lt = record {
 pub next_pair : (levels labels place x y : ℕ) (pairs new : List (ℕ × ℕ)) → labels ≡ labels_of levels
     → place < labels * labels → x ≡ place / labels → y ≡ place % labels
     → AreNestedPairs levels place pairs → NestedDominates levels x y
-        → new ≡ pairs ++ (place / labels, place % labels) ∷ []
+    → new ≡ pairs ++ (place / labels, place % labels) ∷ []
     → AreNestedPairs levels (place + 1) new
 next_pair levels labels place x y pairs new e lt is_x is_y are beats is_new =
     let at : PairAt (labels_of levels) place = rw e at (pair_at labels place lt) in

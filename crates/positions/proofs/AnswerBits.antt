@@ -21,7 +21,7 @@ pub record IsNarrowed (board : PlainBoard) (gap place rest : ℕ) (words : List 
   pub rest_is : IsRest (places board) (board.pebbles - 1) (others_of board gap) place rest
   pub bits : (x : ℕ) → x < MAX_LABELS
       → (has_bit words x ≡ true) ↔ ((x < board.labels)
-          × All (DominatesPlace board x) (take place (others_of board gap)))
+      × All (DominatesPlace board x) (take place (others_of board gap)))
 
 -- the label of the next other pebble, by its weight
 pub next_other : (board : PlainBoard) (gap place rest weight : ℕ) → IsBoard board → gap < gaps board

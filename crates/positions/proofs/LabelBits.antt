@@ -1,12 +1,14 @@
 -- Sets of labels as bits.
 use Rattle.std.proofs.Common.{◌≡◌, ◌≢◌, ℕ, zero, suc, ◌+◌, ◌-◌, ◌*◌, ◌/◌, ◌%◌, ◌^◌, ◌<◌, ◌≤◌, ◌↔◌, min, nat_eq, bit_and}
-use Rattle.std.proofs.Common.{bit_or, true, List, [], ◌∷◌, length, get_or, set, Some, refl, sym, ap, ◌∙◌, subst, inl}
+use Rattle.std.proofs.Common.{bit_or, ◌⊎◌, true, List, [], ◌∷◌, length, get_or, set, Some, refl, sym, ap, ◌∙◌, subst}
+use Rattle.std.proofs.Common.{inl}
 use Rattle.std.proofs.Common.{inr, arith}
-use Rattle.std.specs.Int.{bit_at, w64, trailing_zeros}
+use Rattle.std.specs.Int.{bit_at, bit_not, w64, trailing_zeros}
 use Rattle.std.specs.Int.Count.{ones}
 use Rattle.std.proofs.lemmas.Bool.{cases_eq, cases_lt, eqb-true, eq-eqb}
 use Rattle.std.proofs.lemmas.List.{get_or-set_same, get_or-set_other, length-set}
 use Rattle.std.proofs.lemmas.Nat.Bits.{bit_at_set_same, bit_at_set_other, bit_at-zero, bit_at_and, bit_at-lt}
+use Rattle.std.proofs.lemmas.Nat.Bits.{bit_at_not}
 use Rattle.std.proofs.lemmas.Nat.Bits.{bit_at_ones, bit_at_mask_inside, bit_at_mask_below, bit_at-trailing_zeros}
 use Rattle.std.proofs.lemmas.Nat.Bits.{ones_shl}
 use Rattle.board_text.specs.Domination.{has_bit}
@@ -106,6 +108,95 @@ has_bit-both first second x small =
     (sym word)
     (bit_of_both (get_or first (x / 64) 0) (get_or second (x / 64) 0) (x % 64))
 
+-- ---- the bits of a row that another has not
+
+pub bit_of_one : (a b i : ℕ) → b < 2 ^ 64 → i < 64
+    → (nat_eq (bit_at (bit_and a (bit_not w64 b)) i) 1 ≡ true)
+    ↔ ((nat_eq (bit_at a i) 1 ≡ true) × (nat_eq (bit_at b i) 1 ≡ true → ⊥))
+bit_of_one a b i fits low =
+    let same : bit_at (bit_and a (bit_not w64 b)) i ≡ min (bit_at a i) (bit_at (bit_not w64 b) i) =
+    bit_at_and a (bit_not w64 b) i in
+    let turned : bit_at (bit_not w64 b) i ≡ 1 - bit_at b i = bit_at_not w64 b i fits low in
+    let one : bit_at a i < 2 = bit_at-lt a i in
+    let other : bit_at b i < 2 = bit_at-lt b i in (
+      λ both.
+          let set : bit_at (bit_and a (bit_not w64 b)) i ≡ 1 =
+          eqb-true (bit_at (bit_and a (bit_not w64 b)) i) 1 both in (
+            eq-eqb (bit_at a i) 1 (omega arith),
+            λ held. let second : bit_at b i ≡ 1 = eqb-true (bit_at b i) 1 held in omega arith,
+          ),
+      λ each.
+          let first : bit_at a i ≡ 1 = eqb-true (bit_at a i) 1 each.0 in
+          elim (cases_eq (bit_at b i) 1) [
+            | inl held ↦ absurd (each.1 (eq-eqb (bit_at b i) 1 held))
+            | inr not_held ↦
+                let none : bit_at b i ≡ 0 = omega (arith, not_held) in
+                eq-eqb (bit_at (bit_and a (bit_not w64 b)) i) 1 (omega arith)
+          ],
+    )
+
+-- the words of the bits that only the first of two rows has
+abbrev pub one_of : List ℕ → List ℕ → List ℕ
+one_of first second =
+    bit_and (get_or first 0 0) (bit_not w64 (get_or second 0 0))
+    ∷ bit_and (get_or first 1 0) (bit_not w64 (get_or second 1 0))
+    ∷ bit_and (get_or first 2 0) (bit_not w64 (get_or second 2 0))
+    ∷ bit_and (get_or first 3 0) (bit_not w64 (get_or second 3 0)) ∷ []
+
+word_of_one : (first second : List ℕ) (k : ℕ) → k < 4
+    → get_or (one_of first second) k 0 ≡ bit_and (get_or first k 0) (bit_not w64 (get_or second k 0))
+word_of_one first second zero low = refl
+word_of_one first second (suc zero) low = refl
+word_of_one first second (suc (suc zero)) low = refl
+word_of_one first second (suc (suc (suc zero))) low = refl
+word_of_one first second (suc (suc (suc (suc k)))) low = absurd (omega arith)
+
+pub has_bit-one : (first second : List ℕ) → ((k : ℕ) → k < 4 → get_or second k 0 < 2 ^ 64)
+    → (x : ℕ) → x < MAX_LABELS
+    → (has_bit (one_of first second) x ≡ true)
+    ↔ ((has_bit first x ≡ true) × (has_bit second x ≡ true → ⊥))
+has_bit-one first second fits x small =
+    let word = word_of_one first second (x / 64) (omega arith) in
+    subst (λ w. (nat_eq (bit_at w (x % 64)) 1 ≡ true)
+    ↔ ((has_bit first x ≡ true) × (has_bit second x ≡ true → ⊥)))
+    (sym word)
+    (bit_of_one (get_or first (x / 64) 0) (get_or second (x / 64) 0) (x % 64) (fits (x / 64) (omega arith))
+    (omega arith))
+
+-- ---- one bit more
+
+pub has_bit-with : (words : List ℕ) (label : ℕ) → label / 64 < length words → (x : ℕ) → x < MAX_LABELS
+    → (has_bit (with_bit words label) x ≡ true) ↔ ((x ≡ label) ⊎ (has_bit words x ≡ true))
+has_bit-with words label inside x small = elim (cases_eq x label) [
+  | inl same ↦ (
+    λ set. inl same,
+    λ either. ap (has_bit (with_bit words label)) same ∙ has_bit-set_same words label inside,
+  )
+  | inr other ↦ (
+    λ set. inr (sym (has_bit-set_other words label x inside other) ∙ set),
+    λ either. elim either [
+      | inl same ↦ absurd (other same)
+      | inr held ↦ has_bit-set_other words label x inside other ∙ held
+    ],
+  )
+]
+
+-- ---- no bits
+
+-- the first words are 0
+abbrev pub AreNone : List ℕ → ℕ → Type 0
+AreNone words number = (k : ℕ) → k < number → get_or words k 0 ≡ 0
+
+pub none_set : (words : List ℕ) (number : ℕ) → 4 ≤ number → AreNone words number
+    → (x : ℕ) → x < MAX_LABELS → has_bit words x ≡ true → ⊥
+none_set words number all none x small set =
+    let zero_word : get_or words (x / 64) 0 ≡ 0 = none (x / 64) (omega arith) in
+    let bit : bit_at (get_or words (x / 64) 0) (x % 64) ≡ 1 =
+    eqb-true (bit_at (get_or words (x / 64) 0) (x % 64)) 1 set in
+    let cleared : bit_at (get_or words (x / 64) 0) (x % 64) ≡ 0 =
+    ap (λ w. bit_at w (x % 64)) zero_word ∙ bit_at-zero (x % 64) in
+    omega arith
+
 -- ---- the number of bits that are set
 
 pub bit_of_word : (words : List ℕ) (k j : ℕ) → j < 64
@@ -115,6 +206,16 @@ bit_of_word words k j small =
     let bit : (64 * k + j) % 64 ≡ j = omega arith in
     ap (λ p. nat_eq (bit_at (get_or words p 0) ((64 * k + j) % 64)) 1) place
     ∙ ap (λ b. nat_eq (bit_at (get_or words k 0) b) 1) bit
+
+pub some_set : (words : List ℕ) (number : ℕ) → number < 4 → get_or words number 0 ≢ 0
+    → get_or words number 0 < 2 ^ 64
+    → ((x : ℕ) → x < MAX_LABELS → has_bit words x ≡ true → ⊥) → ⊥
+some_set words number inside some fits none =
+    let word : ℕ = get_or words number 0 in
+    let lowest : ℕ = trailing_zeros w64 word in
+    let at = bit_at-trailing_zeros w64 word (omega (arith, some)) fits in
+    let low : lowest < 64 = at.0 in
+    none (64 * number + lowest) (omega arith) (bit_of_word words number lowest low ∙ eq-eqb (bit_at word lowest) 1 at.1)
 
 pub bits_more : (words : List ℕ) (k count : ℕ) → get_or words k 0 < 2 ^ 64
     → count ≡ count_below (has_bit words) (64 * k)

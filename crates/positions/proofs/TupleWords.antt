@@ -107,9 +107,11 @@ pub one_more_place : (board : PlainBoard) (number : ℕ) (held : List ℕ) (word
 one_more_place board number held word beating place before beats bit small = (
   λ set.
       let each = (bit_of_both_words word beating bit).0 set in
-      let others = (before bit small).0 each.0 in
-      (others.0, All-cons (DominatesPlace board (64 * number + bit)) place held
-          ((beats bit small).0 each.1).1 others.1),
+      let others = (before bit small).0 each.0 in (
+        others.0,
+        All-cons (DominatesPlace board (64 * number + bit)) place held
+            ((beats bit small).0 each.1).1 others.1,
+      ),
   λ is. (bit_of_both_words word beating bit).1 (
     (before bit small).1 (is.0, All-tail (DominatesPlace board (64 * number + bit)) place held is.1),
     (beats bit small).1 (is.0, All-head (DominatesPlace board (64 * number + bit)) place held is.1),

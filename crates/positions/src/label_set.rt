@@ -1,6 +1,8 @@
 //! Sets of labels, as bits.
 
-ghost use Rattle.std.specs.Prelude.{◌≡◌, ℕ, ◌+◌, ◌*◌, ◌<◌, ◌≤◌, ◌↔◌, true, length, slice_index};
+ghost use Rattle.std.specs.Prelude.{◌≡◌, ◌⊎◌, ℕ, ◌+◌, ◌*◌, ◌<◌, ◌≤◌, ◌↔◌, true, length};
+ghost use Rattle.std.specs.Prelude.{slice_index};
+ghost use Rattle.std.specs.Prelude.{IsTrue};
 ghost use Rattle.std.specs.Int.{bit_at};
 ghost use Rattle.board_text.specs.Domination.{has_bit};
 ghost use Rattle.positions.specs.Counts.{HasSize, IsSmallest};
@@ -61,6 +63,44 @@ impl LabelSet {
                 self.words[3] & row[3],
             ],
         }
+    }
+
+    /// The labels of this set that are not in `other`.
+    pub fn without(self, other: &LabelSet) -> LabelSet
+        ensures { (x : ℕ) → x < MAX_LABELS → (has_bit result x ≡ true)
+            ↔ ((has_bit self x ≡ true) × (has_bit other.now x ≡ true → ⊥)) }
+    {
+        LabelSet {
+            words: [
+                self.words[0] & !other.words[0],
+                self.words[1] & !other.words[1],
+                self.words[2] & !other.words[2],
+                self.words[3] & !other.words[3],
+            ],
+        }
+    }
+
+    /// The labels of this set, and `label`.
+    pub fn with(self, label: u16) -> LabelSet
+        requires { label < MAX_LABELS }
+        ensures { (x : ℕ) → x < MAX_LABELS
+            → (has_bit result x ≡ true) ↔ ((x ≡ label) ⊎ (has_bit self x ≡ true)) }
+    {
+        let mut words = self.words;
+        words[label as usize / 64] |= 1 << (label % 64);
+        LabelSet { words }
+    }
+
+    /// Whether no label is in the set.
+    pub fn is_empty(&self) -> bool
+        ensures { IsTrue result ↔ ((x : ℕ) → x < MAX_LABELS → has_bit self.now x ≡ true → ⊥) }
+    {
+        for number in 0..ROW_WORDS {
+            if self.words[number] != 0 {
+                return false;
+            }
+        }
+        true
     }
 
     /// The bits of the labels from `64 * number` on.

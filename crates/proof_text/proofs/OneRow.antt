@@ -39,7 +39,7 @@ pub record RowLaws {X : Type 0} (reading : RowReading X) : Type 1 where
       → RowFault reading MayStand rest kind → RowFault reading MayStand rest other → kind ≡ other
   pub sound : (MayStand : List ℕ → Type 0) (row : X) (rest more : List ℕ) (kind : ProofKind)
       → reading.form.IsRow row → MayStand (reading.form.at row) → rest ≡ reading.form.line row ++ more
-          → RowFault reading MayStand rest kind → ⊥
+      → RowFault reading MayStand rest kind → ⊥
 
 -- This holds if the words are read in one way: they are misread, or they are those of a row.
 module _ {X : Type 0} (reading : RowReading X) (few : reading.form.most < 2 ^ 32) (Read : List ℕ → Option ProofKind
@@ -48,7 +48,7 @@ module _ {X : Type 0} (reading : RowReading X) (few : reading.form.most < 2 ^ 32
     (one_read : (rest : List ℕ) (v w : Option ProofKind) → Read rest v → Read rest w → v ≡ w)
     (misread : (rest : List ℕ) (kind : ProofKind) → reading.Misread rest kind → Read rest (Some kind))
     (right : (row : X) (rest more : List ℕ) → reading.form.IsRow row → rest ≡ reading.form.line row ++ more
-        → Read rest None) where
+    → Read rest None) where
   not_misread : (row : X) (rest more : List ℕ) (kind : ProofKind) → reading.form.IsRow row
       → rest ≡ reading.form.line row ++ more
       → reading.Misread rest kind → ⊥
@@ -62,7 +62,7 @@ module _ {X : Type 0} (reading : RowReading X) (few : reading.form.most < 2 ^ 32
     abbrev Early : ProofKind → Type 0
     Early kind = (kind ≡ kinds.Order)
         × ((row : X) × reading.form.IsRow row × (more : List ℕ) × (rest ≡ reading.form.line row ++ more)
-            × ¬ MayStand (reading.form.at row))
+        × ¬ MayStand (reading.form.at row))
 
     early_or_misread : (kind : ProofKind) → Fault kind → Early kind ⊎ reading.Misread rest kind
     early_or_misread kinds.Order h = inl (refl, h)
@@ -233,13 +233,13 @@ module _ (board : PlainBoard) (claim : Claim) (is_board : IsBoard board) where
   pub answer_laws : RowLaws (answers_read (read_by_configurations board) claim)
   answer_laws =
       row_laws (answers_read (read_by_configurations board) claim) (omega arith)
-          (AnswerRead board claim) one_answer answer_once
+      (AnswerRead board claim) one_answer answer_once
       (answer_misread board claim) answer_right
 
   pub class_answer_laws : RowLaws (answers_read (read_by_classes board) claim)
   class_answer_laws =
       row_laws (answers_read (read_by_classes board) claim) (omega arith)
-          (AnswerRead board claim) one_answer answer_once
+      (AnswerRead board claim) one_answer answer_once
       (answer_misread board claim) answer_right
 
 -- ---- an adversary's row

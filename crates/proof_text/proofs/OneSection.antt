@@ -86,7 +86,7 @@ module _ {X : Type 0} (reading : RowReading X) where
     abbrev PartStands : List X → List ℕ → Type 0
     PartStands rows more =
         AreRows reading.form rows × (reading.form.asked ≡ false → rows ≡ [])
-            × (text ≡ text_of_section reading.form rows ++ more)
+        × (text ≡ text_of_section reading.form rows ++ more)
 
     -- The finding at a section: its fault, or the finding after its rows. A section that isn't asked for is left out.
     abbrev pub Part : ℕ → (List X → List ℕ → F → Type 0) → F → Type 0
@@ -111,13 +111,13 @@ module _ {X : Type 0} (reading : RowReading X) where
         → (m ≡ n) × (length ps ≤ length qs → Follow reading.form.line ps qs x y)
     alike m n ps qs x y p q =
         let s = number_line_unique reading.form.word m n (flat_map reading.form.line ps ++ x)
-            (flat_map reading.form.line qs ++ y)
+        (flat_map reading.form.line qs ++ y)
         (omega (arith, p.few, laws.few)) (omega (arith, q.few, laws.few))
         (sym p.spelled ∙ q.spelled) in (
           s.0,
           λ le. rows_split reading.form.IsRow reading.form.line ps qs x y laws.one
               (recursion_from_All reading.form.IsRow ps p.are_rows.each)
-                  (recursion_from_All reading.form.IsRow qs q.are_rows.each) le s.1,
+              (recursion_from_All reading.form.IsRow qs q.are_rows.each) le s.1,
         )
 
     same_rows : (m n : ℕ) (ps qs : List X) (x y : List ℕ) → Come m ps x → Come n qs y → length ps ≡ length qs
@@ -144,9 +144,9 @@ module _ {X : Type 0} (reading : RowReading X) where
         go [] parts spelled = omega (arith, ap length parts, length-append ps [], short)
         go (r ∷ rs) parts spelled =
             let are : AreRows reading.form (ps ++ r ∷ rs) = subst (λ (rows : List X). AreRows reading.form rows) parts
-                q.are_rows in
+            q.are_rows in
             laws.sound (MayFollow reading.form ps) r x (flat_map reading.form.line rs ++ y) kind
-                (is_row reading.form.IsRow ps r rs are.each)
+            (is_row reading.form.IsRow ps r rs are.each)
             (may_follow ps r rs are)
             (spelled ∙ append_assoc (reading.form.line r) (flat_map reading.form.line rs) y) faulty
 
@@ -165,7 +165,7 @@ module _ {X : Type 0} (reading : RowReading X) where
       abbrev NoHead : ℕ → ProofKind → Type 0
       NoHead number kind =
           (kind ≡ kinds.Section) × (number ≡ head) × Lacks (InRange 0 reading.form.most)
-              (number_line reading.form.word) text
+          (number_line reading.form.word) text
 
       -- the fault of a section is in its head or in a row
       head_or_row : (number : ℕ) (kind : ProofKind) → kind ≢ kinds.Memory

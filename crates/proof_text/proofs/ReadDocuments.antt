@@ -89,7 +89,7 @@ module _ (board : PlainBoard) where
       → HasProofFault board bytes line kind
   fault_read bytes line kind =
       fault_seen (read_by_configurations board) (answer_row board) (request_row board) (IsPadded board)
-          (λ row. Unit {0})
+      (λ row. Unit {0})
       bytes line kind
 
   pub only_read : (proof : Proof) (bytes : List ℕ) → IsBoard board

@@ -29,14 +29,14 @@ module _ {R : Type 0} (reading : RowReading R) where
   -- places that may follow the last row come after those of all rows
   follows_all : (rows : List R) (places : List ℕ)
       → AllPairs (λ first second. Before (reading.form.at first) (reading.form.at second)) rows
-          → MayFollow reading.form rows places
+      → MayFollow reading.form rows places
       → (k : ℕ) (d : R) → k < length rows → Before (reading.form.at (get_or rows k d)) places
   follows_all rows places ascending follows k d lt =
       let n = length rows - 1 in
       let ends : rows ≡ take n rows ++ get_or rows n d ∷ [] =
       sym (take_all (n + 1) rows (omega arith)) ∙ take_more rows n d (omega arith) in
       let last : Before (reading.form.at (get_or rows n d)) places =
-          follows.after (take n rows) (get_or rows n d) ends in
+      follows.after (take n rows) (get_or rows n d) ends in
       elim (cases_lt k n) [
         | inl before ↦ let earlier : Before (reading.form.at (get_or rows k d)) (reading.form.at (get_or rows n d)) =
             ascending k n d before (omega arith) in omega (arith, earlier, last)
@@ -122,8 +122,11 @@ module _ {R : Type 0} (reading : RowReading R) where
         record {
           few = come.few;
           come = omega (arith, length_push rows row, short);
-          are_rows = rows_push rows row come.are_rows is ((from (reading.form.at row)).1 may) (omega (arith, short,
-              come.few));
+          are_rows = rows_push rows row come.are_rows is ((from (reading.form.at row)).1 may) (omega (
+            arith,
+            short,
+            come.few,
+          ));
           spelled = come.spelled ∙ ap (λ (t : List ℕ). number_line reading.form.word count ++ t)
               (ap (λ (t : List ℕ). flat_map reading.form.line rows ++ t) spelled
               ∙ sym (append_assoc (flat_map reading.form.line rows) (reading.form.line row) new)

@@ -88,7 +88,7 @@ HasFaultOf reading text line kinds.Claim = (line ≡ 2) × (rest : List ℕ)
 HasFaultOf {X} {Y} reading text line kinds.End =
     (proof : Sections X Y) × (rest : List ℕ) × IsDocumentIn reading.version proof
     × (text ≡ text_before_end reading.version proof ++ rest)
-        × (line ≡ end_number reading.version proof)
+    × (line ≡ end_number reading.version proof)
     × Lacks (λ (u : Unit {0}). Unit {0}) (λ u. end_line) rest
 HasFaultOf {X} {Y} reading text line kinds.Trailing =
     (proof : Sections X Y) × (first : ℕ) × (more : List ℕ) × IsDocumentIn reading.version proof

@@ -55,7 +55,8 @@ fn lines_in_parts<B: BoardOfRows + Sync, R: Row<B> + Sync>(
     requires of_board { All (R.IsOfBoard (B.board board.now)) rows.now }
     requires parts { 1 ≤ parts }
     ensures { IfOk result (λ parts. (claim : ClaimData)
-        → flat_map string_bytes parts.items ≡ flat_map (R.reading (B.board board.now) claim).form.line rows.now) }
+        → flat_map string_bytes parts.items
+        ≡ flat_map (R.reading (B.board board.now) claim).form.line rows.now) }
 {
     let size = rows.len().div_ceil(parts as usize).max(1);
     let lines: Result<Vec<String>, AllocError> = rows
@@ -65,7 +66,8 @@ fn lines_in_parts<B: BoardOfRows + Sync, R: Row<B> + Sync>(
                 requires words { words.now ≡ (B.board board.now).labels }
                 requires of_board { All (R.IsOfBoard (B.board board.now)) part.now }
                 ensures { IfOk result (λ lines. (claim : ClaimData)
-                    → string_bytes lines ≡ flat_map (R.reading (B.board board.entry.now) claim).form.line part.now) }
+                    → string_bytes lines
+                    ≡ flat_map (R.reading (B.board board.entry.now) claim).form.line part.now) }
             { lines_of(alloc, words, board, part) },
         )
         .collect(rt, alloc)?;

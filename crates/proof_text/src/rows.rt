@@ -106,7 +106,8 @@ pub(crate) trait Row<B: BoardOfRows>: Copy {
         requires words { words.now ≡ (B.board board.now).labels }
         requires of_board { IsOfBoard (B.board board.now) self.now }
         ensures { OnOk result ((claim : ClaimData)
-            → text.new.bytes ≡ text.old.bytes ++ (reading (B.board board.now) claim).form.line self.now) };
+            → text.new.bytes
+            ≡ text.old.bytes ++ (reading (B.board board.now) claim).form.line self.now) };
 
     ghost kinds: { (board : PlainBoard) → (claim : ClaimData)
         → AreKindsOfRows (reading board claim) };

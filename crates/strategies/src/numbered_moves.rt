@@ -98,9 +98,9 @@ impl<'a> NumberedMoves<'a> {
         self.at(held).label(pebble)
     }
 
-    /// The value of the configuration `held`, and the best answer to a request of each pebble there,
-    /// with the value of its result, if a label is legal. The entries after those of the pebbles say
-    /// nothing.
+    /// The value of the configuration `held`, and the best answer to a request of each pebble
+    /// there, with the value of its result, if a label is legal. The entries after those of the
+    /// pebbles say nothing.
     pub fn answers(&self, held: &[u16]) -> (Value, [Option<Best>; MAX_PEBBLES])
         requires { IsConfiguration self.now held.now }
         ensures value { HasValue self.now held.now result.0 }

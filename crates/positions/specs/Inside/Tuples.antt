@@ -20,7 +20,7 @@ AreDominating board number held word =
 abbrev pub AreTupleWords : PlainBoard → ℕ → ℕ → List ℕ → Type 0
 AreTupleWords board number count words = (tuple : ℕ) → tuple < length words
     → AreDominating board number (digits_of (places board) count tuple)
-        (slice_index_or words tuple 0)
+    (slice_index_or words tuple 0)
 
 -- there is a word for each tuple of `count` places
 pub record AreAllWords (board : PlainBoard) (number count : ℕ) (words : List ℕ) : Type 0 where

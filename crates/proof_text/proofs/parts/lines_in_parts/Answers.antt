@@ -28,6 +28,6 @@ returns g c =
     ) at c.in_ok-lines.ensures in
     let chain = made.1 in
     joined (λ claim. (g.R.Row.reading (g.B.BoardOfRows.board c.args.board.now) claim).form.line) string_bytes
-        (λ v. v.items)
+    (λ v. v.items)
     c.args.rows.now (max c.max-size.result 1)
     (some c.max-size.result) chain.0 chain.1 made.0 chain.2 c.in_ok-lines.lines made.2

@@ -60,7 +60,7 @@ returns-in_default-left c =
     let held = class_request_held taken c.if-not-values.false c.if-not-values-2.false c.pebbles-pebbles.result
     c.pebbles-pebbles.ensures.value in
     let asked = held_asked _ _
-        (get_or c.class_request_words.new.ask 0 0) c.contains.result c.contains.ensures.value held
+    (get_or c.class_request_words.new.ask 0 0) c.contains.result c.contains.ensures.value held
     c.if-not-contains.false in
     class_request_number taken c.if-not-values.false c.if-not-values-2.false asked c.in_default-left.is
 
@@ -78,7 +78,7 @@ returns-in_default-arranged_order c =
     let held = class_request_held taken c.if-not-values.false c.if-not-values-2.false c.pebbles-pebbles.result
     c.pebbles-pebbles.ensures.value in
     let asked = held_asked _ _
-        (get_or c.class_request_words.new.ask 0 0) c.contains.result c.contains.ensures.value held
+    (get_or c.class_request_words.new.ask 0 0) c.contains.result c.contains.ensures.value held
     c.if-not-contains.false in
     let read = padded_request taken c.if-not-values.false c.if-not-values-2.false asked c.args._claim
     c.in-Some-left.left c.pebbles-pebbles.result c.in-Some-left.is c.pebbles-pebbles.ensures.value in
@@ -93,7 +93,7 @@ returns-then-number-least c =
     let held = class_request_held taken c.if-not-values.false c.if-not-values-2.false c.pebbles-pebbles.result
     c.pebbles-pebbles.ensures.value in
     let asked = held_asked _ _
-        (get_or c.class_request_words.new.ask 0 0) c.contains.result c.contains.ensures.value held
+    (get_or c.class_request_words.new.ask 0 0) c.contains.result c.contains.ensures.value held
     c.if-not-contains.false in
     let read = padded_request taken c.if-not-values.false c.if-not-values-2.false asked c.args._claim
     c.in-Some-left.left c.pebbles-pebbles.result c.in-Some-left.is c.pebbles-pebbles.ensures.value in
@@ -108,7 +108,7 @@ returns c =
     let held = class_request_held taken c.if-not-values.false c.if-not-values-2.false c.pebbles-pebbles.result
     c.pebbles-pebbles.ensures.value in
     let asked = held_asked _ _
-        (get_or c.class_request_words.new.ask 0 0) c.contains.result c.contains.ensures.value held
+    (get_or c.class_request_words.new.ask 0 0) c.contains.result c.contains.ensures.value held
     c.if-not-contains.false in
     let read = padded_request taken c.if-not-values.false c.if-not-values-2.false asked c.args._claim
     c.in-Some-left.left c.pebbles-pebbles.result c.in-Some-left.is c.pebbles-pebbles.ensures.value in

@@ -16,7 +16,9 @@ returns c =
     let s = c.self.inside in
     let room : s.count + 4 ≤ 512 = omega (arith, c.requires.room, ap (λ r. r.count) c.self.view_is) in
     bytes_more s.count (s.count + 4 - s.count) c.args.word.size (string_bytes s.text) s.room c.copy_from_slice.new.self
-    c.args.self.now.bytes c.self.invariant (omega (arith, room)) c.copy_from_slice.ensures.len (omega (arith,
-        c.requires.few))
+    c.args.self.now.bytes c.self.invariant (omega (arith, room)) c.copy_from_slice.ensures.len (omega (
+      arith,
+      c.requires.few,
+    ))
     (ap (λ r. r.bytes) c.self.view_is)
     ∙ ap (λ l. c.args.self.now.bytes ++ take c.args.word.size l) c.copy_from_slice.ensures.after
