@@ -64,15 +64,15 @@ among_word labels bound at place small each low (k, inside, is) =
     (small_numbers bound (place ∷ []) small other) (λ i. word i ∷ []) in
     (k, there, ap (λ (l : List ℕ). get_or l 0 0) same)
 
-pub record ClassRequestTaken (board : PlainBoard) (values : ClassRequestValues)
-    (at asked old new : List ℕ) : Type 0 where
-  words : ClassRequestWords
-  are : AreClassRequestWords board.pebbles board.labels (places board) words
-  stands : old ≡ class_request_words_line words ++ new
-  spell : ClassRequestSpelled board.labels (places board) words values at asked
+pub record ClassRequestTaken (board : PlainBoard) (values : ClassRequestValues) (at asked old new : List ℕ) : Type 0
+  where
+    words : ClassRequestWords
+    are : AreClassRequestWords board.pebbles board.labels (places board) words
+    stands : old ≡ class_request_words_line words ++ new
+    spell : ClassRequestSpelled board.labels (places board) words values at asked
 
-pub class_request_taken :
-    (board : PlainBoard) {pebbles labels bound : ℕ} {values : ClassRequestValues} {at asked old new : List ℕ}
+pub class_request_taken : (board : PlainBoard) {pebbles labels bound : ℕ} {values : ClassRequestValues}
+    {at asked old new : List ℕ}
     → IsBoard board → pebbles ≡ board.pebbles → labels ≡ board.labels → bound ≡ places board
     → (words : ClassRequestWords) × AreClassRequestWords (length (take pebbles six_zeros)) labels bound words
     × (old ≡ class_request_words_line words ++ new)

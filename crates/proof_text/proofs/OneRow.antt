@@ -42,15 +42,15 @@ pub record RowLaws {X : Type 0} (reading : RowReading X) : Type 1 where
       → RowFault reading MayStand rest kind → ⊥
 
 -- This holds if the words are read in one way: they are misread, or they are those of a row.
-module _ {X : Type 0} (reading : RowReading X) (few : reading.form.most < 2 ^ 32) (Read : List ℕ → Option ProofKind
-    → Type 0)
+module _ {X : Type 0} (reading : RowReading X) (few : reading.form.most < 2 ^ 32)
+    (Read : List ℕ → Option ProofKind → Type 0)
     (one : OneReading reading.form.IsRow reading.form.line)
     (one_read : (rest : List ℕ) (v w : Option ProofKind) → Read rest v → Read rest w → v ≡ w)
     (misread : (rest : List ℕ) (kind : ProofKind) → reading.Misread rest kind → Read rest (Some kind))
     (right : (row : X) (rest more : List ℕ) → reading.form.IsRow row → rest ≡ reading.form.line row ++ more
     → Read rest None) where
-  not_misread : (row : X) (rest more : List ℕ) (kind : ProofKind) → reading.form.IsRow row
-      → rest ≡ reading.form.line row ++ more
+  not_misread : (row : X) (rest more : List ℕ) (kind : ProofKind) → reading.form.IsRow row → rest
+      ≡ reading.form.line row ++ more
       → reading.Misread rest kind → ⊥
   not_misread row rest more kind is e h =
       let same = one_read rest None (Some kind) (right row rest more is e) (misread rest kind h) in absurd cc
@@ -232,14 +232,14 @@ module _ (board : PlainBoard) (claim : Claim) (is_board : IsBoard board) where
 
   pub answer_laws : RowLaws (answers_read (read_by_configurations board) claim)
   answer_laws =
-      row_laws (answers_read (read_by_configurations board) claim) (omega arith)
-      (AnswerRead board claim) one_answer answer_once
+      row_laws (answers_read (read_by_configurations board) claim) (omega arith) (AnswerRead board claim) one_answer
+      answer_once
       (answer_misread board claim) answer_right
 
   pub class_answer_laws : RowLaws (answers_read (read_by_classes board) claim)
   class_answer_laws =
-      row_laws (answers_read (read_by_classes board) claim) (omega arith)
-      (AnswerRead board claim) one_answer answer_once
+      row_laws (answers_read (read_by_classes board) claim) (omega arith) (AnswerRead board claim) one_answer
+      answer_once
       (answer_misread board claim) answer_right
 
 -- ---- an adversary's row

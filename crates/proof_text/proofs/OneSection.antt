@@ -164,8 +164,8 @@ module _ {X : Type 0} (reading : RowReading X) where
 
       abbrev NoHead : ℕ → ProofKind → Type 0
       NoHead number kind =
-          (kind ≡ kinds.Section) × (number ≡ head) × Lacks (InRange 0 reading.form.most)
-          (number_line reading.form.word) text
+          (kind ≡ kinds.Section) × (number ≡ head) × Lacks (InRange 0 reading.form.most) (number_line reading.form.word)
+          text
 
       -- the fault of a section is in its head or in a row
       head_or_row : (number : ℕ) (kind : ProofKind) → kind ≢ kinds.Memory

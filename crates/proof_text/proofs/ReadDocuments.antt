@@ -67,8 +67,8 @@ module _ (board : PlainBoard) where
   sections proof =
       record { claim = proof.claim; labeller = proof.labeller.items; adversary = proof.adversary.items }
 
-  pub text_shown : (proof : Proof) → text_of Ranked.version (sections proof) ≡ proof_text board
-      (plain_proof board proof)
+  pub text_shown : (proof : Proof) → text_of Ranked.version (sections proof)
+      ≡ proof_text board (plain_proof board proof)
   text_shown proof =
       whole_text_seen (by_configurations board) (answer_row board) (request_row board) (IsPadded board)
       (λ row. Unit {0}) (sections proof)

@@ -80,13 +80,6 @@ pub record RowRead {X : Type 0} (form : RowForm X) (row : X) (old new : List ℕ
   pub is : form.IsRow row
   pub spelled : old ≡ form.line row ++ new
 
--- the fault of the words of a line is the line's
-pub words_fault : {R : Type 0} (reading : RowReading R) (MayStand : List ℕ → Type 0) (rest : List ℕ) (kind : ProofKind)
-    → (reading.Misread rest kinds.Order → ⊥)
-    → reading.Misread rest kind → RowFault reading MayStand rest kind
-words_fault reading MayStand rest kinds.Order none h = absurd (none h)
-words_fault reading MayStand rest kind none h = h
-
 -- ---- the order of rows
 
 module _ {R : Type 0} (reading : RowReading R) (least : ℕ) {row : R} {old new : List ℕ}

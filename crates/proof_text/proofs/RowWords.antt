@@ -107,8 +107,8 @@ pub class_request_parts : (words : ClassRequestWords) (more : List ℕ)
 class_request_parts words more =
     regroup (codes "at") (spaced_texts words.at) (codes " for ") words.left (codes " ask") (spaced_texts words.ask) more
 
-pub class_request_taken : (at ask : List (List ℕ)) (left old a b c d new : List ℕ) → old ≡ position_text at a
-    → a ≡ left ++ b
+pub class_request_taken : (at ask : List (List ℕ)) (left old a b c d new : List ℕ) → old ≡ position_text at a → a ≡ left
+    ++ b
     → b ≡ codes " ask" ++ c → c ≡ spaced_texts ask ++ d → d ≡ (10 ∷ []) ++ new
     → old ≡ class_request_words_line (record { at = at; left = left; ask = ask }) ++ new
 class_request_taken at ask left old a b c d new p q r s t =

@@ -35,8 +35,8 @@ module _ {R : Type 0} (reading : RowReading R) where
       let n = length rows - 1 in
       let ends : rows ≡ take n rows ++ get_or rows n d ∷ [] =
       sym (take_all (n + 1) rows (omega arith)) ∙ take_more rows n d (omega arith) in
-      let last : Before (reading.form.at (get_or rows n d)) places =
-      follows.after (take n rows) (get_or rows n d) ends in
+      let last : Before (reading.form.at (get_or rows n d)) places = follows.after (take n rows) (get_or rows n d) ends
+      in
       elim (cases_lt k n) [
         | inl before ↦ let earlier : Before (reading.form.at (get_or rows k d)) (reading.form.at (get_or rows n d)) =
             ascending k n d before (omega arith) in omega (arith, earlier, last)
@@ -51,8 +51,8 @@ module _ {R : Type 0} (reading : RowReading R) where
     few = omega (arith, length_push rows row, few);
     each = All-push reading.form.IsRow rows row are.each is;
     in_order = All-push (λ (r : R). reading.form.AreInOrder (reading.form.at r)) rows row are.in_order follows.in_order;
-    ascending = all_pairs_push (λ first second. Before (reading.form.at first)
-        (reading.form.at second)) rows row are.ascending
+    ascending = all_pairs_push (λ first second. Before (reading.form.at first) (reading.form.at second)) rows row
+        are.ascending
         (follows_all rows (reading.form.at row) are.ascending follows);
   }
 
@@ -61,22 +61,13 @@ module _ {R : Type 0} (reading : RowReading R) where
   FollowsFrom rows least = (places : List ℕ) → (MayFollow reading.form rows places → IsFrom reading.form least places)
       × (IsFrom reading.form least places → MayFollow reading.form rows places)
 
-  pub from_none : FollowsFrom [] 0
-  from_none places = (
-    λ follows. record { in_order = follows.in_order; above = omega arith },
-    λ from. record {
-      in_order = from.in_order;
-      after = λ before last e. absurd (omega (arith, ap length e, length_push before last));
-    },
-  )
-
   from_push : (rows : List R) (row : R) (least : ℕ) → least ≡ reading.form.number (reading.form.at row) + 1
       → FollowsFrom (rows ++ row ∷ []) least
   from_push rows row least e places = (
     λ follows. record {
       in_order = follows.in_order;
-      above = let after : reading.form.number (reading.form.at row) < reading.form.number places =
-          follows.after rows row refl in
+      above = let after : reading.form.number (reading.form.at row) < reading.form.number places = follows.after rows
+          row refl in
           omega (arith, e, after);
     },
     λ from. record {
@@ -102,8 +93,8 @@ module _ {R : Type 0} (reading : RowReading R) where
   }
 
   -- all rows
-  pub part_read : (text : List ℕ) (count : ℕ) (rows : List R) (rest : List ℕ) → reading.form.asked ≡ true
-      → count ≡ length rows
+  pub part_read : (text : List ℕ) (count : ℕ) (rows : List R) (rest : List ℕ) → reading.form.asked ≡ true → count
+      ≡ length rows
       → RowsCome reading.form text count rows rest → PartRead reading.form rows text rest
   part_read text count rows rest asked all come = record {
     are_rows = come.are_rows;
@@ -122,11 +113,8 @@ module _ {R : Type 0} (reading : RowReading R) where
         record {
           few = come.few;
           come = omega (arith, length_push rows row, short);
-          are_rows = rows_push rows row come.are_rows is ((from (reading.form.at row)).1 may) (omega (
-            arith,
-            short,
-            come.few,
-          ));
+          are_rows = rows_push rows row come.are_rows is ((from (reading.form.at row)).1 may)
+              (omega (arith, short, come.few));
           spelled = come.spelled ∙ ap (λ (t : List ℕ). number_line reading.form.word count ++ t)
               (ap (λ (t : List ℕ). flat_map reading.form.line rows ++ t) spelled
               ∙ sym (append_assoc (flat_map reading.form.line rows) (reading.form.line row) new)

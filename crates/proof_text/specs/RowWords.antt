@@ -44,8 +44,7 @@ request_words_line words =
     ++ (codes " for " ++ (words.left ++ (codes " ask " ++ words.ask)))))
 
 -- the texts of an adversary's row by classes: those of its places, of its number, and of the place
--- that is
--- asked
+-- that is asked
 pub record ClassRequestWords : Type 0 where
   pub at : List (List ℕ)
   pub left : List ℕ

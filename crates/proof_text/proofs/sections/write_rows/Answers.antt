@@ -14,10 +14,10 @@ pub returns : goal.returns
 returns g c =
     let most = c.loop-row.auto.row-index-end in
     finished string_bytes c.finish.result c.loop-row.lines.bytes
-    (λ claim. string_bytes c.args.text ++ flat_map (g.R.Row.reading
-    (g.B.BoardOfRows.board c.args.board.now) claim).form.line c.args.rows.now)
+    (λ claim. string_bytes c.args.text ++ flat_map
+    (g.R.Row.reading (g.B.BoardOfRows.board c.args.board.now) claim).form.line c.args.rows.now)
     c.finish.ensures
     (λ claim. c.loop-row.invariant claim
-    ∙ ap (λ rows. string_bytes c.args.text ++ flat_map (g.R.Row.reading
-    (g.B.BoardOfRows.board c.args.board.now) claim).form.line rows)
+    ∙ ap (λ rows. string_bytes c.args.text ++ flat_map
+    (g.R.Row.reading (g.B.BoardOfRows.board c.args.board.now) claim).form.line rows)
     (take_all c.loop-row.row-index c.args.rows.now (omega (arith, most, c.loop-row-test.false))))

@@ -11,6 +11,7 @@ use Rattle.proof_text.proofs.RowLemmas.{row_unordered, row_early, row_next, six_
 use Rattle.proof_text.proofs.class_rows.AdversaryClassRowRowBoard.read.Goals as goal
 use Rattle.proof_text.proofs.class_rows.AdversaryClassRowRowBoard.read.Goals.{In-Some}
 use Rattle.proof_text.proofs.class_rows.AdversaryClassRowRowBoard.read.Goals.{then-not-values-via-then-not-values}
+use Rattle.proof_text.proofs.class_rows.AdversaryClassRowRowBoard.read.Goals.{}
 use Rattle.proof_text.proofs.class_rows.AdversaryClassRowRowBoard.read.Goals.{then-not-values-via-else-not-values+then-not-values-2}
 
 -- the words of the row
@@ -59,8 +60,8 @@ returns-in_default-left c =
     let taken = words_of (goal.at.returns-in_default-left c).In-Some in
     let held = class_request_held taken c.if-not-values.false c.if-not-values-2.false c.pebbles-pebbles.result
     c.pebbles-pebbles.ensures.value in
-    let asked = held_asked _ _
-    (get_or c.class_request_words.new.ask 0 0) c.contains.result c.contains.ensures.value held
+    let asked = held_asked _ _ (get_or c.class_request_words.new.ask 0 0) c.contains.result c.contains.ensures.value
+    held
     c.if-not-contains.false in
     class_request_number taken c.if-not-values.false c.if-not-values-2.false asked c.in_default-left.is
 
@@ -77,8 +78,8 @@ returns-in_default-arranged_order c =
     let taken = words_of (goal.at.returns-in_default-arranged_order c).In-Some in
     let held = class_request_held taken c.if-not-values.false c.if-not-values-2.false c.pebbles-pebbles.result
     c.pebbles-pebbles.ensures.value in
-    let asked = held_asked _ _
-    (get_or c.class_request_words.new.ask 0 0) c.contains.result c.contains.ensures.value held
+    let asked = held_asked _ _ (get_or c.class_request_words.new.ask 0 0) c.contains.result c.contains.ensures.value
+    held
     c.if-not-contains.false in
     let read = padded_request taken c.if-not-values.false c.if-not-values-2.false asked c.args._claim
     c.in-Some-left.left c.pebbles-pebbles.result c.in-Some-left.is c.pebbles-pebbles.ensures.value in
@@ -92,8 +93,8 @@ returns-then-number-least c =
     let taken = words_of (goal.at.returns-then-number-least c).In-Some in
     let held = class_request_held taken c.if-not-values.false c.if-not-values-2.false c.pebbles-pebbles.result
     c.pebbles-pebbles.ensures.value in
-    let asked = held_asked _ _
-    (get_or c.class_request_words.new.ask 0 0) c.contains.result c.contains.ensures.value held
+    let asked = held_asked _ _ (get_or c.class_request_words.new.ask 0 0) c.contains.result c.contains.ensures.value
+    held
     c.if-not-contains.false in
     let read = padded_request taken c.if-not-values.false c.if-not-values-2.false asked c.args._claim
     c.in-Some-left.left c.pebbles-pebbles.result c.in-Some-left.is c.pebbles-pebbles.ensures.value in
@@ -107,8 +108,8 @@ returns c =
     let taken = words_of (goal.at.returns c).In-Some in
     let held = class_request_held taken c.if-not-values.false c.if-not-values-2.false c.pebbles-pebbles.result
     c.pebbles-pebbles.ensures.value in
-    let asked = held_asked _ _
-    (get_or c.class_request_words.new.ask 0 0) c.contains.result c.contains.ensures.value held
+    let asked = held_asked _ _ (get_or c.class_request_words.new.ask 0 0) c.contains.result c.contains.ensures.value
+    held
     c.if-not-contains.false in
     let read = padded_request taken c.if-not-values.false c.if-not-values-2.false asked c.args._claim
     c.in-Some-left.left c.pebbles-pebbles.result c.in-Some-left.is c.pebbles-pebbles.ensures.value in

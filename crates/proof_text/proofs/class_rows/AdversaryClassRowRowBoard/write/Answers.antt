@@ -16,8 +16,8 @@ returns c =
     let asked : c.push_place.new.self.bytes
     ≡ c.push_bytes-3.new.self.bytes ++ spaced_places board.labels (row.ask ∷ []) =
     (rw c.requires.words at c.in_ok-push_place.ensures)
-    ∙ ap (λ (t : List ℕ). c.push_bytes-3.new.self.bytes ++ t) (sym (append-nil
-    (32 ∷ place_word board.labels row.ask))) in
+    ∙ ap (λ (t : List ℕ). c.push_bytes-3.new.self.bytes ++ t) (sym (append-nil (32 ∷ place_word board.labels row.ask)))
+    in
     on_ok_weaker c.push_bytes-4.result (λ e claim. e)
     (line_written c.push_bytes-4.result (codes "at") places (codes " for") (32 ∷ decimal row.left)
     (codes " ask") (spaced_places board.labels (row.ask ∷ [])) _ _ _ _ _ _ _ _
