@@ -55,14 +55,14 @@ impl Proof {
         text.take(version.line());
         let is_forever = text.does_begin("forever\n");
         text.take(if is_forever { "forever\n" } else { "value " });
-        let claim = if is_forever { FOREVER } else { text.number(MOST_TURNS, b'\n') };
+        let claim = if is_forever { FOREVER } else { text.number(0..=MOST_TURNS, b'\n') };
         text.take("labeller ");
         let labeller = read_rows(board, version, &mut text, |row, text| {
             if is_forever {
                 text.take("* ");
                 row.turns = FOREVER;
             } else {
-                row.turns = text.number(MOST_TURNS, b' ');
+                row.turns = text.number(1..=MOST_TURNS, b' ');
             }
             text.take("take ");
             text.numbers(&mut row.moves[..board.pebbles as usize], board.labels - 1, b'\n');
@@ -71,11 +71,11 @@ impl Proof {
         if !is_forever {
             text.take("adversary ");
             adversary = read_rows(board, version, &mut text, |row, text| {
-                row.turns = text.number(MOST_TURNS, b' ');
+                row.turns = text.number(0..=MOST_TURNS, b' ');
                 text.take("ask ");
                 let is_by_classes = version == Version::Classes;
                 let most = if is_by_classes { board.labels } else { board.pebbles } - 1;
-                row.moves[0] = text.number(most, b'\n');
+                row.moves[0] = text.number(0..=most, b'\n');
                 if is_by_classes && !row.labels[..board.pebbles as usize].contains(&row.moves[0]) {
                     text.refuse("a label of the row was wanted");
                 }
@@ -103,7 +103,7 @@ fn read_rows(
     text: &mut Reader,
     rest: impl Fn(&mut Row, &mut Reader),
 ) -> Vec<Row> {
-    let count = text.number(version.most_rows(), b'\n');
+    let count = text.number(0..=version.most_rows(), b'\n');
     let mut rows: Vec<Row> = Vec::new();
     for _ in 0..count {
         let mut row = Row { labels: [0; 6], turns: 0, moves: [0; 6] };

@@ -1,6 +1,8 @@
 //! A text that is read word by word. What isn't as it has to be is told in one line on standard error,
 //! and the mirror ends with status 2.
 
+use std::ops::RangeInclusive;
+
 pub struct Reader<'t> {
     text: &'t [u8],
     from: usize,
@@ -31,9 +33,9 @@ impl<'t> Reader<'t> {
         self.from += word.len();
     }
 
-    /// Takes a number of at most this much, and the byte after it.
+    /// Takes a number in this range, and the byte after it.
     #[inline(always)]
-    pub fn number(&mut self, most: u32, end: u8) -> u32 {
+    pub fn number(&mut self, range: RangeInclusive<u32>, end: u8) -> u32 {
         let first = self.from;
         let mut number = 0;
         while let Some(digit) = self.digit() && self.from - first < 10 {
@@ -42,8 +44,10 @@ impl<'t> Reader<'t> {
         }
         let digits = self.from - first;
         let is_plain = digits == 1 || digits > 1 && self.text[first] != b'0';
-        if !is_plain || number > u64::from(most) || self.text.get(self.from) != Some(&end) {
-            self.refuse(&format!("a number of at most {most} and {:?} are wanted", end as char));
+        let is_in_range = u32::try_from(number).is_ok_and(|number| range.contains(&number));
+        if !is_plain || !is_in_range || self.text.get(self.from) != Some(&end) {
+            let (least, most) = range.into_inner();
+            self.refuse(&format!("a number from {least} to {most} and {:?} are wanted", end as char));
         }
         self.from += 1;
         number as u32
@@ -58,7 +62,7 @@ impl<'t> Reader<'t> {
     pub fn numbers(&mut self, numbers: &mut [u32], most: u32, end: u8) {
         let last = numbers.len() - 1;
         for (place, number) in numbers.iter_mut().enumerate() {
-            *number = self.number(most, if place == last { end } else { b' ' });
+            *number = self.number(0..=most, if place == last { end } else { b' ' });
         }
     }
 
