@@ -13,7 +13,7 @@ use Rattle.classes.specs.Classes.{class_of, put}
 use Rattle.classes.specs.ClassGaps.{gap_at}
 use Rattle.classes.proofs.Cited.{class_of-set, legal-answers, put-cancel}
 use Rattle.proof_text.specs.Arranged.{arranged, order_number}
-use Rattle.class_documents.proofs.ArrangedPlaces.{class-arranged}
+use Rattle.proof_text.proofs.Cited.{class-arranged}
 use Rattle.class_strategies.specs.Inside.ReachedClasses.{class_numbered, number_of_class_at}
 use Rattle.class_strategies.specs.Inside.ReachedClasses.{ClassRequestLeads, LegalLeads, AreExpandedClasses}
 use Rattle.class_strategies.proofs.ArrangedAgain.{arranged-class}
