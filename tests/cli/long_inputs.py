@@ -65,6 +65,12 @@ def longest_by_classes(work):
     return wrong or (None if size == LONGEST_INPUT else f'{size} bytes') or differs(run(['check', chain, path]), TOO_LONG)
 
 
+def too_large_by_classes(work):
+    """The board of a document of 141,599,400 bytes, more than are read of one: none of it is written."""
+    chain = written(work, 'chain-of-105.board', board_texts.chain(105, 4))
+    yield check('a document by classes that would not be read', fault(1, 'document too large'), ['solve', '--large', chain])
+
+
 def endless_inputs():
     """A pipe without an end, as each text that a command reads."""
     for name, words in (
@@ -111,6 +117,7 @@ def checks(work):
     """Those of boards and documents, of plays, and of paths."""
     yield from long_boards(work)
     yield Check('the longest document by classes', partial(longest_by_classes, work))
+    yield from too_large_by_classes(work)
     yield from endless_inputs()
     yield from long_plays()
     yield from long_paths()
