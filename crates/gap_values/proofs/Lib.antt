@@ -1,0 +1,13 @@
+mod ClosedGaps
+mod WaysTables
+mod TableNumbers
+mod NextLists
+mod FamilyMembers
+mod ClosedParts
+mod ClosingSteps
+mod TellingSteps
+mod Words
+mod RoundSteps
+mod BestAnswers
+mod Weighing
+mod ClassCounts

@@ -1,0 +1,325 @@
+-- The rounds in which gaps close are found one after another.
+use Rattle.std.proofs.Common.{◌≡◌, ◌≢◌, ℕ, suc, ◌+◌, ◌-◌, ◌<◌, ◌≤◌, ◌⊎◌, true, List, [], ◌∷◌, length, get_or, replicate}
+use Rattle.std.proofs.Common.{sym, ap, ◌∙◌, subst, inl, inr, arith, ◌↔◌, refl}
+use Rattle.std.specs.List.{remove}
+use Rattle.std.proofs.lemmas.Bool.{cases_lt}
+use Rattle.std.proofs.lemmas.List.{length-replicate, get_or-replicate}
+use Rattle.std.proofs.lemmas.List.Elements.{All-nil}
+use Rattle.board_text.specs.Domination.{has_bit}
+use Rattle.board_text.specs.PlainBoard.{PlainBoard, IsBoard, DominatesPlace, places}
+use Rattle.board_text.specs.declared.board.TheConstants.{MAX_LABELS}
+use Rattle.classes.specs.Classes.{IsClass}
+use Rattle.classes.specs.ClassGaps.{gap_at, member_with}
+use Rattle.classes.specs.Numbers.{ways, class_number, class_with}
+use Rattle.classes.proofs.Cited.{is-below, put-none, ways-zero, with-is, with-number}
+use Rattle.gap_values.specs.GapTables.{IsClosedBefore, ClosesBy}
+use Rattle.gap_values.specs.Inside.Sets.{TellClosed, IsShut, ArePassed, AreToldTo, open_count}
+use Rattle.gap_values.specs.Inside.Words.{round_of_word, gap_table, AreGapWords, AreRounds}
+use Rattle.gap_values.proofs.ClosedParts.{shut-closes}
+use Rattle.gap_values.proofs.ClosingSteps.{open-few}
+use Rattle.gap_values.proofs.TableNumbers.{gap-below}
+use Rattle.gap_values.proofs.TellingSteps.{told-begins}
+use Rattle.gap_values.proofs.Words.{before-from, before-to, gap_at-index, result-is}
+
+-- ---- words that agree before a round
+
+abbrev Agree : ℕ → List ℕ → List ℕ → Type 0
+Agree round old new =
+    (n b : ℕ) → b ≤ round
+    → IsClosedBefore (round_of_word (get_or old n 0)) b ↔ IsClosedBefore (round_of_word (get_or new n 0)) b
+
+closes-agree : (board : PlainBoard) (old new : List ℕ) (round : ℕ) → Agree round old new
+    → (gap : List ℕ) (b : ℕ) → b ≤ round
+    → ClosesBy board (gap_table old) gap b → ClosesBy board (gap_table new) gap b
+closes-agree board old new round agree gap b low closes = λ label answer.
+    let has = closes label answer in
+    (has.0, has.1, (agree (class_number (gap_at (member_with gap label) has.0)) b low).0 has.2)
+
+closes-back : (board : PlainBoard) (old new : List ℕ) (round : ℕ) → Agree round old new
+    → (gap : List ℕ) (b : ℕ) → b ≤ round
+    → ClosesBy board (gap_table new) gap b → ClosesBy board (gap_table old) gap b
+closes-back board old new round agree gap b low closes = λ label answer.
+    let has = closes label answer in
+    (has.0, has.1, (agree (class_number (gap_at (member_with gap label) has.0)) b low).1 has.2)
+
+-- a word of no round yet
+abbrev pub IsLate : ℕ → ℕ → Type 0
+IsLate round word = (word ≡ 4294967295) ⊎ (word ≡ round)
+
+late-not : (round word b : ℕ) → b ≤ round → IsLate round word → IsClosedBefore (round_of_word word) b → ⊥
+late-not round word b low (inl none) before = let less = before-to word b before in omega (arith, less.1)
+late-not round word b low (inr now) before = let less = before-to word b before in omega (arith, less.0)
+
+before-later : (word low high : ℕ) → low ≤ high → IsClosedBefore (round_of_word word) low
+    → IsClosedBefore (round_of_word word) high
+before-later word low high less before =
+    let is = before-to word low before in before-from word high (omega (arith, is.0)) is.1
+
+closes-later : (board : PlainBoard) (words gap : List ℕ) (low high : ℕ) → low ≤ high
+    → ClosesBy board (gap_table words) gap low → ClosesBy board (gap_table words) gap high
+closes-later board words gap low high less closes = λ label answer.
+    let has = closes label answer in
+    let word : ℕ = get_or words (class_number (gap_at (member_with gap label) has.0)) 0 in
+    (has.0, has.1, before-later word low high less has.2)
+
+-- ---- between and in rounds
+
+-- how many gaps there are, and the gap of a number
+abbrev pub gap_count : PlainBoard → ℕ
+gap_count board = ways (board.pebbles - 1) (places board)
+
+abbrev pub gap_with : PlainBoard → ℕ → List ℕ
+gap_with board n = class_with (places board) (board.pebbles - 1) n
+
+-- the gap is closed before one more than the bound exactly if it closes by the bound
+abbrev pub IsRight : PlainBoard → List ℕ → ℕ → ℕ → Type 0
+IsRight board words n b =
+    IsClosedBefore (round_of_word (get_or words n 0)) (suc b) ↔ ClosesBy board (gap_table words) (gap_with board n) b
+
+-- below the round the words are right, none is of the round or later, and the sets tell of them
+pub record IsAtRound (board : PlainBoard) (round : ℕ) (words : List ℕ) (sets : List (List ℕ)) : Type 0 where
+  pub size : AreGapWords board words
+  pub before : (n b : ℕ) → n < gap_count board → b < round → IsRight board words n b
+  pub words_are : (n : ℕ) → n < gap_count board → (get_or words n 0 < round) ⊎ (get_or words n 0 ≡ 4294967295)
+  pub few : round + open_count words ≤ gap_count board
+  pub tell : TellClosed board words round sets
+
+right-agree : (board : PlainBoard) (old new : List ℕ) (round : ℕ) → Agree round old new
+    → (n b : ℕ) → b < round → IsRight board old n b → IsRight board new n b
+right-agree board old new round agree n b low right = (
+  λ before. closes-agree board old new round agree (gap_with board n) b (omega arith)
+      (right.0 ((agree n (suc b) (omega arith)).1 before)),
+  λ closes. (agree n (suc b) (omega arith)).0
+      (right.1 (closes-back board old new round agree (gap_with board n) b (omega arith) closes)),
+)
+
+-- ---- the end of a round
+
+-- a gap whose word is below a round closes by that round
+closes-below : (board : PlainBoard) (round n : ℕ) (words : List ℕ) → n < gap_count board → round < 4294967295
+    → ((n b : ℕ) → n < gap_count board → b < round → IsRight board words n b)
+    → get_or words n 0 < round → ClosesBy board (gap_table words) (gap_with board n) (get_or words n 0)
+closes-below board round n words n_low low before less =
+    let word : ℕ = get_or words n 0 in
+    (before n word n_low less).0 (before-from word (suc word) (omega arith) (omega arith))
+
+-- if no gap closed in a round or later, what closes later closes by that round
+closes-sooner : (board : PlainBoard) (words gap : List ℕ) (round b : ℕ) → IsBoard board → round < 4294967295
+    → ((n : ℕ) → n < gap_count board → (get_or words n 0 < round) ⊎ (get_or words n 0 ≡ 4294967295))
+    → IsClass (places board) (board.pebbles - 1) gap
+    → ClosesBy board (gap_table words) gap b → ClosesBy board (gap_table words) gap round
+closes-sooner board words gap round b is_board low below is closes = λ label answer.
+    let has = closes label answer in
+    let member : List ℕ = member_with gap label in
+    let member_is = result-is board gap label is_board is answer.is_label in
+    let size : length member ≡ board.pebbles = member_is.size in
+    let pebble_low : has.0 < board.pebbles = has.1 in
+    let at : gap_at member has.0 ≡ remove member has.0 =
+    gap_at-index (places board) board.pebbles member has.0 member_is has.1 in
+    let n : ℕ = class_number (gap_at member has.0) in
+    let n_low : n < gap_count board =
+    subst (λ g. class_number g < gap_count board) (sym at)
+    (gap-below board member has.0 is_board member_is (omega arith)).0 in
+    let late = before-to (get_or words n 0) b has.2 in (
+      has.0,
+      has.1,
+      elim (below n n_low) [
+        | inl less ↦ before-from (get_or words n 0) round less (omega arith)
+        | inr none ↦ absurd (omega (arith, late.1))
+      ],
+    )
+
+-- a round that closed its open gaps that are shut
+module _ (board : PlainBoard) (is_board : IsBoard board) (some : 2 ≤ board.pebbles) (round closed : ℕ)
+    (old new : List ℕ) (sets : List (List ℕ)) (low : round < 4294967295) (at : IsAtRound board round old sets)
+    (passed : ArePassed board sets round 0 (gap_count board) closed old new) where
+  agree : Agree round old new
+  agree n b most = elim (passed.changed n) [
+    | inl same ↦ (
+      subst (λ w. IsClosedBefore (round_of_word w) b) (sym same),
+      subst (λ w. IsClosedBefore (round_of_word w) b) same,
+    )
+    | inr closes ↦ (
+      λ before. absurd (late-not round (get_or old n 0) b most (inl closes.0) before),
+      λ before. absurd (late-not round (get_or new n 0) b most (inr closes.1) before),
+    )
+  ]
+
+  old-open : (n : ℕ) → get_or new n 0 ≡ 4294967295 → get_or old n 0 ≡ 4294967295
+  old-open n open_now = elim (passed.changed n) [
+    | inl same ↦ sym same ∙ open_now
+    | inr closes ↦ closes.0
+  ]
+
+  is-gap : (n : ℕ) → n < gap_count board → IsClass (places board) (board.pebbles - 1) (gap_with board n)
+  is-gap n n_low = (with-is (places board) (board.pebbles - 1) n n_low).is
+
+  shut-is : (n : ℕ) → n < gap_count board → get_or old n 0 ≡ 4294967295
+      → IsShut board sets (gap_with board n) ↔ ClosesBy board (gap_table old) (gap_with board n) round
+  shut-is n n_low open_word =
+      shut-closes board old round sets (gap_with board n) is_board some at.tell (is-gap n n_low)
+      (ap (λ k. get_or old k 0) (with-is (places board) (board.pebbles - 1) n n_low).number_is ∙ open_word)
+
+  new-words : (n : ℕ) → n < gap_count board → (get_or new n 0 < round + 1) ⊎ (get_or new n 0 ≡ 4294967295)
+  new-words n n_low = elim (passed.changed n) [
+    | inl same ↦ elim (at.words_are n n_low) [
+      | inl less ↦ inl (omega (arith, same))
+      | inr none ↦ inr (same ∙ none)
+    ]
+    | inr closes ↦ inl (omega (arith, closes.1))
+  ]
+
+  new-before : (n b : ℕ) → n < gap_count board → b < round → IsRight board new n b
+  new-before n b n_low b_low = right-agree board old new round agree n b b_low (at.before n b n_low b_low)
+
+  right-now : (n : ℕ) → n < gap_count board → IsRight board new n round
+  right-now n n_low = (
+    λ before.
+        let is = before-to (get_or new n 0) (suc round) before in
+        elim (cases_lt (get_or new n 0) round) [
+          | inl less ↦ closes-later board new (gap_with board n) (get_or new n 0) round (omega arith)
+              (closes-below board round n new n_low low new-before less)
+          | inr now ↦
+              let word : get_or new n 0 ≡ round = omega (arith, is.0) in
+              let was : get_or old n 0 ≡ 4294967295 =
+              elim (passed.changed n) [
+                | inr closes ↦ closes.0
+                | inl same ↦ elim (at.words_are n n_low) [
+                  | inl less ↦ absurd (omega (arith, same, less, word))
+                  | inr none ↦ none
+                ]
+              ] in
+              closes-agree board old new round agree (gap_with board n) round (omega arith)
+              ((shut-is n n_low was).0 (passed.shut n (omega arith) n_low was word))
+        ],
+    λ closes. elim (new-words n n_low) [
+      | inl less ↦ before-from (get_or new n 0) (suc round) (omega arith) (omega arith)
+      | inr none ↦ absurd (passed.left_open n (omega arith) n_low none
+          ((shut-is n n_low (old-open n none)).1
+          (closes-back board old new round agree (gap_with board n) round (omega arith) closes)))
+    ],
+  )
+
+  -- the sets are told of what closed
+  pub telling-begins : AreToldTo board new round 0 sets
+  telling-begins = told-begins board is_board some new round low old sets (λ n. agree n round (omega arith)) at.tell
+
+  -- some gap closed: the next round begins
+  pub next-round : (told : List (List ℕ)) → closed ≢ 0 → TellClosed board new (round + 1) told
+      → IsAtRound board (round + 1) new told
+  next-round told some_closed tell = record {
+    size = passed.same_length ∙ at.size;
+    before = λ n b n_low b_low. elim (cases_lt b round) [
+      | inl before ↦ new-before n b n_low before
+      | inr now ↦
+          let same : round ≡ b = omega arith in
+          subst (IsRight board new n) same (right-now n n_low)
+    ];
+    words_are = new-words;
+    few = (let few = at.few in let counted = passed.counted in omega (arith, some_closed));
+    tell = tell;
+  }
+
+  -- no gap closed: the words are a table of gaps
+  pub last-round : closed ≡ 0 → AreRounds board new
+  last-round none_closed =
+      let below : (n : ℕ) → n < gap_count board → (get_or new n 0 < round) ⊎ (get_or new n 0 ≡ 4294967295) =
+      λ n n_low. subst (λ w. (w < round) ⊎ (w ≡ 4294967295)) (sym (passed.none none_closed n)) (at.words_are n n_low) in
+      let right : (n b : ℕ) → n < gap_count board → IsRight board new n b = λ n b n_low.
+      elim (cases_lt b round) [
+        | inl before ↦ new-before n b n_low before
+        | inr past ↦ (
+          λ before.
+              let is = before-to (get_or new n 0) (suc b) before in
+              elim (below n n_low) [
+                | inl less ↦ closes-later board new (gap_with board n) (get_or new n 0) b (omega arith)
+                    (closes-below board round n new n_low low new-before less)
+                | inr none ↦ absurd (omega (arith, is.1))
+              ],
+          λ closes. elim (below n n_low) [
+            | inl less ↦ before-from (get_or new n 0) (suc b) (omega arith) (omega arith)
+            | inr none ↦
+                let now = before-to (get_or new n 0) (suc round)
+                ((right-now n n_low).1
+                (closes-sooner board new (gap_with board n) round b is_board low below (is-gap n n_low) closes)) in
+                absurd (omega (arith, now.1))
+          ],
+        )
+      ] in
+      record {
+        size = passed.same_length ∙ at.size;
+        table = λ gap is b.
+            let n : ℕ = class_number gap in
+            let n_low : n < gap_count board = is-below (places board) (board.pebbles - 1) gap is in
+            subst (λ g. IsClosedBefore (round_of_word (get_or new n 0)) (suc b) ↔ ClosesBy board (gap_table new) g b)
+            (with-number (places board) (board.pebbles - 1) gap is) (right n b n_low);
+      }
+
+-- ---- the first round
+
+pub first-round : (board : PlainBoard) (words none : List ℕ) (sets : List (List ℕ))
+    → words ≡ replicate (gap_count board) 4294967295
+    → sets ≡ replicate (ways (board.pebbles - 2) (places board)) none
+    → ((x : ℕ) → x < MAX_LABELS → (has_bit none x ≡ true) ↔ (x < 0)) → IsBoard board
+    → IsAtRound board 0 words sets
+first-round board words none sets all_open all_none empty is_board =
+    let many : ℕ = ways (board.pebbles - 2) (places board) in
+    let size : length words ≡ gap_count board = ap length all_open ∙ length-replicate {A =
+    ℕ} (gap_count board) 4294967295 in
+    record {
+      size = size;
+      before = λ n b n_low b_low. absurd (omega arith);
+      words_are = λ n low. inr (ap (λ l. get_or l n 0) all_open
+          ∙ get_or-replicate {A = ℕ} (gap_count board) n 4294967295 0 low);
+      few = (let few = open-few words in omega arith);
+      tell = record {
+        many = ap length all_none ∙ length-replicate {A = List ℕ} many none;
+        each = λ list is_list label low.
+            let few = is_board.labels.1 in
+            let number_low : class_number list < many = is-below (places board) (board.pebbles - 2) list is_list in
+            let own : get_or sets (class_number list) [] ≡ none =
+            ap (λ l. get_or l (class_number list) []) all_none
+            ∙ get_or-replicate {A = List ℕ} many (class_number list) none [] number_low in (
+              λ has.
+                  let under : label < 0 = (empty label (omega arith)).0 (ap (λ s. has_bit s label) (sym own) ∙ has) in
+                  absurd (omega arith),
+              λ before.
+                  let is = before-to (get_or words (class_number (member_with list label)) 0) 0 before in
+                  absurd (omega (arith, is.0)),
+            );
+      };
+    }
+
+-- ---- one pebble: its gap has no places, and each label answers with that gap again
+
+pub lone-rounds : (board : PlainBoard) (words : List ℕ) → IsBoard board → board.pebbles ≡ 1
+    → words ≡ replicate (gap_count board) 4294967295 → AreRounds board words
+lone-rounds board words is_board one all_open =
+    let none : board.pebbles - 1 ≡ 0 = omega arith in
+    let count : gap_count board ≡ 1 = ap (λ n. ways n (places board)) none ∙ ways-zero (places board) in
+    let size : length words ≡ gap_count board = ap length all_open ∙ length-replicate {A =
+    ℕ} (gap_count board) 4294967295 in
+    let word : get_or words 0 0 ≡ 4294967295 =
+    ap (λ l. get_or l 0 0) all_open ∙ get_or-replicate {A = ℕ} (gap_count board) 0 4294967295 0 (omega arith) in
+    let never : (b : ℕ) → IsClosedBefore (gap_table words []) b → ⊥ =
+    λ b before. (let is = before-to (get_or words 0 0) b before in omega (arith, is.1, word)) in
+    let label_low : 0 < board.labels = (let some = is_board.labels.0 in omega arith) in
+    record {
+      size = size;
+      table = λ gap is b.
+          let empty : gap ≡ [] = no-places gap (is.size ∙ none) in
+          subst (λ g. IsClosedBefore (gap_table words g) (suc b) ↔ ClosesBy board (gap_table words) g b) (sym empty) (
+            λ before. absurd (never (suc b) before),
+            λ closes. absurd (
+                let has = closes 0 (record { is_label = label_low; dominates = All-nil (DominatesPlace board 0) }) in
+                let pebble_low : has.0 < board.pebbles = has.1 in
+                let pebble : has.0 ≡ 0 = omega arith in
+                never b (subst (λ g. IsClosedBefore (gap_table words g) b)
+                (ap (gap_at (member_with [] 0)) pebble ∙ ap (λ l. gap_at l 0) (put-none 0)) has.2)
+                ),
+          );
+    }
+  where
+    no-places : (gap : List ℕ) → length gap ≡ 0 → gap ≡ []
+    no-places [] none = refl
+    no-places (first ∷ others) none = absurd (omega arith)

@@ -1,0 +1,32 @@
+use Rattle.std.proofs.Common.{suc, ◌+◌, ◌≤◌, refl, arith}
+use Rattle.board_text.specs.PlainBoard.{places}
+use Rattle.classes.proofs.Cited.{ways-fit}
+use Rattle.classes.proofs.Cited.{row-begins, row-first, row-more}
+use Rattle.gap_values.proofs.counting.count_gaps.Goals as goal
+
+pub loop-pebble-init : goal.loop-pebble-init
+loop-pebble-init c =
+    row-begins (places c.args.board.now) _ (omega (arith, c.places-places.ensures.few, c.places-places.ensures.value))
+    refl
+
+pub loop-greatest-init : goal.loop-greatest-init
+loop-greatest-init c = row-first (places c.args.board.now) c.loop-pebble.pebble c.loop-pebble.ways
+    c.loop-pebble.invariant
+
+pub overflow_add-ways-in-loop-greatest : goal.overflow_add-ways-in-loop-greatest
+overflow_add-ways-in-loop-greatest c =
+    let board = c.args.board.now in
+    let few : places board ≤ 257 = omega (arith, c.places-places.ensures.few, c.places-places.ensures.value) in
+    let step = row-more (places board) c.loop-pebble.pebble c.loop-greatest.greatest _ c.loop-greatest.ways few
+    (omega (arith, c.loop-greatest-test.true, c.places-places.ensures.value)) refl c.loop-greatest.invariant in
+    let fit = ways-fit board (suc c.loop-pebble.pebble) (c.loop-greatest.greatest + 1) c.places-places.ensures.is_board
+    (omega (arith, c.loop-pebble-test.true, c.pebbles-pebble-end.ensures.value))
+    (omega (arith, c.loop-greatest-test.true, c.places-places.ensures.value)) in
+    omega (arith, step.0, fit)
+
+pub loop-greatest-preserved : goal.loop-greatest-preserved
+loop-greatest-preserved c =
+    let board = c.args.board.now in
+    let few : places board ≤ 257 = omega (arith, c.places-places.ensures.few, c.places-places.ensures.value) in
+    (row-more (places board) c.loop-pebble.pebble c.loop-greatest.greatest _ c.loop-greatest.ways few
+    (omega (arith, c.loop-greatest-test.true, c.places-places.ensures.value)) refl c.loop-greatest.invariant).1

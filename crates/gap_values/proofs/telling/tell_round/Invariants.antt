@@ -1,0 +1,11 @@
+use Rattle.std.proofs.Common.{◌≡◌, ◌-◌}
+use Rattle.gap_values.specs.Inside.Families.{IsAtFamily}
+use Rattle.gap_values.specs.Inside.Sets.{AreToldTo}
+use Rattle.gap_values.proofs.telling.tell_round.Given as goal
+
+abbrev pub invariant-loop-number : goal.invariant-loop-number
+invariant-loop-number l = record {
+  walk : IsAtFamily l.numbers l.walk.count l.number l.walk;
+  count : l.walk.count ≡ l.board.pebbles - 2;
+  told : AreToldTo l.board l.words l.round l.walk.start l.sets;
+}

@@ -1,0 +1,6 @@
+-- Definitions for the clauses of this crate's own functions; no public contract cites them.
+pub mod Families
+pub mod FamilyWeights
+pub mod Sets
+pub mod Table
+pub mod Words

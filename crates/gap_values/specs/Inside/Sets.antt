@@ -1,0 +1,110 @@
+-- Sets of labels with which lists of places are closed gaps.
+use Rattle.std.specs.Prelude.{◌≡◌, ◌⊎◌, ℕ, ◌+◌, ◌-◌, ◌<◌, ◌≤◌, ◌↔◌, nat_eq, if◌then◌else◌, true}
+use Rattle.std.specs.Prelude.{List, [], ◌∷◌}
+use Rattle.std.specs.Prelude.{length, slice_index, slice_index_or}
+use Rattle.std.specs.List.{remove}
+use Rattle.board_text.specs.Domination.{has_bit}
+use Rattle.board_text.specs.PlainBoard.{PlainBoard, places}
+use Rattle.board_text.specs.declared.board.TheConstants.{MAX_LABELS}
+use Rattle.positions.specs.Gaps.{AnswersGap}
+use Rattle.classes.specs.Classes.{IsClass}
+use Rattle.classes.specs.ClassGaps.{member_with}
+use Rattle.classes.specs.Numbers.{ways, class_number, class_with}
+use Rattle.gap_values.specs.GapTables.{IsClosedBefore}
+use Rattle.gap_values.specs.Inside.Words.{gap_table}
+
+-- the label is in the set of the list of this number
+abbrev pub HasLabel : List (List ℕ) → ℕ → ℕ → Type 0
+HasLabel sets list label = has_bit (slice_index_or sets list []) label ≡ true
+
+-- a set for each list of all places but two
+abbrev pub AreSets : PlainBoard → List (List ℕ) → Type 0
+AreSets board sets = length sets ≡ ways (board.pebbles - 2) (places board)
+
+-- the sets have the labels with which their lists are gaps that closed before the round
+pub record TellClosed (board : PlainBoard) (words : List ℕ) (round : ℕ) (sets : List
+    (List ℕ)) : Type 0 where
+  pub many : AreSets board sets
+  pub each : (list : List ℕ) → IsClass (places board) (board.pebbles - 2) list
+      → (label : ℕ) → label < board.labels
+      → HasLabel sets (class_number list) label
+      ↔ IsClosedBefore (gap_table words (member_with list label)) round
+
+-- each answer of the gap is in the set of the other places of some place of the gap
+abbrev pub IsShut : PlainBoard → List (List ℕ) → List ℕ → Type 0
+IsShut board sets gap = (label : ℕ) → AnswersGap board gap label
+    → (index : ℕ) × (index < length gap) × HasLabel sets (class_number (remove gap index)) label
+
+-- the set has the answers of the gap that are in no set of a list of `lists`, and maybe others of
+-- none of these; all answers of the gap are in it or in such a set
+pub record AreLeft (board : PlainBoard) (sets : List (List ℕ)) (gap : List ℕ) (InSome : ℕ
+    → Type 0) (live : List ℕ)
+    : Type 0 where
+  pub answers : (label : ℕ) → label < MAX_LABELS → has_bit live label ≡ true
+      → AnswersGap board gap label × (InSome label → ⊥)
+  pub all : (label : ℕ) → AnswersGap board gap label → (has_bit live label ≡ true) ⊎ InSome label
+
+-- how many words are open
+abbrev pub open_count : List ℕ → ℕ
+open_count [] = 0
+open_count (word ∷ words) = (if nat_eq word 4294967295 then 1 else 0) + open_count words
+
+-- the open gaps from a number up to another one that are shut have the round for their word now,
+-- and
+-- `closed` of them are; all other words are as they were
+pub record ArePassed (board : PlainBoard) (sets : List (List ℕ)) (round from to closed : ℕ)
+    (old new : List ℕ)
+    : Type 0 where
+  pub same_length : length new ≡ length old
+  pub shut : (gap : ℕ) → from ≤ gap → gap < to → slice_index old gap ≡ 4294967295
+      → slice_index new gap ≡ round
+      → IsShut board sets (class_with (places board) (board.pebbles - 1) gap)
+  pub left_open : (gap : ℕ) → from ≤ gap → gap < to → slice_index new gap ≡ 4294967295
+      → IsShut board sets (class_with (places board) (board.pebbles - 1) gap) → ⊥
+  pub changed : (gap : ℕ) → (slice_index new gap ≡ slice_index old gap)
+      ⊎ ((slice_index old gap ≡ 4294967295) × (slice_index new gap ≡ round))
+  pub before : (gap : ℕ) → gap < from → slice_index new gap ≡ slice_index old gap
+  pub behind : (gap : ℕ) → to ≤ gap → slice_index new gap ≡ slice_index old gap
+  pub few : from + closed ≤ to
+  pub counted : closed + open_count new ≡ open_count old
+  pub none : closed ≡ 0 → (gap : ℕ) → slice_index new gap ≡ slice_index old gap
+
+-- ---- telling a closed gap to its sets
+
+-- the label of a place was added to the set of a list, if the place holds one
+pub record IsTold (board : PlainBoard) (list place : ℕ) (old new : List (List ℕ)) : Type 0 where
+  pub same_length : length new ≡ length old
+  pub kept : (other label : ℕ) → label < MAX_LABELS → HasLabel old other label
+      → HasLabel new other label
+  pub only : (other label : ℕ) → label < MAX_LABELS → HasLabel new other label
+      → HasLabel old other label ⊎ ((other ≡ list) × (label ≡ place))
+  pub told : place < board.labels → HasLabel new list place
+
+-- the same of the places of a gap before an index, each with the list of the others
+pub record IsGapToldTo (board : PlainBoard) (gap : List ℕ) (end : ℕ) (old new : List
+    (List ℕ)) : Type 0 where
+  pub same_length : length new ≡ length old
+  pub kept : (other label : ℕ) → label < MAX_LABELS → HasLabel old other label
+      → HasLabel new other label
+  pub only : (other label : ℕ) → label < MAX_LABELS → HasLabel new other label
+      → HasLabel old other label ⊎ ((index : ℕ) × (index < length gap)
+      × (other ≡ class_number (remove gap index)) × (label ≡ slice_index gap index))
+  pub told : (index : ℕ) → index < end → slice_index gap index < board.labels
+      → HasLabel new (class_number (remove gap index)) (slice_index gap index)
+
+-- the sets have the labels with which their lists are gaps that closed before a round, and in the
+-- round those of the gaps before a number
+pub record AreToldTo (board : PlainBoard) (words : List ℕ) (round end : ℕ) (sets : List
+    (List ℕ)) : Type 0 where
+  pub many : AreSets board sets
+  pub only : (list : List ℕ) → IsClass (places board) (board.pebbles - 2) list
+      → (label : ℕ) → label < board.labels → HasLabel sets (class_number list) label
+      → IsClosedBefore (gap_table words (member_with list label)) (round + 1)
+  pub earlier : (list : List ℕ) → IsClass (places board) (board.pebbles - 2) list
+      → (label : ℕ) → label < board.labels
+      → IsClosedBefore (gap_table words (member_with list label)) round
+      → HasLabel sets (class_number list) label
+  pub now : (list : List ℕ) → IsClass (places board) (board.pebbles - 2) list
+      → (label : ℕ) → label < board.labels
+      → slice_index words (class_number (member_with list label)) ≡ round
+      → class_number (member_with list label) < end → HasLabel sets (class_number list) label

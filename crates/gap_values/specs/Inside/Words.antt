@@ -1,0 +1,37 @@
+-- The words of a table of gaps.
+use Rattle.std.specs.Prelude.{◌≡◌, ℕ, zero, suc, ◌-◌, nat_lt, if◌then◌else◌, List, length}
+use Rattle.std.specs.Prelude.{slice_index}
+use Rattle.std.specs.List.{remove}
+use Rattle.board_text.specs.PlainBoard.{PlainBoard, places}
+use Rattle.positions.specs.declared.value.Value.{Value}
+use Rattle.positions.specs.declared.value.Value.TheVariants.{Finite, Forever}
+use Rattle.classes.specs.Numbers.{ways, class_number}
+use Rattle.gap_values.specs.GapTables.{IsGapTable}
+
+-- the round that a word stands for: the greatest word of 32 bits stands for none
+unfoldable pub round_of_word : ℕ → Value
+round_of_word word = if nat_lt word 4294967295 then Finite word else Forever
+
+-- the table of gaps that these words are
+abbrev pub gap_table : List ℕ → List ℕ → Value
+gap_table words gap = round_of_word (slice_index words (class_number gap))
+
+-- a word for each gap of the board
+abbrev pub AreGapWords : PlainBoard → List ℕ → Type 0
+AreGapWords board words = length words ≡ ways (board.pebbles - 1) (places board)
+
+-- the words are those of a table of gaps
+pub record AreRounds (board : PlainBoard) (words : List ℕ) : Type 0 where
+  pub size : AreGapWords board words
+  pub table : IsGapTable board (gap_table words)
+
+-- the word of the gap that leaves out the place at an index
+abbrev pub word_without : List ℕ → List ℕ → ℕ → ℕ
+word_without words class index = slice_index words (class_number (remove class index))
+
+-- the least of the words of the gaps at the places of a class before an index, or the greatest word
+unfoldable pub least_word : List ℕ → List ℕ → ℕ → ℕ
+least_word words class zero = 4294967295
+least_word words class (suc index) =
+    if nat_lt (word_without words class index) (least_word words class index)
+    then word_without words class index else least_word words class index

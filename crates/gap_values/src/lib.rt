@@ -1,0 +1,24 @@
+//! Values found by gaps alone: a table of the rounds in which gaps close, and none of classes.
+#![tactic(auto)]
+
+mod best;
+mod closing;
+mod counting;
+#[cfg(test)]
+mod examples;
+mod families;
+mod gap_numbers;
+mod laws;
+mod rounds;
+mod sizes;
+mod telling;
+mod values;
+mod ways_table;
+mod weight;
+
+pub use counting::{count_gaps, has_few_gaps};
+pub use gap_numbers::GapNumbers;
+pub use laws::gap_tables_have_values;
+pub use rounds::MAX_GAPS;
+pub use sizes::Sizes;
+pub use values::GapValues;
