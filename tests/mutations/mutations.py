@@ -22,6 +22,8 @@ HERE = os.path.dirname(os.path.abspath(__file__))
 DEFINITIONS = 'definitions'
 ANSWER = ('refused', 'tried')
 SUMS = os.path.join(HERE, 'promises.sums')
+# names of definitions that changed (promises.py)
+RENAMED = 'renamed.txt'
 WAITING = 'waiting'
 
 
@@ -93,7 +95,7 @@ def path_of(name):
 
 def texts():
     """The names of all texts: definitions first, then crates."""
-    found = sorted(file.removesuffix('.txt') for file in os.listdir(HERE) if file.endswith('.txt'))
+    found = sorted(file.removesuffix('.txt') for file in os.listdir(HERE) if file.endswith('.txt') and file != RENAMED)
     return [DEFINITIONS, *(name for name in found if name != DEFINITIONS)]
 
 

@@ -39,7 +39,7 @@ TYPE_NAME = re.compile(r'\b(?:struct|enum|trait|const|type)\s+(\w+)')
 IMPL = re.compile(r'\bimpl\b(?P<head>[^{]*)\{')
 MODEL = re.compile(r'\bghost Value = .*?;', re.S)
 COMMENT = re.compile(r'--[^\n]*')
-RENAMED = 'tests/mutations/promises.renamed'
+RENAMED = 'tests/mutations/renamed.txt'
 OPENING, CLOSING = '{([', '})]'
 
 
@@ -104,6 +104,12 @@ def imported(found):
         yield other or name.split('.')[-1], f'{module}.{item.strip()}' if items else item
 
 
+def named(whole):
+    """The names that stand for something in an import's path: its last, and of a type of the code that of the type too."""
+    parts = NAME.findall(whole)
+    return parts if 'declared' in parts else parts[-1:]
+
+
 @dataclass(frozen=True)
 class Told:
     """A text with one space between words, after the imports of definitions that it uses, in order; and the names in it that stand for
@@ -118,7 +124,7 @@ def told(text, beside=()):
     words = set(WORD.findall(rest)) | set(NAME.findall(rest))
     used = [(found, whole) for found in USE.finditer(text) for name, whole in imported(found) if name in words]
     ghost = sorted({whole for found, whole in used if found[1] or found[3]})
-    names = {part for _, whole in used for part in NAME.findall(whole)}.union(words.intersection(beside))
+    names = {part for _, whole in used for part in named(whole)}.union(words.intersection(beside))
     return Told(' '.join([*ghost, *rest.split()]), frozenset(names))
 
 
@@ -276,7 +282,7 @@ def of_folder(top):
 
 
 def renames(text):
-    """The old and the new name of each line of a promises.renamed, and the words of which a file that has one keeps the old name."""
+    """The old and the new name of each line of a renamed.txt, and the words of which a file that has one keeps the old name."""
     return [tuple(line.split()) for line in text.splitlines() if not line.startswith('#')]
 
 
