@@ -1,7 +1,8 @@
 """The laws in words: the docstring of a public function with an empty body is the text of its law.
 
 In a document `<!-- laws of A B -->` is followed by the laws of the crates A and B, a line for each, up to `<!-- end -->`. A part is a
-crate, or a file of its src/ such as `player/nested_laws`. Each law is in one such passage, but `limits`, whose numbers have a row of their own.
+crate, or a file of its src/ such as `player/nested_laws`. Each law is in one such passage, or the documents name the file that it is in;
+but for `limits`, whose numbers have a row of their own.
 """
 import os
 import re
@@ -34,6 +35,12 @@ def all_laws():
     return [(crate, name) for crate in standing(TOP) if crate not in FOR_TESTS for name, _ in laws_of(crate)]
 
 
+def named(text):
+    """The crate and the name of each law in a file that a text names by its path."""
+    return {(path.split('/')[1], name) for path in re.findall(r'`(crates/\w+/src/\w+\.rt)`', text) if os.path.isfile(os.path.join(TOP, path))
+            for name, _ in laws_in(os.path.join(TOP, path))}
+
+
 def written(text):
     """The text of a document with all its passages as the docstrings have them. A name that two laws have is told with its crate."""
     names = Counter(name for _, name in all_laws())
@@ -47,14 +54,16 @@ def written(text):
 
 
 def differs():
-    """None if the documents have each law once, in the words of its docstring."""
+    """None if the documents have each law once, in the words of its docstring, or name its file."""
     texts = {}
     for path in DOCUMENTS:
         with open(path) as file:
             texts[path] = file.read()
     parts = [part for text in texts.values() for parts, _ in PASSAGE.findall(text) for part in parts.split()]
     told = Counter((part.split('/')[0], name) for part in parts for name, _ in laws_of(part))
-    wrong = [f'the law {name} of {crate} is in {told[crate, name]} passages' for crate, name in all_laws() if told[crate, name] != 1]
+    linked = set().union(*map(named, texts.values()))
+    wrong = [f'the law {name} of {crate} is in {told[crate, name]} passages' for crate, name in all_laws()
+             if told[crate, name] > 1 or not told[crate, name] and (crate, name) not in linked]
     wrong += [f'{os.path.basename(path)} has a law in other words: tests/docs/run --write mends it' for path, text in texts.items() if written(text) != text]
     return '; '.join(wrong) or None
 
