@@ -46,7 +46,8 @@ fn assert_values(rt: &impl Abort, alloc: Global, text: &str, wanted: Value, fore
     match GapValues::of(alloc, &board) {
         Ok(values) => {
             assert_eq!(rt; values.value(board.start()), wanted);
-            assert_eq!(rt; values.count_forever(), forever);
+            let sizes = values.sizes(alloc).ok().expect(rt, "memory");
+            assert_eq!(rt; sizes.forever, forever);
         }
         Err(_) => panic!(rt; "memory"),
     }

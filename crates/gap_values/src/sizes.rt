@@ -2,9 +2,9 @@
 
 ghost use Rattle.std.specs.Prelude.{◌≡◌, ◌-◌, ◌<◌, ◌≤◌, ℕ, length, slice_index, IfOk};
 ghost use Rattle.classes.specs.ClassGaps.{member_with};
-ghost use Rattle.gap_values.specs.Sizes.{HasValueCount, AreValueCounts};
+ghost use Rattle.gap_values.specs.Sizes.{AreValueCounts};
 ghost use Rattle.gap_values.specs.Inside.Families.{IsFamilyOf};
-ghost use Rattle.gap_values.specs.Inside.Words.{round_of_word, least_word, AreGapWords, AreRounds};
+ghost use Rattle.gap_values.specs.Inside.Words.{least_word, AreGapWords, AreRounds};
 
 use crate::closing::OPEN;
 use crate::families::Family;
@@ -21,7 +21,6 @@ fn first_of_member(numbers: &GapNumbers, words: &[u32], family: &Family, least: 
     ensures { result
         ≡ least_word words.now (member_with family.now.held least) numbers.now.pebbles }
 {
-    let _ = numbers.pebbles();
     let mut first = OPEN;
     for index in 0..family.held.as_slice().len() {
         let word = words[(family.rests[index] + least as u64) as usize];
@@ -30,28 +29,6 @@ fn first_of_member(numbers: &GapNumbers, words: &[u32], family: &Family, least: 
         }
     }
     first.min(words[family.number as usize])
-}
-
-/// The number of configurations whose value is that of the word `wanted`: each class counts once,
-/// with its weight.
-pub(crate) fn count_word(numbers: &GapNumbers, words: &[u32], wanted: u32) -> u64
-    requires { AreRounds numbers.now words.now }
-    ensures { HasValueCount numbers.now (round_of_word wanted) result }
-{
-    let fewer = numbers.pebbles() - 1;
-    let mut count: u64 = 0;
-    let mut walk = numbers.families(fewer);
-    for number in 0..numbers.gaps() {
-        let family = numbers.family(&walk, number);
-        numbers.next_family(&mut walk, number);
-        let weights = family_weights(numbers, &family);
-        for least in 0..family.size {
-            if first_of_member(numbers, words, &family, least) == wanted {
-                count += weights.of(least, family.size);
-            }
-        }
-    }
-    count
 }
 
 /// How many configurations have each value.

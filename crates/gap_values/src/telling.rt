@@ -33,7 +33,6 @@ fn tell_gap(board: &Board, family: &Family, least: u16, sets: &mut [LabelSet])
     ensures { IsGapToldTo board.now
         (member_with family.now.held least) (board.now.pebbles - 1) sets.old sets.new }
 {
-    let _ = board.pebbles();
     let held = family.held.as_slice();
     for index in 0..held.len() {
         let list = (family.rests[index] + least as u64) as usize;
@@ -51,7 +50,6 @@ fn tell_family(board: &Board, family: &Family, words: &[u32], round: u32, sets: 
     requires sets { AreToldTo board.now words.now round family.now.start sets.old }
     ensures { AreToldTo board.now words.now round (family.now.start + family.now.size) sets.new }
 {
-    let _ = board.pebbles();
     for least in 0..family.size {
         if words[(family.start + least as u64) as usize] == round {
             tell_gap(board, family, least, sets);

@@ -11,6 +11,7 @@ use Rattle.classes.specs.Classes.{IsClass}
 use Rattle.classes.specs.ClassGaps.{member_with}
 use Rattle.classes.specs.Numbers.{ways, class_number, class_with}
 use Rattle.gap_values.specs.GapTables.{IsClosedBefore}
+use Rattle.gap_values.specs.declared.closing.TheConstants.{OPEN}
 use Rattle.gap_values.specs.Inside.Words.{gap_table}
 
 -- the label is in the set of the list of this number
@@ -47,22 +48,21 @@ pub record AreLeft (board : PlainBoard) (sets : List (List ℕ)) (gap : List ℕ
 -- how many words are open
 abbrev pub open_count : List ℕ → ℕ
 open_count [] = 0
-open_count (word ∷ words) = (if nat_eq word 4294967295 then 1 else 0) + open_count words
+open_count (word ∷ words) = (if nat_eq word OPEN then 1 else 0) + open_count words
 
 -- the open gaps from a number up to another one that are shut have the round for their word now,
--- and
--- `closed` of them are; all other words are as they were
+-- `closed` of them are such, and all other words are as they were
 pub record ArePassed (board : PlainBoard) (sets : List (List ℕ)) (round from to closed : ℕ)
     (old new : List ℕ)
     : Type 0 where
   pub same_length : length new ≡ length old
-  pub shut : (gap : ℕ) → from ≤ gap → gap < to → slice_index old gap ≡ 4294967295
+  pub shut : (gap : ℕ) → from ≤ gap → gap < to → slice_index old gap ≡ OPEN
       → slice_index new gap ≡ round
       → IsShut board sets (class_with (places board) (board.pebbles - 1) gap)
-  pub left_open : (gap : ℕ) → from ≤ gap → gap < to → slice_index new gap ≡ 4294967295
+  pub left_open : (gap : ℕ) → from ≤ gap → gap < to → slice_index new gap ≡ OPEN
       → IsShut board sets (class_with (places board) (board.pebbles - 1) gap) → ⊥
   pub changed : (gap : ℕ) → (slice_index new gap ≡ slice_index old gap)
-      ⊎ ((slice_index old gap ≡ 4294967295) × (slice_index new gap ≡ round))
+      ⊎ ((slice_index old gap ≡ OPEN) × (slice_index new gap ≡ round))
   pub before : (gap : ℕ) → gap < from → slice_index new gap ≡ slice_index old gap
   pub behind : (gap : ℕ) → to ≤ gap → slice_index new gap ≡ slice_index old gap
   pub few : from + closed ≤ to

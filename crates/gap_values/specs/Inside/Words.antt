@@ -7,10 +7,11 @@ use Rattle.positions.specs.declared.value.Value.{Value}
 use Rattle.positions.specs.declared.value.Value.TheVariants.{Finite, Forever}
 use Rattle.classes.specs.Numbers.{ways, class_number}
 use Rattle.gap_values.specs.GapTables.{IsGapTable}
+use Rattle.gap_values.specs.declared.closing.TheConstants.{OPEN}
 
 -- the round that a word stands for: the greatest word of 32 bits stands for none
 unfoldable pub round_of_word : ℕ → Value
-round_of_word word = if nat_lt word 4294967295 then Finite word else Forever
+round_of_word word = if nat_lt word OPEN then Finite word else Forever
 
 -- the table of gaps that these words are
 abbrev pub gap_table : List ℕ → List ℕ → Value
@@ -31,7 +32,7 @@ word_without words class index = slice_index words (class_number (remove class i
 
 -- the least of the words of the gaps at the places of a class before an index, or the greatest word
 unfoldable pub least_word : List ℕ → List ℕ → ℕ → ℕ
-least_word words class zero = 4294967295
+least_word words class zero = OPEN
 least_word words class (suc index) =
     if nat_lt (word_without words class index) (least_word words class index)
     then word_without words class index else least_word words class index

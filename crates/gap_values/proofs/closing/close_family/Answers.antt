@@ -15,12 +15,12 @@ one c = let some = c.requires.some in omega arith
 
 few : (c : In-loop-least) → c.args.family.now.start + c.loop-least.least ≤ 288136807515649
 few c =
-    member-few c.args.board.now c.pebbles.ensures.is_board (c.args.board.now.pebbles - 2) c.args.family.now
+    member-few c.args.board.now c.requires.family.is_board (c.args.board.now.pebbles - 2) c.args.family.now
     c.requires.family c.loop-least.least c.loop-least-test.true (omega (arith, one c))
 
 low : (c : In-loop-least) → c.args.family.now.start + c.loop-least.least < length c.loop-least.words
 low c =
-    let below = member-below c.args.board.now c.pebbles.ensures.is_board (c.args.board.now.pebbles - 2)
+    let below = member-below c.args.board.now c.requires.family.is_board (c.args.board.now.pebbles - 2)
     c.args.family.now c.requires.family c.loop-least.least c.loop-least-test.true in
     let same = ap (λ n. ways n (places c.args.board.now)) (one c) in
     omega (arith, below, same, c.requires.words, c.loop-least.invariant.same_length)
@@ -30,7 +30,7 @@ gap : (c : In-loop-least)
     (c.args.family.now.start + c.loop-least.least) ≡ put c.loop-least.least c.args.family.now.held
 gap c =
     ap (λ n. class_with (places c.args.board.now) n (c.args.family.now.start + c.loop-least.least)) (sym (one c))
-    ∙ member-with c.args.board.now c.pebbles.ensures.is_board (c.args.board.now.pebbles - 2) c.args.family.now
+    ∙ member-with c.args.board.now c.requires.family.is_board (c.args.board.now.pebbles - 2) c.args.family.now
     c.requires.family c.loop-least.least c.loop-least-test.true
 
 pub overflow_add-gap : goal.overflow_add-gap

@@ -13,12 +13,12 @@ one c = let some = c.requires.some in omega arith
 
 few : (c : In-loop-least) → c.args.family.now.start + c.loop-least.least ≤ 288136807515649
 few c =
-    member-few c.args.board.now c.pebbles.ensures.is_board (c.args.board.now.pebbles - 2) c.args.family.now
+    member-few c.args.board.now c.requires.family.is_board (c.args.board.now.pebbles - 2) c.args.family.now
     c.requires.family c.loop-least.least c.loop-least-test.true (omega (arith, one c))
 
 low : (c : In-loop-least) → c.args.family.now.start + c.loop-least.least < length c.args.words.now
 low c =
-    let below = member-below c.args.board.now c.pebbles.ensures.is_board (c.args.board.now.pebbles - 2)
+    let below = member-below c.args.board.now c.requires.family.is_board (c.args.board.now.pebbles - 2)
     c.args.family.now c.requires.family c.loop-least.least c.loop-least-test.true in
     let same = ap (λ n. ways n (places c.args.board.now)) (one c) in
     omega (arith, below, same, c.requires.words)
@@ -37,7 +37,7 @@ pub loop-least-preserved : goal.loop-least-preserved
 loop-least-preserved c =
     let at = (goal.at.loop-least-preserved c).In-loop-least in
     let b = c.args.board.now in
-    let is = c.pebbles.ensures.is_board in
+    let is = c.requires.family.is_board in
     let f = c.args.family.now in
     let next : f.start + c.loop-least.least + 1 ≡ f.start + (c.loop-least.least + 1) = omega arith in
     elim c.if-words-family.branch [

@@ -9,20 +9,20 @@ use Rattle.gap_values.proofs.telling.tell_gap.Goals.{In-loop-index}
 
 inside : (c : In-loop-index) → c.loop-index.index < c.args.board.now.pebbles - 2
 inside c =
-    let long = held-long c.args.board.now c.pebbles.ensures.is_board (c.args.board.now.pebbles - 2) c.args.family.now
+    let long = held-long c.args.board.now c.requires.family.is_board (c.args.board.now.pebbles - 2) c.args.family.now
     c.requires.family in
     omega (arith, long, ap length c.as_slice-held.ensures.value, c.loop-index-test.true)
 
 pub overflow_add-list : goal.overflow_add-list
 overflow_add-list c =
-    let few = rest-few c.args.board.now c.pebbles.ensures.is_board (c.args.board.now.pebbles - 2) c.args.family.now
+    let few = rest-few c.args.board.now c.requires.family.is_board (c.args.board.now.pebbles - 2) c.args.family.now
     c.requires.family c.args.least c.requires.least (omega arith) c.loop-index.index
     (inside (goal.at.overflow_add-list c).In-loop-index) in
     search (rules, few)
 
 pub tell-requires : goal.tell-requires
 tell-requires c =
-    let low = rest-below c.args.board.now c.pebbles.ensures.is_board (c.args.board.now.pebbles - 2) c.args.family.now
+    let low = rest-below c.args.board.now c.requires.family.is_board (c.args.board.now.pebbles - 2) c.args.family.now
     c.requires.family c.args.least c.requires.least c.loop-index.index
     (inside (goal.at.tell-requires c).In-loop-index) in
     omega (arith, low, c.requires.sets, c.loop-index.auto.sets)
@@ -30,7 +30,7 @@ tell-requires c =
 pub loop-index-preserved : goal.loop-index-preserved
 loop-index-preserved c =
     let low = inside (goal.at.loop-index-preserved c).In-loop-index in
-    let is = c.pebbles.ensures.is_board in
+    let is = c.requires.family.is_board in
     let count : ℕ = c.args.board.now.pebbles - 2 in
     let long =
     member-long c.args.board.now is count c.args.family.now c.requires.family c.args.least c.requires.least in
@@ -47,7 +47,7 @@ loop-index-preserved c =
 
 pub returns : goal.returns
 returns c =
-    let is = c.pebbles.ensures.is_board in
+    let is = c.requires.family.is_board in
     let count : ℕ = c.args.board.now.pebbles - 2 in
     let held = held-long c.args.board.now is count c.args.family.now c.requires.family in
     let long =
