@@ -1,14 +1,15 @@
-"""Reports of boards that are limited by their classes, and plays on them: what laws say of them, and what is said without --large."""
+"""Reports of boards that are limited by their gaps, and plays on them: what laws say of them, and what is said without --large."""
 from functools import partial
 
 import board_texts
-from documents import BEYOND, TOO_LARGE, counts_add_up
+from documents import BEYOND, TOO_LARGE, counts_add_up, solved
 from program import Check, Ran, board, check, leaves, run, shown, stored, written
 
 # labels and pebbles of a chain with more than 1048576 configurations
 LONG_CHAIN = 17, 5
-# a board of 2829056 classes, each of value 0
+# boards of 32896 and 2829056 gaps, each of whose configurations has value 0
 WIDE_REPORT = b'report 1\nlabels 256\npebbles 3\nconfigurations 16777216\nstart value 0\nvalue 0: 16777216\nforever: 0\nend\n'
+WIDER_REPORT = b'report 1\nlabels 256\npebbles 4\nconfigurations 4294967296\nstart value 0\nvalue 0: 4294967296\nforever: 0\nend\n'
 # a play of each side on the long chain: what is typed, and what is written
 LARGE_PLAYS = {
     'adversary': (b'0\n1\nquit\n',
@@ -30,10 +31,10 @@ CARRIED = {
     'nested of level five': (board_texts.nested(5), 5),
     'nineteen': (NINETEEN, 4),
 }
-# some of these, with a number of pebbles for which there are more than 1048576 configurations and at most 16777216 classes
+# some of these, with a number of pebbles for which there are more than 1048576 configurations
 LASTING = [('seven by seven', 4), ('seven by seven', 5), ('three by nineteen', 4), ('three by nineteen', 5), ('three by three by seven', 4),
            ('three by three by seven', 5), ('three by seven', 5), ('nested of level four', 5), ('nested of level four', 6),
-           ('nested of level five', 4), ('nineteen', 5)]
+           ('nested of level five', 4), ('nested of level five', 5), ('nineteen', 5), ('seven by seven', 6)]
 # chains, each of which lasts for one request less than it has labels
 CHAINS = [(69, 4), (49, 5), (40, 6), (256, 3)]
 
@@ -71,6 +72,9 @@ def by_laws(work):
         path = written(work, f'{name} {pebbles}.board', board_texts.domain_text(domain, pebbles))
         value = 'forever' if pebbles <= carried else 'finite'
         yield Check(f'the large board {name} with {pebbles} pebbles', partial(starts_with, value, path))
+    # 32801517 classes, more than a table of classes has
+    path = written(work, 'many-classes.board', board_texts.domain_text(CARRIED['nested of level five'][0], 5))
+    yield from solved(work, 'a board of many classes', path, 'forever', '--large')
     for labels, pebbles in CHAINS:
         path = written(work, f'chain {labels} {pebbles}.board', board_texts.chain(labels, pebbles))
         yield check(f'the report of a chain of {labels} with {pebbles} pebbles', Ran(output=chain_report(labels, pebbles)),
@@ -90,8 +94,9 @@ def checks(work):
                     ['play', '--large', '--side', side, chain], input=lines)
     wide, wider = (written(work, f'wide-{pebbles}.board', board_texts.empty(256, pebbles)) for pebbles in (3, 4))
     yield check('the report of a wide board, as a large board', Ran(output=WIDE_REPORT), ['report', '--large', wide])
-    yield check('the report of a wider board, as a large board', TOO_LARGE, ['report', '--large', wider])
-    yield check(f'the report of {BEYOND[-1]}, as a large board', TOO_LARGE, ['report', '--large', board(BEYOND[-1])])
+    yield check('the report of a wider board, as a large board', Ran(output=WIDER_REPORT), ['report', '--large', wider])
+    widest = written(work, 'widest.board', board_texts.empty(144, 6))
+    yield check('the report of a board of too many gaps, as a large board', TOO_LARGE, ['report', '--large', widest])
     yield from by_laws(work)
     for name in stored('.board'):
         if name not in BEYOND:

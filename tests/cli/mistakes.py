@@ -137,11 +137,11 @@ def noticed(words, told):
 
 
 def prompted_in_turn(words, told):
-    """None where a wrong line is answered, and then the choices are told, before another line is typed."""
+    """None where a wrong line is answered, and then the choices are told again, before another line is typed."""
     with at_terminals(words) as (started, typing, screen):
         os.write(typing, b'x\n')
         lines = b''
-        while told.encode() not in lines:
+        while lines.count(told.encode()) < 2:
             lines += os.read(screen, 4096)
         answer = os.read(started.stdout.fileno(), 4096)
         os.write(typing, b'quit\n')
@@ -188,6 +188,9 @@ def of_boards(work):
         ('UTF-16', good.encode('utf-16'), version, 'UTF-16'),
         ('a comment before a board', b'# mine\n' + good.encode(), version, 'line 1 must be'),
         ('another word for board', in_board(good, 'board', 'Board'), version, 'line 1 must be'),
+        ('a space at the end of line 1', in_board(good, 'board 1', 'board 1 '), version, 'a space is at the end of the line; line 1 must be'),
+        ('two spaces in line 1', in_board(good, 'board 1', 'board  1'), version, 'two spaces are side by side in the line'),
+        ('a tab in line 1', in_board(good, 'board 1', 'board\t1'), version, 'a tab is in the line'),
         ('lines 2 and 3 exchanged', in_board(good, 'labels 3\npebbles 2', 'pebbles 2\nlabels 3'), 'line 2 Labels', 'labels V'),
         ('257 labels', in_board(good, 'labels 3', 'labels 257'), 'line 2 Labels', '257 is more than 256; line 2'),
         ('a leading zero', in_board(good, 'labels 3', 'labels 03'), 'line 2 Labels', 'no leading zero'),
@@ -222,20 +225,20 @@ def of_boards(work):
         yield Mistake(name, ['solve', path], fault(1, f'board fault {line}'), path, says)
     large = written(work, 'mistake-large.board', empty(33))
     yield Mistake('a board that is too large', ['solve', large], fault(1, 'board too large'), large,
-                  '1185921 configurations, and the most is 1048576; but its 58905 classes are few enough for `--large`')
+                  '1185921 configurations, and the most is 1048576; but its 6545 gaps are few enough for `--large`')
     few = written(work, 'mistake-few-labels.board', board_text(1, 20, [0] * 5, []))
     yield Mistake('a board that is too large and has few labels', ['solve', few], fault(1, 'board too large'), few,
-                  'its 42504 classes are few enough for `--large`; no start of this board lasts for ever')
+                  'its 8855 gaps are few enough for `--large`; no start of this board lasts for ever')
     long_chain = written(work, 'mistake-long-chain.board', chain(17, 5))
     for words in ['report'], ['play', '--side', 'adversary']:
         yield Mistake(f'a board that is too large for {words[0]}', [*words, long_chain], fault(1, 'board too large'), long_chain,
-                      '1419857 configurations, and the most is 1048576; but its 20349 classes are few enough for `--large`')
-    wider = written(work, 'mistake-wider.board', empty(256))
+                      '1419857 configurations, and the most is 1048576; but its 4845 gaps are few enough for `--large`')
+    wider = written(work, 'mistake-wider.board', board_text(1, 144, [0] * 6, []))
     for words in ['report'], ['report', '--large'], ['play', '--side', 'labeller'], ['play', '--large', '--side', 'adversary']:
-        yield Mistake(f'a board with too many classes ({" ".join(words)})', [*words, wider], fault(1, 'board too large'), wider,
-                      '183181376 classes, each the labels held, whichever pebble holds which, and the most is 16777216, with `--large`')
+        yield Mistake(f'a board with too many gaps ({" ".join(words)})', [*words, wider], fault(1, 'board too large'), wider,
+                      '552689424 gaps, each the labels of all pebbles but one, whichever pebble holds which, and the most is 536870912, with `--large`')
     blank = written(work, 'mistake-large-blank.board', board_text(2, 32, ['-'] + [0] * 3, []))
-    yield Mistake('a board 2 that is too large', ['solve', blank], fault(1, 'board too large'), blank, 'its 58905 classes are few enough for `--large`')
+    yield Mistake('a board 2 that is too large', ['solve', blank], fault(1, 'board too large'), blank, 'its 6545 gaps are few enough for `--large`')
     long = written(work, 'mistake-long.board', b'board 1\n' + b' ' * 1_048_576)
     yield Mistake('a board that is too long', ['solve', long], fault(5, 'input too long'), long, '1048576 bytes')
 
@@ -284,6 +287,7 @@ def of_documents(work):
     fewer, more = f'{section.split()[0]} 4', f'{section.split()[0]} 2'
     texts = [
         ('an empty document', b'', 'line 1 Version', 'it is empty'),
+        ('a space at the end of line 1', in_board(good, 'proof 1', 'proof 1 '), 'line 1 Version', 'a space is at the end of the line; line 1 must be'),
         ('a claim of no form', in_board(good, 'value 2', 'for ever'), 'line 2 Claim', '`forever`'),
         ('a claim that is too large', in_board(good, 'value 2', 'value 1000000001'), 'line 2 Claim', '1000000001 is more than 1000000000; line 2'),
         ('a section of another name', in_board(good, 'labeller 3', 'labellers 3'), 'line 3 Section', '`labeller n`'),
@@ -383,6 +387,7 @@ def of_words(work):
             (['solve', '-w', '4', CHAIN], options), (['solve', '--json', CHAIN], options), (['solve', '-q', CHAIN], options),
             (['solve', '-j', '4', CHAIN], options), (['solve', '--version'], version), (['solve', '--workers', 'x', CHAIN], workers),
             (['solve', '--workers', CHAIN], workers), (['solve', CHAIN, 'extra'], general), (['solve', '--workers', '4', CHAIN, 'extra'], general),
+            (['solve', '--workers=four', CHAIN], workers), (['report', '--workers=99', CHAIN], workers), (['solve', '--workers=', CHAIN], workers),
             (['solve', '--workers', '17', CHAIN], workers), (['solve', '--workers'], workers), (['report', '--workers', '4', '-q', CHAIN], options), (['play', 'labeller', CHAIN], general),
             (['climb', '--large', '3'], large), (['check', CHAIN, CHAIN, '--large'], large), (['solve', '--large', '--large', CHAIN], general),
             (['play', '--large', CHAIN], general), (['play', '--side', 'both', CHAIN], general), (['nested', '7', '3'], general), (['climb', '25'], general), (['help', 'solv'], general)]
@@ -398,21 +403,26 @@ def of_typed_lines(work):
     asks, answers = ['play', '--side', 'adversary'], ['play', '--side', 'labeller']
     pebbles, only = 'type a pebble, 0 to 1, or quit', 'type 0, the only pebble, or quit'
     first, second = (f'labels that pebble {pebble} can take: {labels}; type one, or quit' for pebble, labels in ((0, '1 2'), (1, '2')))
-    plays = [('good requests', [*asks, CHAIN], b'1\nquit\n', [ASKING]),
-             ('wrong requests', [*asks, CHAIN], b'2\n1\n\nquit\n', [ASKING, pebbles, pebbles]),
-             ('wrong answers', [*answers, CHAIN], b'0\nx\n1\n1\nquit\n', [ANSWERING, first, first, second]),
-             ('wrong requests of a climb', ['climb', '3'], b'3\nquit\n', [ASKING, 'type a pebble, 0 to 2, or quit']),
-             ('a wrong request of a climb of one level', ['climb', '1'], b'x\nquit\n', [ASKING, only]),
+    nil, one, two = (f'{left} more can be answered; ' for left in range(3))
+    ever = 'requests can be answered for ever; '
+    more, for_ever = (f'{of}: the play could have gone on' for of in ('2 can be answered from the start', 'requests can be answered from the start for ever'))
+    plays = [('good requests', [*asks, CHAIN], b'1\nquit\n', [ASKING, two + pebbles, one + pebbles, more]),
+             ('wrong requests', [*asks, CHAIN], b'2\n1\n\nquit\n', [ASKING, two + pebbles, two + pebbles, one + pebbles, one + pebbles, more]),
+             ('wrong answers', [*answers, CHAIN], b'0\nx\n1\n1\nquit\n', [ANSWERING, *[two + first] * 3, *[one + second] * 2, more]),
+             ('the greatest label at first', [*answers, CHAIN], b'2\n', [ANSWERING, two + first, more]),
+             ('the best answers', [*answers, CHAIN], b'1\n2\n', [ANSWERING, two + first, one + second]),
+             ('wrong requests of a climb', ['climb', '3'], b'3\nquit\n', [ASKING, *[f'{ever}type a pebble, 0 to 2, or quit'] * 2, for_ever]),
+             ('a wrong request of a climb of one level', ['climb', '1'], b'x\nquit\n', [ASKING, *[ever + only] * 2, for_ever]),
              ('no strategy', [*answers, cycle], b'1\nquit\n', []),
              ('a play that is stuck at once', [*answers, lone], b'0\n', []),
-             ('a play that is stuck at the first request', [*asks, lone], b'0\n', [ASKING])]
+             ('a play that is stuck at the first request', [*asks, lone], b'0\n', [ASKING, nil + pebbles])]
     for name, words, given, told in plays:
         yield Check(f'typed: {name}', partial(prompted, words, given, told))
     for words, told in (([*asks, CHAIN], pebbles), ([*answers, CHAIN], first), (['climb', '3'], 'type a pebble')):
         yield Check(f'typed: the choices in turn, in {" ".join(words[:3])}', partial(prompted_in_turn, words, told))
     large = written(work, 'noticed.board', chain(17, 5))
     for words, told in ((['report', '--large', CHAIN], ''),
-                        (['report', '--large', large], 'a large board: its 20349 classes are solved, which can take seconds\n')):
+                        (['report', '--large', large], 'a large board: its 4845 gaps are solved, which can take seconds\n')):
         yield Check(f'the notice of {" ".join(words[:-1])} {os.path.basename(words[-1])}', partial(noticed, words, told))
     for words in ([*asks, faulty], [*answers, os.path.join(work, 'missing.board')]):
         yield Check(f'typed: no greeting for {os.path.basename(words[-1])}', partial(ungreeted, words))

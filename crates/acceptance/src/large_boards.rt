@@ -1,4 +1,4 @@
-//! Boards that are limited by their classes, and not by their configurations.
+//! Boards that are limited by their gaps, and not by their configurations.
 
 ghost use Rattle.board_text.specs.Ranges.{InRange};
 
@@ -9,27 +9,26 @@ use crate::outcomes::{
 use board_text::Source;
 use fakes::boards::TOO_MANY_CONFIGURATIONS;
 use fakes::{Drip, Failing, once_more};
-use graphs::Numbering;
 use player::PlayEnd;
 use positions::Side;
 use round_workers::MAX_WORKERS;
 use runs::{
-    RunFault, board_within, report_text_within, run_play_within, run_report_with_notice,
-    run_report_within,
+    BoardLimit, RunFault, board_within, report_text_within, run_play_within,
+    run_report_with_notice, run_report_within,
 };
 use std::alloc::Global;
 use std::sync::Wait;
 use std::thread::Threads;
 
-/// A board of 183,181,376 classes.
-const TOO_MANY_CLASSES: &str = "board 1\nlabels 256\npebbles 4\nstart 0 0 0 0\nend\n";
+/// A board of 552,689,424 gaps.
+const TOO_MANY_GAPS: &str = "board 1\nlabels 144\npebbles 6\nstart 0 0 0 0 0 0\nend\n";
 
-/// The report of a board of 58,905 classes, on which no label dominates another.
+/// The report of a board of 6,545 gaps, on which no label dominates another.
 const REPORT: &str = "report 1\nlabels 33\npebbles 4\nconfigurations 1185921\nstart value 0\n\
     value 0: 1185921\nforever: 0\nend\n";
 
 /// The line for a person who waits for that report.
-const NOTICE: &[u8] = b"a large board: its 58905 classes are solved, which can take seconds\n";
+const NOTICE: &[u8] = b"a large board: its 6545 gaps are solved, which can take seconds\n";
 
 /// The play on it of a person who answers.
 const TRANSCRIPT: &[u8] = b"value 0\nat 0 0 0 0\nask 0\nno label for pebble 0 after 0 requests\n";
@@ -38,7 +37,7 @@ const TRANSCRIPT: &[u8] = b"value 0\nat 0 0 0 0\nask 0\nno label for pebble 0 af
 fn report_outcome(
     rt: &(impl Threads + Wait + Sync),
     alloc: Global,
-    limit: Numbering,
+    limit: BoardLimit,
     workers: u8,
 ) -> Outcome<()>
     requires { InRange 1 MAX_WORKERS workers }
@@ -57,14 +56,14 @@ fn report_outcome(
 fn reports(rt: HostRuntime) {
     let alloc = rt.alloc();
     let report = REPORT.as_bytes();
-    let classes = Numbering::Classes;
-    let by_one = || report_outcome(&rt, alloc, classes, 1);
-    assert_run(&rt, "classes, one worker", by_one, Ok(()), report, NOTHING);
-    let by_two = || report_outcome(&rt, alloc, classes, 2);
-    assert_run(&rt, "classes, two workers", by_two, Ok(()), report, NOTHING);
-    let by_ranks = || report_outcome(&rt, alloc, Numbering::Ordered, 2);
-    let large = Err(RunFault::TooLarge);
-    assert_run(&rt, "configurations", by_ranks, large, NOTHING, NOTHING);
+    let large = BoardLimit::Large;
+    let by_one = || report_outcome(&rt, alloc, large, 1);
+    assert_run(&rt, "large, one worker", by_one, Ok(()), report, NOTHING);
+    let by_two = || report_outcome(&rt, alloc, large, 2);
+    assert_run(&rt, "large, two workers", by_two, Ok(()), report, NOTHING);
+    let small = || report_outcome(&rt, alloc, BoardLimit::Small, 2);
+    let refused = Err(RunFault::TooLarge);
+    assert_run(&rt, "small", small, refused, NOTHING, NOTHING);
 }
 
 /// What a report by one worker comes to, for a person who is told of the board's size, and the
@@ -73,7 +72,7 @@ fn notice_outcome(rt: &(impl Threads + Wait + Sync), alloc: Global) -> (Outcome<
     let mut reader = Drip::new(TOO_MANY_CONFIGURATIONS.as_bytes(), PLENTY);
     let mut writer = Writer::new(PLENTY, Failing::Refuses);
     let mut errors = Writer::new(PLENTY, Failing::Refuses);
-    let limit = Numbering::Classes;
+    let limit = BoardLimit::Large;
     let answer = run_report_with_notice(
         rt,
         alloc,
@@ -111,12 +110,12 @@ fn a_person_is_told_of_the_size(rt: HostRuntime) {
 fn a_text_in_memory(rt: HostRuntime) {
     let alloc = rt.alloc();
     let text = TOO_MANY_CONFIGURATIONS.as_bytes();
-    let report = || report_text_within(&rt, alloc, Numbering::Classes, 2, text);
+    let report = || report_text_within(&rt, alloc, BoardLimit::Large, 2, text);
     assert_answered(&rt, "two workers", report, REPORT.as_bytes());
 }
 
 /// What a play within this limit comes to, with a person who answers.
-fn play_outcome(alloc: Global, limit: Numbering) -> Outcome<PlayEnd> {
+fn play_outcome(alloc: Global, limit: BoardLimit) -> Outcome<PlayEnd> {
     let mut board = Drip::new(TOO_MANY_CONFIGURATIONS.as_bytes(), PLENTY);
     let mut lines = Drip::new(NOTHING, PLENTY);
     let mut writer = Writer::new(PLENTY, Failing::Refuses);
@@ -138,23 +137,23 @@ fn play_outcome(alloc: Global, limit: Numbering) -> Outcome<PlayEnd> {
 #[test]
 fn plays(rt: HostRuntime) {
     let alloc = rt.alloc();
-    let by_classes = || play_outcome(alloc, Numbering::Classes);
+    let large = || play_outcome(alloc, BoardLimit::Large);
     let stuck = Ok(PlayEnd::Stuck { requests: 0 });
-    assert_run(&rt, "classes", by_classes, stuck, TRANSCRIPT, TRANSCRIPT);
-    let by_ranks = || play_outcome(alloc, Numbering::Ordered);
-    let large = Err(RunFault::TooLarge);
-    assert_run(&rt, "configurations", by_ranks, large, NOTHING, NOTHING);
+    assert_run(&rt, "large", large, stuck, TRANSCRIPT, TRANSCRIPT);
+    let small = || play_outcome(alloc, BoardLimit::Small);
+    let refused = Err(RunFault::TooLarge);
+    assert_run(&rt, "small", small, refused, NOTHING, NOTHING);
 }
 
-/// The labels of a board with too many classes, or the fault of its text.
+/// The labels of a board with too many gaps, or the fault of its text.
 fn labels_within(alloc: Global) -> Result<u16, RunFault> {
-    let board = board_within(alloc, Numbering::Classes, TOO_MANY_CLASSES.as_bytes())?;
+    let board = board_within(alloc, BoardLimit::Large, TOO_MANY_GAPS.as_bytes())?;
     Ok(board.labels())
 }
 
 #[test]
-fn a_board_with_too_many_classes(rt: HostRuntime) {
+fn a_board_with_too_many_gaps(rt: HostRuntime) {
     let alloc = rt.alloc();
     let found = once_more(RunFault::Memory, || labels_within(alloc));
-    assert_same(&rt, "256 labels", found, Err(RunFault::TooLarge));
+    assert_same(&rt, "144 labels", found, Err(RunFault::TooLarge));
 }

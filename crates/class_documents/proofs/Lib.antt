@@ -1,4 +1,6 @@
 pub mod RowSearch
+pub mod ComparedPlaces
+pub mod InsertedPlaces
 pub mod ClassTrees
 pub mod ClassClaims
 pub mod ClassSteps

@@ -4,7 +4,7 @@ ghost use Rattle.std.specs.Prelude.{◌≡◌, ◌<◌, suc, MatchOption, Contai
 ghost use Rattle.board_text.specs.PlainBoard.{IsConfiguration};
 ghost use Rattle.positions.specs.Game.{Legal};
 ghost use Rattle.proof_text.specs.Rules.{IsListedBelow, StartIsBelow};
-ghost use Rattle.proof_text.specs.Arranged.{arranged};
+ghost use Rattle.proof_text.specs.Arranged.{arranged, order_number};
 ghost use Rattle.proof_text.specs.Documents.{IsClassDocument};
 ghost use Rattle.proof_text.specs.ClassProof.{plain_class_proof};
 ghost use Rattle.proof_text.specs.ClassProof.{class_request_row, class_request_rows};
@@ -32,9 +32,10 @@ impl CheckedRow for AdversaryClassRow {
 
     /// The fault of the row's first faulty label, if it has one.
     fn fault(&self, board: &Board, proof: &ClassProof) -> Option<ClassFault> {
+        let at = row_number(board, self);
         let pebble = asked_pebble(board, self);
         for label in 0..board.labels() {
-            if let Some(fault) = label_fault(board, proof, self, pebble, label) {
+            if let Some(fault) = label_fault(board, proof, self, at, pebble, label) {
                 return Some(fault);
             }
         }
@@ -56,15 +57,18 @@ fn asked_pebble(board: &Board, row: &AdversaryClassRow) -> u8
     0
 }
 
-/// The fault of `row` at the answer `label` to its request of `pebble`, if it is legal and has one.
+/// The fault of `row`, whose number is `at`, at the answer `label` to its request of `pebble`, if
+/// that is legal and has one.
 fn label_fault(
     board: &Board,
     proof: &ClassProof,
     row: &AdversaryClassRow,
+    at: u64,
     pebble: u8,
     label: u16,
 ) -> Option<ClassFault>
     requires row { IsClassRequesting board.now proof.now row.now }
+    requires at { at ≡ order_number board.now.labels (class_request_row board.now row.now).at }
     requires pebble { pebble ≡ rules.asked_pebble (class_request_row board.now row.now) }
     requires is_pebble { pebble < board.now.pebbles }
     requires label { label < board.now.labels }
@@ -79,7 +83,6 @@ fn label_fault(
     if !is_legal(board, &row.at[..pebbles], pebble, label) {
         return None;
     }
-    let at = row_number(board, row);
     if row.left == 0 {
         return Some(ClassFault::NotStuck { at, label });
     }

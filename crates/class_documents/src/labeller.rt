@@ -4,7 +4,7 @@ ghost use Rattle.std.specs.Prelude.{◌≡◌, ◌<◌, MatchOption};
 ghost use Rattle.board_text.specs.PlainBoard.{IsConfiguration};
 ghost use Rattle.proof_text.specs.Rules as rules;
 ghost use Rattle.proof_text.specs.Rules.{one_less, Serves};
-ghost use Rattle.proof_text.specs.Arranged.{arranged};
+ghost use Rattle.proof_text.specs.Arranged.{arranged, order_number};
 ghost use Rattle.proof_text.specs.Documents.{IsClassDocument};
 ghost use Rattle.proof_text.specs.ClassProof.{plain_class_proof};
 ghost use Rattle.proof_text.specs.ClassProof.{class_answer_row, class_answer_rows};
@@ -52,8 +52,9 @@ impl CheckedRow for LabellerClassRow {
 
     /// The fault of the row's first faulty pebble, if it has one.
     fn fault(&self, board: &Board, proof: &ClassProof) -> Option<ClassFault> {
+        let at = row_number(board, self);
         for pebble in 0..board.pebbles() {
-            if let Some(fault) = answer_fault(board, proof, self, pebble) {
+            if let Some(fault) = answer_fault(board, proof, self, at, pebble) {
                 return Some(fault);
             }
         }
@@ -61,14 +62,16 @@ impl CheckedRow for LabellerClassRow {
     }
 }
 
-/// The fault of the answer of `row` to a request of `pebble`, if it has one.
+/// The fault of the answer of `row`, whose number is `at`, to a request of `pebble`, if it has one.
 fn answer_fault(
     board: &Board,
     proof: &ClassProof,
     row: &LabellerClassRow,
+    at: u64,
     pebble: u8,
 ) -> Option<ClassFault>
     requires row { IsClassAnswering board.now proof.now row.now }
+    requires at { at ≡ order_number board.now.labels (class_answer_row board.now row.now).at }
     requires pebble { pebble < board.now.pebbles }
     ensures { MatchOption result
         (MeetsClassRequest board.now (class_answer_rows board.now proof.now.labeller.items)
@@ -78,7 +81,6 @@ fn answer_fault(
 {
     let pebbles = board.pebbles() as usize;
     let label = row.take[pebble as usize];
-    let at = row_number(board, row);
     if !is_legal(board, &row.at[..pebbles], pebble, label) {
         return Some(ClassFault::IllegalAnswer { at, pebble });
     }

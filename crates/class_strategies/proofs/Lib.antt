@@ -8,6 +8,7 @@ pub mod EveryClaim
 pub mod ShownClaims
 pub mod FewValues
 pub mod DocumentForm
+pub mod LongTexts
 pub mod OneClassList
 pub mod ReachedNumbers
 pub mod SpreadClasses

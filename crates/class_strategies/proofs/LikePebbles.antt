@@ -13,10 +13,11 @@ use Rattle.positions.specs.Value.{HasValue}
 use Rattle.positions.specs.Table.{RequestRow}
 use Rattle.positions.proofs.Configurations.{moved_is_configuration}
 use Rattle.strategies.specs.Best.{LowersValue, IsBestRequest}
-use Rattle.classes.specs.Classes.{class_of, put}
+use Rattle.classes.specs.Classes.{class_of, put, IsClass}
+use Rattle.classes.specs.Numbers.{class_number, class_with}
 use Rattle.positions.specs.Gaps.{AnswersGap}
 use Rattle.classes.specs.ClassGaps.{gap_at}
-use Rattle.classes.proofs.Cited.{class_of-own, class_of-set, put-cancel, legal-answers, value-of-class}
+use Rattle.classes.proofs.Cited.{class_of-own, class_of-set, put-cancel, legal-answers, value-of-class, with-number}
 use Rattle.proof_text.specs.Arranged.{arranged}
 use Rattle.class_documents.specs.ClassRules.{asked_pebble}
 use Rattle.proof_text.proofs.Cited.{class-arranged, arranged_is}
@@ -35,6 +36,18 @@ pub arranged-value : (board : PlainBoard) (configuration : List ℕ) → IsConfi
 arranged-value board configuration is value has =
     same-value board configuration (arranged board.labels configuration) is (arranged_is board configuration is)
     (sym (class-arranged board.labels configuration)) value has
+
+-- a number is that of one class
+pub same-number : (bound pebbles : ℕ) (one other : List ℕ) → IsClass bound pebbles one → IsClass bound pebbles other
+    → class_number one ≡ class_number other → one ≡ other
+same-number bound pebbles one other is too same =
+    sym (with-number bound pebbles one is) ∙ ap (class_with bound pebbles) same ∙ with-number bound pebbles other too
+
+-- moves of pebbles in one gap to one label lead to one class
+pub moved-alike : (first second : List ℕ) (one other label : ℕ) → one < length first → other < length second
+    → gap_at first one ≡ gap_at second other → class_of (moved first one label) ≡ class_of (moved second other label)
+moved-alike first second one other label low high same =
+    class_of-set first one label low ∙ ap (put label) same ∙ sym (class_of-set second other label high)
 
 module _ (board : PlainBoard) (configuration : List ℕ) (is : IsConfiguration board configuration) (one other : ℕ)
     (inside : one < board.pebbles) (there : other < board.pebbles)
@@ -58,11 +71,9 @@ module _ (board : PlainBoard) (configuration : List ℕ) (is : IsConfiguration b
         let here : Legal board configuration one label =
         (legal-answers board configuration one label is.each_pebble inside).1 answers in
         let smaller = lowers.lowers label here in
-        let low : one < length configuration = omega (arith, is.each_pebble, inside) in
-        let high : other < length configuration = omega (arith, is.each_pebble, there) in
         let class : class_of (moved configuration one label) ≡ class_of (moved configuration other label) =
-        class_of-set configuration one label low ∙ ap (put label) same-gap
-        ∙ sym (class_of-set configuration other label high) in
+        moved-alike configuration configuration one other label (omega (arith, is.each_pebble, inside))
+        (omega (arith, is.each_pebble, there)) same-gap in
         record {
           smaller = smaller.smaller;
           greater = smaller.greater;

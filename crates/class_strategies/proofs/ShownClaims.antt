@@ -23,8 +23,8 @@ use Rattle.proof_text.specs.Rules.{IsEnough, Serves}
 use Rattle.strategies.specs.Best.{IsLess}
 use Rattle.strategies.specs.Document.{turns_of}
 use Rattle.classes.specs.Classes.{class_of, IsClass}
-use Rattle.classes.specs.Numbers.{class_number, class_with, class_count}
-use Rattle.classes.proofs.Cited.{is-below, with-number, length-class_of, falls-class_of}
+use Rattle.classes.specs.Numbers.{class_number, class_count}
+use Rattle.classes.proofs.Cited.{is-below, length-class_of, falls-class_of}
 use Rattle.proof_text.specs.Arranged.{arranged, order_number, IsClassBefore}
 use Rattle.proof_text.specs.RowForm.{AreRows}
 use Rattle.proof_text.specs.ClassProof.{IsClassRequestRow}
@@ -38,6 +38,7 @@ use Rattle.class_strategies.proofs.EveryClass.{IsArrangedAt, RowsBelow}
 use Rattle.class_strategies.proofs.EveryClaim.{AnswerRows, RequestRows, IsRowFor, IsRequestFor, answer_rows}
 use Rattle.class_strategies.proofs.EveryClaim.{request_rows}
 use Rattle.class_strategies.proofs.EveryClaim.{labeller_obeys, adversary_obeys, listed_for, listed_below}
+use Rattle.class_strategies.proofs.LikePebbles.{same-number}
 
 -- ---- the number of rows
 
@@ -51,7 +52,7 @@ distinct f (x ∷ xs) apart = (
   distinct f xs (λ i j d less low. apart (suc i) (suc j) d (omega (arith, less)) (omega (arith, low))),
 )
 
-pub class_is : (board : PlainBoard) (at : List ℕ) → IsConfiguration board at
+class_is : (board : PlainBoard) (at : List ℕ) → IsConfiguration board at
     → IsClass (places board) board.pebbles (class_of at)
 class_is board at is =
     record { size = length-class_of at ∙ is.each_pebble; falls = falls-class_of (places board) at is.each_place }
@@ -63,9 +64,8 @@ same-class : (board : PlainBoard) (one other : List ℕ) → IsArrangedAt board 
     → class_number (class_of one) ≡ class_number (class_of other) → one ≡ other
 same-class board one other is too same =
     one-arranged board.labels one other is.arranged_is too.arranged_is
-    (sym (with-number (places board) board.pebbles (class_of one) (class_is board one is.is))
-    ∙ ap (class_with (places board) board.pebbles) same
-    ∙ with-number (places board) board.pebbles (class_of other) (class_is board other too.is))
+    (same-number (places board) board.pebbles (class_of one) (class_of other) (class_is board one is.is)
+    (class_is board other too.is) same)
 
 -- there are no more rows than classes
 pub rows-few : {X : Type 0} (board : PlainBoard) (at : X → List ℕ) (rows : List X)

@@ -4,7 +4,6 @@
 
 mod documents;
 mod laws;
-mod moves;
 mod reached;
 mod rows;
 mod sections;
@@ -14,6 +13,5 @@ pub use documents::{MadeDocument, document_by_classes, document_by_classes_in_pa
 pub use laws::{
     claims_hold_where_class_documents_show_them, class_documents_break_no_rule,
     class_documents_have_the_form, each_board_has_a_class_document,
-    finite_values_are_less_than_the_number_of_classes, one_class_document_of_a_board,
+    finite_values_are_less_than_the_number_of_gaps, one_class_document_of_a_board,
 };
-pub use moves::MovesByPlaces;

@@ -4,16 +4,16 @@ ghost use Rattle.std.specs.Prelude.{◌≤◌, All, IfOk, flat_map};
 ghost use Rattle.class_strategies.specs.Inside.ClassSide.{AreRowsAtClasses, AreClassSection};
 ghost use Rattle.class_strategies.specs.Inside.ClassSide.{MayStandAtClass};
 
-use crate::moves::MovesByPlaces;
 use crate::sections::SectionRow;
 use board_text::Memory;
 use positions::Value;
 use rayon::prelude::*;
 use std::alloc::Global;
 use std::thread::Threads;
+use strategies::Moves;
 
 /// One side's rows of the document of a board whose start has the value `start`.
-pub(crate) fn section<R: SectionRow, M: MovesByPlaces>(
+pub(crate) fn section<R: SectionRow, M: Moves>(
     alloc: Global,
     moves: &M,
     start: Value,
@@ -27,7 +27,7 @@ pub(crate) fn section<R: SectionRow, M: MovesByPlaces>(
 
 /// The same rows, made in at most `parts` parts. Threads make them where each has a thousand rows
 /// or more to make, and one can be started.
-pub(crate) fn section_in_parts<R: SectionRow + Send + Sync, M: MovesByPlaces + Sync>(
+pub(crate) fn section_in_parts<R: SectionRow + Send + Sync, M: Moves + Sync>(
     rt: &(impl Threads + Sync),
     alloc: Global,
     moves: &M,
@@ -47,7 +47,7 @@ pub(crate) fn section_in_parts<R: SectionRow + Send + Sync, M: MovesByPlaces + S
 }
 
 /// The rows at the classes of `numbers`, in at most `parts` parts, in their order.
-fn rows_in_parts<R: SectionRow + Send + Sync, M: MovesByPlaces + Sync>(
+fn rows_in_parts<R: SectionRow + Send + Sync, M: Moves + Sync>(
     rt: &(impl Threads + Sync),
     alloc: Global,
     moves: &M,
@@ -79,7 +79,7 @@ fn rows_in_parts<R: SectionRow + Send + Sync, M: MovesByPlaces + Sync>(
 }
 
 /// The rows at the classes of `numbers`, in their order.
-fn rows_at<R: SectionRow, M: MovesByPlaces>(
+fn rows_at<R: SectionRow, M: Moves>(
     alloc: Global,
     moves: &M,
     start: Value,

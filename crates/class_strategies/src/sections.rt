@@ -10,25 +10,25 @@ ghost use Rattle.class_strategies.specs.Inside.ClassSide.{MayStandAtClass};
 ghost use Rattle.class_strategies.specs.Inside.ClassSide.{class_adversary_side};
 ghost use Rattle.class_strategies.specs.Inside.ClassSide.{class_labeller_side};
 
-use crate::moves::MovesByPlaces;
 use crate::reached::Reached;
 use crate::steps::{add_answers, add_results};
 use board_text::{MAX_PEBBLES, Memory};
 use positions::{Turns, Value};
 use proof_text::{AdversaryClassRow, LabellerClassRow, class_order, places_at};
 use std::alloc::Global;
+use strategies::Moves;
 
 /// A row of one side's section.
 pub(crate) trait SectionRow: Copy {
     ghost side: { PlainBoard → ValueData → Side Self };
 
     /// The classes that a row may stand at.
-    fn reached<M: MovesByPlaces>(alloc: Global, moves: &M) -> Result<Reached, Memory>
+    fn reached<M: Moves>(alloc: Global, moves: &M) -> Result<Reached, Memory>
         ensures { IfOk result (λ reached. (start : ValueData)
             → AreClassesReached (M.board moves.now) (side (M.board moves.now) start) reached) };
 
     /// The row of the reached class of `number`, if it has one. The start has the value `start`.
-    fn at<M: MovesByPlaces>(moves: &M, start: Value, number: u64) -> Option<Self>
+    fn at<M: Moves>(moves: &M, start: Value, number: u64) -> Option<Self>
         requires { MayStandAtClass (M.board moves.now) (side (M.board moves.now) start) number }
         ensures { IsClassRowAt (M.board moves.now) (side (M.board moves.now) start) number result };
 }
@@ -38,7 +38,7 @@ impl SectionRow for LabellerClassRow {
 
     /// The classes of value 1 or more that best answers reach from the start's class, through such
     /// classes only.
-    fn reached<M: MovesByPlaces>(alloc: Global, moves: &M) -> Result<Reached, Memory> {
+    fn reached<M: Moves>(alloc: Global, moves: &M) -> Result<Reached, Memory> {
         let mut reached = Reached::new(alloc);
         let board = moves.board();
         if Value::Finite(0) < moves.value(board.start()) {
@@ -52,7 +52,7 @@ impl SectionRow for LabellerClassRow {
         Ok(reached)
     }
 
-    fn at<M: MovesByPlaces>(moves: &M, start: Value, number: u64) -> Option<LabellerClassRow> {
+    fn at<M: Moves>(moves: &M, start: Value, number: u64) -> Option<LabellerClassRow> {
         let board = moves.board();
         let at = places_at(board, number);
         let held = &at[..board.pebbles() as usize];
@@ -72,7 +72,7 @@ impl SectionRow for AdversaryClassRow {
     ghost side = { class_adversary_side };
 
     /// The classes that legal answers to best requests lead to from the start's class.
-    fn reached<M: MovesByPlaces>(alloc: Global, moves: &M) -> Result<Reached, Memory> {
+    fn reached<M: Moves>(alloc: Global, moves: &M) -> Result<Reached, Memory> {
         let mut reached = Reached::new(alloc);
         let mut expanded = Reached::new(alloc);
         let board = moves.board();
@@ -85,7 +85,7 @@ impl SectionRow for AdversaryClassRow {
         Ok(reached)
     }
 
-    fn at<M: MovesByPlaces>(moves: &M, _start: Value, number: u64) -> Option<AdversaryClassRow> {
+    fn at<M: Moves>(moves: &M, _start: Value, number: u64) -> Option<AdversaryClassRow> {
         let board = moves.board();
         let at = places_at(board, number);
         let held = &at[..board.pebbles() as usize];

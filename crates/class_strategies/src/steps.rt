@@ -12,12 +12,11 @@ ghost use Rattle.class_strategies.specs.Inside.ReachedClasses.{IsClassAnswerStep
 ghost use Rattle.class_strategies.specs.Inside.ReachedClasses.{ClassRequestLeads, LegalLeads};
 ghost use Rattle.class_strategies.specs.Inside.ReachedClasses.{AreExpandedClasses};
 
-use crate::moves::MovesByPlaces;
 use crate::reached::Reached;
 use board_text::{Board, Memory};
 use positions::{Value, legal_labels};
 use proof_text::{class_order, places_at};
-use strategies::{Best, Configuration};
+use strategies::{Best, Configuration, Moves};
 
 /// The class of `number`: its places, arranged.
 fn class_at(board: &Board, number: u64) -> Configuration
@@ -49,7 +48,7 @@ fn answer_result(
 
 /// Adds the class after the best answer to each request at the class of `number`, if it has a value
 /// of 1 or more.
-pub(crate) fn add_answers<M: MovesByPlaces>(
+pub(crate) fn add_answers<M: Moves>(
     moves: &M,
     number: u64,
     reached: &mut Reached,
@@ -71,7 +70,7 @@ pub(crate) fn add_answers<M: MovesByPlaces>(
 
 /// Adds the class after each legal answer to the best request at the class of `number`. Those of a
 /// request whose gap is in `expanded` are there.
-pub(crate) fn add_results<M: MovesByPlaces>(
+pub(crate) fn add_results<M: Moves>(
     moves: &M,
     number: u64,
     reached: &mut Reached,

@@ -25,7 +25,7 @@ pub enum Job<'a> {
         pebbles: u8,
     },
     /// Solve the board, a path, with 1 to `MAX_WORKERS` workers, and write its strategy document.
-    /// For a `large` board, which is limited by its classes and not by its configurations, that is
+    /// For a `large` board, which is limited by its gaps and not by its configurations, that is
     /// the document by classes.
     Solve {
         workers: u8,
@@ -33,7 +33,7 @@ pub enum Job<'a> {
         board: &'a str,
     },
     /// Solve the board, a path, with 1 to `MAX_WORKERS` workers, and write the number of
-    /// configurations of each value. A `large` board is limited by its classes and not by its
+    /// configurations of each value. A `large` board is limited by its gaps and not by its
     /// configurations.
     Report {
         workers: u8,
@@ -41,7 +41,7 @@ pub enum Job<'a> {
         board: &'a str,
     },
     /// Play on the board, a path. The person plays this side, by lines of standard input, and the
-    /// program the other one. A `large` board is limited by its classes and not by its
+    /// program the other one. A `large` board is limited by its gaps and not by its
     /// configurations.
     Play {
         side: Side,

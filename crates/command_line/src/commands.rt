@@ -22,15 +22,15 @@ pub(crate) const VERSION: &str =
 const USAGE: &str = "pebbles [COMMAND]";
 
 /// The purpose of the program.
-const ABOUT: &str =
-    "Finds and checks strategies for the pebble game, whose boards are bounded timestamp systems.\n\n\
-    Without a command it reads a board and after it a strategy document from standard input, and \
-    writes what `check` writes.";
+const ABOUT: &str = "Finds and checks strategies for the pebble game, whose boards are bounded\n\
+    timestamp systems.\n\n\
+    Without a command it reads a board and after it a strategy document from\n\
+    standard input, and writes what `check` writes.";
 
 /// The meaning of the exit statuses, with an example.
 const AFTER_HELP: &str = "Exit statuses:\n  \
     0  done, or help or the version was asked for\n  \
-    1  a fault in the text of a board or a document, or one of them that is too large\n  \
+    1  a fault in the text of a board or a document, or one that is too large\n  \
     2  wrong words on the command line\n  \
     3  the document was refused\n  \
     4  out of memory, or a worker that was not started\n  \
@@ -45,73 +45,69 @@ const _: () = prove!(MAX_CONFIGURATIONS == 1_048_576);
 
 /// The help of `solve`.
 const ABOUT_SOLVING: &str =
-    "Writes the strategy document of the board, which `check` accepts. It is the same for every \
-    number of workers. With --large it is the document by classes, whose rows say nothing of \
-    which pebble holds which label.\n\n\
+    "Writes the strategy document of the board, which `check` accepts. It is the\n\
+    same for every number of workers. With --large it is the document by classes,\n\
+    whose rows say nothing of which pebble holds which label.\n\n\
     Common faults:\n  \
-    board fault line 1 Version  not a board: Windows line ends, or a strategy document\n  \
-    board fault line 4 Start    as many labels as pebbles are wanted, each below the number of labels\n  \
-    board fault line N Beats    line N is not `beats` and two labels, with one space between them\n  \
-    board fault line N Order    the pairs are not sorted as numbers, or one is there twice\n  \
-    board too large             more than 1048576 configurations: labels to the power of \
-    pebbles; --large takes more\n  \
-    document too large          more than 134217728 bytes, which `check` would not read\n\n\
+    board fault line 1 Version  no board: Windows line ends, a strategy document\n  \
+    board fault line 4 Start    a label for each pebble is wanted, each below V\n  \
+    board fault line N Beats    not `beats` and two labels, with single spaces\n  \
+    board fault line N Order    pairs not sorted as numbers, or one is there twice\n  \
+    board too large             labels^pebbles is above 1048576; try --large\n  \
+    document too large          above 134217728 bytes, more than `check` reads\n\n\
     Example:\n  \
     pebbles solve chain.board > chain.proof";
 
 /// The help of `report`.
 const ABOUT_REPORTING: &str = "The report is the same for every number of workers.\n\n\
     Common faults:\n  \
-    board fault line 1 Version  not a board: Windows line ends, or a strategy document\n  \
-    board fault line 4 Start    as many labels as pebbles are wanted, each below the number of \
-    labels\n  \
-    board fault line N Beats    line N is not `beats` and two labels, with one space between \
-    them\n  \
-    board fault line N Order    the pairs are not sorted as numbers, or one is there twice\n  \
-    board too large             more than 1048576 configurations: labels to the power of \
-    pebbles; --large takes more\n\n\
+    board fault line 1 Version  no board: Windows line ends, a strategy document\n  \
+    board fault line 4 Start    a label for each pebble is wanted, each below V\n  \
+    board fault line N Beats    not `beats` and two labels, with single spaces\n  \
+    board fault line N Order    pairs not sorted as numbers, or one is there twice\n  \
+    board too large             labels^pebbles is above 1048576; try --large\n\n\
     Example:\n  \
     pebbles report chain.board";
 
 /// The help of `check`.
 const ABOUT_CHECKING: &str =
-    "Writes one line: `accepted` and the claim, or `refused` and the first rule of checking that \
-    the document breaks. The rows of a document are for configurations, or if its first line is \
-    `proof 2` for classes; then the board may be of any size.\n\n\
+    "Writes one line: `accepted` and the claim, or `refused` and the first rule of\n\
+    checking that the document breaks. The rows of a document are for\n\
+    configurations, or if its first line is `proof 2` for classes; then the board\n\
+    may be of any size.\n\n\
     Common faults:\n  \
-    board fault line 1 Version  BOARD is not a board; perhaps the two paths are exchanged\n  \
+    board fault line 1 Version  BOARD is no board; are the two paths exchanged?\n  \
     proof fault line 1 Version  PROOF is not a strategy document\n  \
-    proof fault line N Section  a section has more rows than its first line says\n  \
-    proof fault line N Row      a section has fewer rows, or a row is not of this board\n  \
-    proof fault line N Order    the rows of a section are not sorted by their configurations\n\n\
+    proof fault line N Section  more rows than the first line of a section says\n  \
+    proof fault line N Row      fewer rows, or a row that is not of this board\n  \
+    proof fault line N Order    rows not sorted by their configurations\n\n\
     Example:\n  \
     pebbles check chain.board chain.proof";
 
 /// The help of `play`.
 const ABOUT_PLAYING: &str =
-    "The program writes the value of the start, then `at` and the labels of the pebbles, and again \
-    after each answer. You type one of these on a line:\n  \
-    the number of a pebble, from 0  as the adversary; the program answers `pebble p takes v`\n  \
+    "The program writes the value of the start, then `at` and the labels of the\n\
+    pebbles, and again after each answer. You type one of these on a line:\n  \
+    the number of a pebble, from 0  as the adversary: `pebble p takes v` is written\n  \
     a label                         as the labeller, for the pebble of `ask p`\n  \
     quit                            ends the play, as the end of input does\n\n\
-    To anything else it answers `not a request` or `not an answer`, and the play goes on. It also \
-    ends if no label is legal. As the labeller on a board that lasts for ever you read `no \
-    strategy`: the adversary has none.\n\n\
+    To anything else it answers `not a request` or `not an answer`, and the play\n\
+    goes on. It also ends if no label is legal. As the labeller on a board that\n\
+    lasts for ever you read `no strategy`: the adversary has none.\n\n\
     Common faults:\n  \
-    board fault line 1 Version  not a board: Windows line ends, or a strategy document\n  \
-    board fault line 4 Start    as many labels as pebbles are wanted, each below the number of \
-    labels\n  \
-    board fault line N Order    the pairs are not sorted as numbers, or one is there twice\n  \
-    board too large             more than 1048576 configurations: labels to the power of \
-    pebbles; --large takes more\n  \
+    board fault line 1 Version  no board: Windows line ends, a strategy document\n  \
+    board fault line 4 Start    a label for each pebble is wanted, each below V\n  \
+    board fault line N Order    pairs not sorted as numbers, or one is there twice\n  \
+    board too large             labels^pebbles is above 1048576; try --large\n  \
     input too long              a line of yours has more than 64 bytes\n\n\
     Example:\n  \
     pebbles play --side adversary chain.board";
 
 /// The help of `climb`.
 const ABOUT_CLIMBING: &str =
-    "The board has as many pebbles as levels, and is never built. A label is written as its word, a \
-    digit for each level but the first. You type one of these on a line:\n  \
+    "The board has as many pebbles as levels, and is never built. A label is written\n\
+    as its word, a digit for each level but the first. You type one of these on a\n\
+    line:\n  \
     the number of a pebble, from 0  the program answers `pebble p takes` and a word\n  \
     quit                            ends the play, as the end of input does\n\n\
     To anything else it answers `not a request`, and the play goes on.\n\n\
@@ -160,7 +156,7 @@ fn solve<'a>(alloc: Global) -> Result<Command<'a>, AllocError>
 {
     let board = path(alloc, "board", "BOARD", "The path of a board");
     Command::new(alloc, "solve")
-        .about("Reads a board, and writes the value of its start and the strategies that show it")
+        .about("Reads a board, and writes its start's value and strategies that show it")
         .after_help(ABOUT_SOLVING)
         .arg(workers(alloc))?
         .arg(large(alloc))?
@@ -179,9 +175,7 @@ fn check<'a>(alloc: Global) -> Result<Command<'a>, AllocError>
         "The path of a strategy document for the board",
     );
     Command::new(alloc, "check")
-        .about(
-            "Reads a board and a strategy document for it, and writes whether the document shows its claim",
-        )
+        .about("Reads a board and a document for it, and writes whether it shows its claim")
         .after_help(ABOUT_CHECKING)
         .arg(board)?
         .arg(proof)
@@ -221,7 +215,8 @@ fn nested<'a>(alloc: Global) -> Result<Command<'a>, AllocError>
     Command::new(alloc, "nested")
         .about("Writes the board of the nested three-cycle, with all pebbles on label 0")
         .after_help(
-            "Level 1 is one label. Each further level is the three-cycle with a copy of the level before in place of each label.\n\n\
+            "Level 1 is one label. Each further level is the three-cycle with a copy of the\n\
+            level before in place of each label.\n\n\
             Example:\n  pebbles nested 3 3",
         )
         .arg(levels)?
@@ -294,7 +289,7 @@ fn count<'a>(alloc: Global, id: &'a str, name: &'a str, most: u8, help: &'a str)
         .help(help)
 }
 
-/// The word after which a board is limited by its classes and not by its configurations.
+/// The word after which a board is limited by its gaps and not by its configurations.
 fn large<'a>(alloc: Global) -> Arg<'a>
     ensures rule { rule_of result ≡ commands.large }
     ensures local { result.global ≡ false }
@@ -302,10 +297,7 @@ fn large<'a>(alloc: Global) -> Arg<'a>
     Arg::new(alloc, "large")
         .long("large")
         .action(ArgAction::SetTrue)
-        .help(
-            "The board may be larger: up to 16777216 classes, each the labels held, whichever \
-            pebble holds which",
-        )
+        .help("The board may have up to 536870912 gaps, labels of all pebbles but one")
 }
 
 /// The option for the number of workers, 1 to `MAX_WORKERS`; 1 if it isn't given.

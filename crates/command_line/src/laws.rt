@@ -7,7 +7,7 @@ ghost use Rattle.command_line.specs.Reading.{AsksForHelp, AsksForVersion, IsWron
 
 use crate::asked::MAX_WORKERS;
 use board_text::MAX_PEBBLES;
-use classes::MAX_CLASSES;
+use gap_values::MAX_GAPS;
 use nested_cycles::{MAX_BOARD_LEVELS, MAX_LEVELS};
 
 /// The limits of numbers on the command line. The help names them in words: a limit that changes
@@ -17,7 +17,7 @@ pub fn limits()
     ensures levels { MAX_BOARD_LEVELS ≡ 6 }
     ensures pebbles { MAX_PEBBLES ≡ 6 }
     ensures played_levels { MAX_LEVELS ≡ 24 }
-    ensures classes { MAX_CLASSES ≡ 16777216 }
+    ensures gaps { MAX_GAPS ≡ 536870912 }
 {}
 
 /// `clap` finds no fault in words exactly if it takes them.

@@ -18,6 +18,6 @@ mod drawn_documents;
 #[cfg(test)]
 mod long_documents;
 #[cfg(test)]
-mod numbered_moves;
+mod moves;
 #[cfg(test)]
 mod strategy_documents;

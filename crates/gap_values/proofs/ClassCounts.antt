@@ -1,109 +1,110 @@
 -- Configurations are counted class by class.
-use Rattle.std.proofs.Common.{◌≡◌, ◌≢◌, ℕ, suc, ◌+◌, ◌-◌, ◌*◌, ◌<◌, ◌≤◌, Bool, cond, nat_eq, List, length, get_or, set}
-use Rattle.std.proofs.Common.{map, sym, ap, ◌∙◌, subst, inl, inr, arith, eq-eqb, ne_eqb, eqb-true}
+use Rattle.std.proofs.Common.{◌≡◌, ◌≢◌, ℕ, suc, ◌+◌, ◌-◌, ◌<◌, ◌≤◌, Bool, cond, nat_eq, List, length, get_or, set}
+use Rattle.std.proofs.Common.{map, take, sym, ap, ◌∙◌, subst, inl, inr, arith, eq-eqb, ne_eqb, eqb-true}
 use Rattle.std.specs.List.{range_with_len}
 use Rattle.std.proofs.lemmas.Bool.{cases_lt, cases_eq}
-use Rattle.std.proofs.lemmas.List.{length-set, get_or-set_same, get_or-set_other}
+use Rattle.std.proofs.lemmas.List.{length-set, get_or-set_same, get_or-set_other, get_or-take, get_or_past, length-take-le}
+use Rattle.std.proofs.lemmas.List.Elements.{Contains-get_or}
 use Rattle.std.proofs.lemmas.List.FromFn.{get_or-map-range_with_len, length-map-range_with_len}
 use Rattle.std.specs.List.{remove}
-use Rattle.board_text.specs.PlainBoard.{PlainBoard, IsBoard, places}
-use Rattle.positions.specs.declared.value.Value.TheVariants.{Finite}
+use Rattle.board_text.specs.PlainBoard.{PlainBoard, IsBoard, IsConfiguration, places}
+use Rattle.positions.specs.Laws.{Occurs}
+use Rattle.positions.specs.Ranks.{configurations, configuration_at, rank_of}
+use Rattle.positions.specs.declared.value.Value.TheVariants.{Finite, Forever}
 use Rattle.classes.specs.Classes.{IsClass, class_of, put}
 use Rattle.positions.specs.Value.{HasValue}
-use Rattle.positions.proofs.Cited.{same_value}
+use Rattle.positions.proofs.Cited.{configuration_at-rank_of, configuration_at_is, rank_below, same_value, size_zero}
 use Rattle.classes.specs.Numbers.{ways, class_number, class_with}
 use Rattle.classes.specs.Sums.{sum_below}
 use Rattle.classes.specs.Weights.{AreWeights, HasWeight}
 use Rattle.classes.proofs.Cited.{counted-values}
-use Rattle.classes.proofs.Cited.{with-is}
+use Rattle.classes.proofs.Cited.{ways-fit, with-is}
 use Rattle.classes.proofs.Cited.{orders, orders-weigh, weight-orders}
 use Rattle.classes.proofs.Cited.{sum-zero, sum-suc, sum-same}
 use Rattle.gap_values.specs.declared.families.Family.{Family}
+use Rattle.gap_values.specs.declared.sizes.Sizes.{Sizes}
+use Rattle.gap_values.specs.Inside.Counts.{AreCounted, AreSizesBetween, IsAboveRounds, IsCounted, IsTrimmed, counted, word_at}
 use Rattle.gap_values.specs.Inside.Families.{IsFamilyOf}
 use Rattle.gap_values.specs.Sizes.{HasValueCount, AreValueCounts}
-use Rattle.gap_values.proofs.FamilyMembers.{member-class, member-with}
+use Rattle.gap_values.proofs.FamilyMembers.{edge-begins, edge-is, edge-within, member-class, member-with, some-lists}
 use Rattle.gap_values.specs.Inside.Words.{round_of_word, gap_table, least_word, AreGapWords, AreRounds}
 use Rattle.gap_values.proofs.ClosedGaps.{first-closed, class-configuration, class-is, value-of-class}
 use Rattle.gap_values.proofs.TableNumbers.{gap-below}
 use Rattle.gap_values.specs.GapTables.{IsClosedBefore}
 use Rattle.gap_values.proofs.Words.{before-from, before-to, round-finite, round-none, least-is, least-few, leasts}
 
--- the class of a number, and its weight
 abbrev pub class_at : PlainBoard → ℕ → List ℕ
 class_at board number = class_with (places board) board.pebbles number
 
-abbrev pub word_at : PlainBoard → List ℕ → ℕ → ℕ
-word_at board words number = least_word words (class_at board number) board.pebbles
-
-abbrev pub counted : PlainBoard → List ℕ → ℕ → ℕ → ℕ
-counted board words wanted bound =
-    sum_below bound
-    (λ number. cond (nat_eq (word_at board words number) wanted) (orders (places board) board.pebbles number) 0)
-
--- the weights of the classes before a number whose word it is
-pub record IsCounted (board : PlainBoard) (words : List ℕ) (wanted number count : ℕ) : Type 0 where
-  pub is : count ≡ counted board words wanted number
-  pub few : count ≤ 720 * number
-
 -- the word of a family's member
-pub word-of-member : (b : PlainBoard) → IsBoard b → (words : List ℕ) (f : Family) (least word : ℕ)
+pub word-of-member : (b : PlainBoard) (words : List ℕ) (f : Family) (least word : ℕ)
     → IsFamilyOf b (b.pebbles - 1) f → least < f.size → word ≡ least_word words (put least f.held) b.pebbles
     → word_at b words (f.start + least) ≡ word
-word-of-member b is words f least word family low word_is =
-    let some = is.pebbles.0 in
+word-of-member b words f least word family low word_is =
+    let some = family.is_board.pebbles.0 in
     let one : suc (b.pebbles - 1) ≡ b.pebbles = omega arith in
     ap (λ l. least_word words l b.pebbles)
     (ap (λ n. class_with (places b) n (f.start + least)) (sym one)
-    ∙ member-with b is (b.pebbles - 1) f family least low)
+    ∙ member-with b (b.pebbles - 1) f family least low)
     ∙ sym word_is
 
-pub counting-begins : (board : PlainBoard) (words : List ℕ) (wanted : ℕ) → IsCounted board words wanted 0 0
-counting-begins board words wanted = record {
-  is = sym (sum-zero (λ number. cond (nat_eq (word_at board words number) wanted)
-      (orders (places board) board.pebbles number) 0));
-  few = omega arith;
-}
+pub counting-begins : (board : PlainBoard) (words : List ℕ) (wanted from : ℕ) → IsCounted board words wanted from from 0
+counting-begins board words wanted from = record { is = λ weight are. omega arith; few = omega arith }
 
 -- a class of the wanted word
-pub counting-more : (board : PlainBoard) (words : List ℕ) (wanted number count weight : ℕ)
-    → IsCounted board words wanted number count
+pub counting-more : (board : PlainBoard) (words : List ℕ) (wanted from number count weight : ℕ)
+    → IsCounted board words wanted from number count
     → word_at board words number ≡ wanted
     → HasWeight (places board) board.pebbles number weight → weight ≤ 720
-    → IsCounted board words wanted (number + 1) (count + weight)
-counting-more board words wanted number count weight was same has few =
-    let term : ℕ → ℕ = λ n. cond (nat_eq (word_at board words n) wanted) (orders (places board) board.pebbles n) 0 in
+    → IsCounted board words wanted from (number + 1) (count + weight)
+counting-more board words wanted from number count own was same has few =
     let next : number + 1 ≡ suc number = omega arith in
-    let here : term number ≡ weight =
-    ap (λ t. cond t (orders (places board) board.pebbles number) 0) (eq-eqb (word_at board words number) wanted same)
-    ∙ sym (weight-orders (places board) board.pebbles number weight has) in
-    let more : sum_below (suc number) term ≡ sum_below number term + term number = sum-suc number term in
-    let before : count ≡ sum_below number term = was.is in
-    let most : count ≤ 720 * number = was.few in
     record {
-      is = (let sum : count + weight ≡ sum_below (suc number) term = omega arith in sum)
-          ∙ ap (counted board words wanted) (sym next);
-      few = omega arith;
+      is = λ weight are.
+          let term : ℕ → ℕ = λ n. cond (nat_eq (word_at board words n) wanted) (weight n) 0 in
+          let here : term number ≡ own =
+          ap (λ t. cond t (weight number) 0) (eq-eqb (word_at board words number) wanted same)
+          ∙ weight-orders (places board) board.pebbles number (weight number) (are number)
+          ∙ sym (weight-orders (places board) board.pebbles number own has) in
+          let more : sum_below (suc number) term ≡ sum_below number term + term number = sum-suc number term in
+          let before : count + sum_below from term ≡ sum_below number term = was.is weight are in
+          (let sum : count + own + sum_below from term ≡ sum_below (suc number) term = omega arith in sum)
+          ∙ ap (counted board words weight wanted) (sym next);
+      few = (let most = was.few in omega (arith, most, few));
     }
 
 -- a class of another word
-pub counting-same : (board : PlainBoard) (words : List ℕ) (wanted number count : ℕ)
-    → IsCounted board words wanted number count
+pub counting-same : (board : PlainBoard) (words : List ℕ) (wanted from number count : ℕ)
+    → IsCounted board words wanted from number count
     → word_at board words number ≢ wanted
-    → IsCounted board words wanted (number + 1) count
-counting-same board words wanted number count was differ =
-    let term : ℕ → ℕ = λ n. cond (nat_eq (word_at board words n) wanted) (orders (places board) board.pebbles n) 0 in
+    → IsCounted board words wanted from (number + 1) count
+counting-same board words wanted from number count was differ =
     let next : number + 1 ≡ suc number = omega arith in
-    let here : term number ≡ 0 =
-    ap (λ t. cond t (orders (places board) board.pebbles number) 0) (ne_eqb
-    (word_at board words number) wanted differ) in
-    let more : sum_below (suc number) term ≡ sum_below number term + term number = sum-suc number term in
-    let before : count ≡ sum_below number term = was.is in
-    let most : count ≤ 720 * number = was.few in
     record {
-      is = (let sum : count ≡ sum_below (suc number) term = omega arith in sum)
-          ∙ ap (counted board words wanted) (sym next);
-      few = omega arith;
+      is = λ weight are.
+          let term : ℕ → ℕ = λ n. cond (nat_eq (word_at board words n) wanted) (weight n) 0 in
+          let here : term number ≡ 0 =
+          ap (λ t. cond t (weight number) 0) (ne_eqb (word_at board words number) wanted differ) in
+          let more : sum_below (suc number) term ≡ sum_below number term + term number = sum-suc number term in
+          let before : count + sum_below from term ≡ sum_below number term = was.is weight are in
+          (let sum : count + sum_below from term ≡ sum_below (suc number) term = omega arith in sum)
+          ∙ ap (counted board words weight wanted) (sym next);
+      few = (let most = was.few in omega (arith, most));
     }
+
+-- the classes up to a number, and those from there on
+pub counting-joined : (board : PlainBoard) (words : List ℕ) (wanted from middle to first second : ℕ)
+    → IsCounted board words wanted from middle first → IsCounted board words wanted middle to second
+    → IsCounted board words wanted from to (first + second)
+counting-joined board words wanted from middle to first second one two = record {
+  is = λ weight are.
+      let before : first + counted board words weight wanted from ≡ counted board words weight wanted middle =
+      one.is weight are in
+      let behind : second + counted board words weight wanted middle ≡ counted board words weight wanted to =
+      two.is weight are in
+      omega arith;
+  few = (let some = one.few in let more = two.few in omega (arith, some, more));
+}
 
 -- ---- the words of classes are their values
 
@@ -138,7 +139,7 @@ class-value board words number rounds low =
 
 pub counted-all : (board : PlainBoard) (words : List ℕ) (wanted count : ℕ) → AreRounds board words
     → wanted ≤ 4294967295
-    → IsCounted board words wanted (ways board.pebbles (places board)) count
+    → IsCounted board words wanted 0 (ways board.pebbles (places board)) count
     → HasValueCount board (round_of_word wanted) count
 counted-all board words wanted count rounds few was =
     let many : ℕ = ways board.pebbles (places board) in
@@ -155,7 +156,9 @@ counted-all board words wanted count rounds few was =
     let size : sum_below many (λ number. cond (test number) (get_or weights number 0) 0) ≡ count =
     sum-same many (λ number. cond (test number) (get_or weights number 0) 0)
     (λ number. cond (test number) (order number) 0)
-    (λ number low. ap (λ n. cond (test number) n 0) (read number low)) ∙ sym was.is in
+    (λ number low. ap (λ n. cond (test number) n 0) (read number low))
+    ∙ sym (was.is order (orders-weigh (places board) board.pebbles))
+    ∙ (let none = sum-zero (λ number. cond (test number) (order number) 0) in omega (arith, none)) in
     subst (HasValueCount board (round_of_word wanted)) size
     (counted-values board weights test (round_of_word wanted) are (λ number low. (
       λ is. subst (λ w. HasValue board (class_at board number) (round_of_word w))
@@ -169,52 +172,101 @@ counted-all board words wanted count rounds few was =
 
 -- ---- all values at once
 
--- the classes before a number are counted, each at its word
-pub record AreCounted (board : PlainBoard) (words : List ℕ) (rounds number : ℕ) (finite : List ℕ)
-    (forever : ℕ) : Type 0 where
-  pub size : length finite ≡ rounds
-  pub each : (value : ℕ) → value < rounds → IsCounted board words value number (get_or finite value 0)
-  pub unending : IsCounted board words 4294967295 number forever
-
 -- a class that lasts for ever
-pub forever-more : (board : PlainBoard) (words : List ℕ) (rounds number weight : ℕ) (finite : List ℕ) (forever : ℕ)
+pub forever-more : (board : PlainBoard) (words : List ℕ) (rounds from number weight : ℕ) (finite : List ℕ) (forever : ℕ)
     → rounds ≤ 4294967295
-    → AreCounted board words rounds number finite forever
+    → AreCounted board words rounds from number finite forever
     → word_at board words number ≡ 4294967295
     → HasWeight (places board) board.pebbles number weight → weight ≤ 720
-    → AreCounted board words rounds (number + 1) finite (forever + weight)
-forever-more board words rounds number weight finite forever top was same has few = record {
+    → AreCounted board words rounds from (number + 1) finite (forever + weight)
+forever-more board words rounds from number weight finite forever top was same has few = record {
   size = was.size;
-  each = λ value low. counting-same board words value number (get_or finite value 0) (was.each value low)
+  each = λ value low. counting-same board words value from number (get_or finite value 0) (was.each value low)
       (λ equal. omega (arith, same, equal));
-  unending = counting-more board words 4294967295 number forever weight was.unending same has few;
+  unending = counting-more board words 4294967295 from number forever weight was.unending same has few;
 }
 
 -- a class of a finite value
-pub finite-more : (board : PlainBoard) (words : List ℕ) (rounds number word weight new : ℕ) (finite : List ℕ)
+pub finite-more : (board : PlainBoard) (words : List ℕ) (rounds from number word weight new : ℕ) (finite : List ℕ)
     (forever : ℕ)
     → word < rounds → rounds ≤ 4294967295
-    → AreCounted board words rounds number finite forever
+    → AreCounted board words rounds from number finite forever
     → word_at board words number ≡ word → new ≡ get_or finite word 0 + weight
     → HasWeight (places board) board.pebbles number weight → weight ≤ 720
-    → AreCounted board words rounds (number + 1) (set finite word new) forever
-finite-more board words rounds number word weight new finite forever low top was same new_is has few =
+    → AreCounted board words rounds from (number + 1) (set finite word new) forever
+finite-more board words rounds from number word weight new finite forever low top was same new_is has few =
     let size : length finite ≡ rounds = was.size in
     record {
       size = length-set finite word new ∙ size;
       each = λ value inside. elim (cases_eq value word) [
         | inl equal ↦
-            subst (λ v. IsCounted board words v (number + 1) (get_or (set finite word new) v 0)) (sym equal)
-            (subst (IsCounted board words word (number + 1))
+            subst (λ v. IsCounted board words v from (number + 1) (get_or (set finite word new) v 0)) (sym equal)
+            (subst (IsCounted board words word from (number + 1))
             (sym (get_or-set_same finite word new 0 (omega arith) ∙ new_is))
-            (counting-more board words word number (get_or finite word 0) weight (was.each word low) same has few))
+            (counting-more board words word from number (get_or finite word 0) weight (was.each word low) same has few))
         | inr differ ↦
-            subst (IsCounted board words value (number + 1)) (sym (get_or-set_other finite word value new 0 differ))
-            (counting-same board words value number (get_or finite value 0) (was.each value inside)
+            subst (IsCounted board words value from (number + 1)) (sym (get_or-set_other finite word value new 0 differ))
+            (counting-same board words value from number (get_or finite value 0) (was.each value inside)
             (λ equal. differ (sym equal ∙ same)))
       ];
-      unending = counting-same board words 4294967295 number forever was.unending (λ equal. omega (arith, same, equal));
+      unending = counting-same board words 4294967295 from number forever was.unending (λ equal. omega (arith, same, equal));
     }
+
+-- the families up to a number, and those from there on
+pub sizes-joined : (board : PlainBoard) (words : List ℕ) (rounds from middle to : ℕ) (one two sum : List ℕ)
+    (first second : ℕ)
+    → AreCounted board words rounds from middle one first → AreCounted board words rounds middle to two second
+    → length sum ≡ length one
+    → ((value : ℕ) → value < length one → get_or sum value 0 ≡ get_or one value 0 + get_or two value 0)
+    → AreCounted board words rounds from to sum (first + second)
+sizes-joined board words rounds from middle to one two sum first second before behind size each =
+    let many : length one ≡ rounds = before.size in
+    record {
+      size = size ∙ many;
+      each = λ value low.
+          subst (IsCounted board words value from to) (sym (each value (omega arith)))
+          (counting-joined board words value from middle to (get_or one value 0) (get_or two value 0)
+          (before.each value low) (behind.each value low));
+      unending = counting-joined board words 4294967295 from middle to first second before.unending behind.unending;
+    }
+
+-- the counts are small enough to be added
+pub record AreFew (rounds : ℕ) (sizes : Sizes) : Type 0 where
+  pub size : length sizes.finite.items ≡ rounds
+  pub each : (value : ℕ) → get_or sizes.finite.items value 0 ≤ 207458501411267280
+  pub unending : sizes.forever ≤ 207458501411267280
+
+pub sizes-few : (board : PlainBoard) (words : List ℕ) (rounds from to : ℕ) (sizes : Sizes) → IsBoard board
+    → AreSizesBetween board words rounds from to sizes → AreFew rounds sizes
+sizes-few board words rounds from to sizes is between =
+    let count : ℕ = board.pebbles - 1 in
+    let low = edge-is board count from in
+    let high = edge-is board count to in
+    let was = between low.0 high.0 low.1 high.1 in
+    let size : length sizes.finite.items ≡ rounds = was.size in
+    let within = edge-within board count to high.0 is high.1 in
+    let most = ways-fit board (suc count) (places board) is (let some = is.pebbles.0 in omega arith) (omega arith) in
+    record {
+      size = size;
+      each = λ value. elim (cases_lt value rounds) [
+        | inl inside ↦ (let few = (was.each value inside).few in omega (arith, few, within, most))
+        | inr past ↦ (let none = get_or_past sizes.finite.items value 0 (omega (arith, size, past)) in
+            omega (arith, none))
+      ];
+      unending = (let few = was.unending.few in omega (arith, few, within, most));
+    }
+
+pub parts-joined : (board : PlainBoard) (words : List ℕ) (rounds from middle to : ℕ) (one two sum : Sizes)
+    → AreSizesBetween board words rounds from middle one → AreSizesBetween board words rounds middle to two
+    → length sum.finite.items ≡ length one.finite.items
+    → ((value : ℕ) → value < length one.finite.items
+    → get_or sum.finite.items value 0 ≡ get_or one.finite.items value 0 + get_or two.finite.items value 0)
+    → sum.forever ≡ one.forever + two.forever → AreSizesBetween board words rounds from to sum
+parts-joined board words rounds from middle to one two sum before behind size each forever low high begin end =
+    let edge = edge-is board (board.pebbles - 1) middle in
+    subst (AreCounted board words rounds low high sum.finite.items) (sym forever)
+    (sizes-joined board words rounds low edge.0 high one.finite.items two.finite.items sum.finite.items one.forever
+    two.forever (before low edge.0 begin edge.1) (behind edge.0 high edge.1 end) size each)
 
 -- the word of a class is that of some gap, or the greatest
 pub word-low : (board : PlainBoard) (words class : List ℕ) (rounds : ℕ) → IsBoard board → AreGapWords board words
@@ -234,50 +286,130 @@ word-low board words class rounds is_board size low is finite =
     ]
 
 -- the same of a family's member
-pub member-word-low : (b : PlainBoard) → IsBoard b → (words : List ℕ) (f : Family) (least word rounds : ℕ)
+pub member-word-low : (b : PlainBoard) (words : List ℕ) (f : Family) (least word rounds : ℕ)
     → IsFamilyOf b (b.pebbles - 1) f → least < f.size → AreGapWords b words
     → ((index : ℕ) → index < length words → get_or words index 0 < 4294967295 → get_or words index 0 < rounds)
     → word ≡ least_word words (put least f.held) b.pebbles → word ≢ 4294967295 → word < rounds
-member-word-low b is words f least word rounds family low size above word_is differs =
-    let some = is.pebbles.0 in
+member-word-low b words f least word rounds family low size above word_is differs =
+    let some = family.is_board.pebbles.0 in
     let one : suc (b.pebbles - 1) ≡ b.pebbles = omega arith in
     let class : List ℕ = put least f.held in
     let class_is : IsClass (places b) b.pebbles class =
-    subst (λ n. IsClass (places b) n class) one (member-class b is (b.pebbles - 1) f family least low) in
+    subst (λ n. IsClass (places b) n class) one (member-class b (b.pebbles - 1) f family least low) in
     let finite : least_word words class b.pebbles < 4294967295 =
     (let few = least-few words class b.pebbles in omega (arith, few, word_is, differs)) in
-    subst (λ n. n < rounds) (sym word_is) (word-low b words class rounds is size above class_is finite)
+    subst (λ n. n < rounds) (sym word_is) (word-low b words class rounds family.is_board size above class_is finite)
 
-pub sizes-all : (board : PlainBoard) (words : List ℕ) (rounds : ℕ) (finite : List ℕ) (forever : ℕ) → IsBoard board
-    → AreRounds board words
-    → ((index : ℕ) → index < length words → get_or words index 0 < 4294967295 → get_or words index 0 < rounds)
-    → rounds ≤ 4294967295
-    → AreCounted board words rounds (ways board.pebbles (places board)) finite forever
-    → AreValueCounts board finite forever
-sizes-all board words rounds finite forever is_board are low top was =
+-- the word of a configuration of a finite value is the value
+word-of-value : (board : PlainBoard) (words held : List ℕ) (value : ℕ) → AreRounds board words
+    → IsConfiguration board held → HasValue board held (Finite value)
+    → (least_word words (class_of held) board.pebbles ≡ value) × (value < 4294967295)
+word-of-value board words held value are is has =
+    let class_is = class-is board held is in
+    let word : ℕ = least_word words (class_of held) board.pebbles in
+    let found : HasValue board held (round_of_word word) =
+    value-of-class board (gap_table words) held (round_of_word word) are.table is
+    (least-is board words (class_of held) class_is) in
+    let same : round_of_word word ≡ Finite value =
+    same_value board held (round_of_word word) (Finite value) found has in
+    let before = before-to word (suc value) (subst (λ v. IsClosedBefore v (suc value)) (sym same) (omega arith)) in
+    let back : value < suc word =
+    subst (λ v. IsClosedBefore v (suc word)) same (before-from word (suc word) (omega arith) before.1) in
+    (omega (arith, before.0, back), omega (arith, before.0, before.1, back))
+
+-- the list has the counts of all finite values that occur, and maybe zeros after them
+pub record AreAllCounts (board : PlainBoard) (finite : List ℕ) (forever : ℕ) : Type 0 where
+  pub each : (value : ℕ) → value < length finite → HasValueCount board (Finite value) (get_or finite value 0)
+  pub inside : (value : ℕ) → Occurs board value → value < length finite
+  pub unending : HasValueCount board Forever forever
+
+pub sizes-all : (board : PlainBoard) (words : List ℕ) (rounds : ℕ) (sizes : Sizes) → IsBoard board
+    → AreRounds board words → IsAboveRounds words rounds → AreSizesBetween board words rounds 0 (length words) sizes
+    → AreAllCounts board sizes.finite.items sizes.forever
+sizes-all board words rounds sizes is_board are high between =
+    let count : ℕ = board.pebbles - 1 in
+    let one : suc count ≡ board.pebbles = (let some = is_board.pebbles.0 in omega arith) in
+    let many : length words ≡ ways count (places board) = are.size in
+    let finite : List ℕ = sizes.finite.items in
+    let forever : ℕ = sizes.forever in
+    let was : AreCounted board words rounds 0 (ways board.pebbles (places board)) finite forever =
+    between 0 (ways board.pebbles (places board))
+    (edge-begins board count is_board (some-lists board count is_board))
+    (record { more = λ more. absurd (omega (arith, many)); all = λ past. ap (λ n. ways n (places board)) (sym one) }) in
     let size : length finite ≡ rounds = was.size in
     record {
-      each = λ value inside.
+      each = λ value low.
           let less : value < rounds = omega arith in
           subst (λ v. HasValueCount board v (get_or finite value 0)) (round-finite value (omega arith))
           (counted-all board words value (get_or finite value 0) are (omega arith) (was.each value less));
-      beyond = λ value past occurs.
-          let held : List ℕ = occurs.0 in
-          let class : List ℕ = class_of held in
-          let is = class-is board held occurs.1 in
-          let word : ℕ = least_word words class board.pebbles in
-          let found : HasValue board held (round_of_word word) =
-          value-of-class board (gap_table words) held (round_of_word word) are.table occurs.1
-          (least-is board words class is) in
-          let same : round_of_word word ≡ Finite value = same_value board held (round_of_word word)
-          (Finite value) found occurs.2 in
-          let before = before-to word (suc value) (subst (λ v. IsClosedBefore v (suc value)) (sym same) (omega arith))
-          in
-          let back = subst (λ v. IsClosedBefore v (suc word)) same (before-from word (suc word) (omega arith) before.1)
-          in
-          let equal : value < suc word = back in
-          let inside = word-low board words class rounds is_board are.size low is before.1 in
-          omega (arith, inside, size, past, equal);
+      inside = λ value occurs.
+          let is = word-of-value board words occurs.0 value are occurs.1 occurs.2 in
+          let below = word-low board words (class_of occurs.0) rounds is_board are.size high.above
+          (class-is board occurs.0 occurs.1) (omega (arith, is.0, is.1)) in
+          omega (arith, below, size, is.0);
       unending = subst (λ v. HasValueCount board v forever) (round-none 4294967295 (omega arith))
           (counted-all board words 4294967295 forever are (omega arith) was.unending);
+    }
+
+-- ---- the list of counts ends with the greatest value that occurs
+
+count-occurs : (board : PlainBoard) (value count : ℕ) → HasValueCount board (Finite value) count → count ≢ 0
+    → Occurs board value
+count-occurs board value count has some =
+    let first : ℕ = get_or has.members 0 0 in
+    let many : length has.members ≡ count = has.so_many in
+    let is = (has.each first).0 (Contains-get_or has.members 0 0 (omega (arith, some))) in
+    (configuration_at board first, configuration_at_is board first is.0, is.1)
+
+occurs-counted : (board : PlainBoard) (value count : ℕ) → HasValueCount board (Finite value) count
+    → Occurs board value → count ≢ 0
+occurs-counted board value count has occurs none =
+    (size_zero (λ rank. (rank < configurations board) × HasValue board (configuration_at board rank) (Finite value))).0
+    (subst (HasValueCount board (Finite value)) none has) (rank_of board occurs.0) (
+      rank_below board occurs.0 occurs.1,
+      subst (λ l. HasValue board l (Finite value)) (sym (configuration_at-rank_of board occurs.0 occurs.1)) occurs.2,
+    )
+
+pub trimmed : (board : PlainBoard) (finite : List ℕ) (forever values : ℕ)
+    → AreAllCounts board finite forever → values ≤ length finite → (0 < values → get_or finite (values - 1) 0 ≢ 0)
+    → ((value : ℕ) → values ≤ value → value < length finite → get_or finite value 0 ≡ 0)
+    → AreValueCounts board (take values finite) forever
+trimmed board finite forever values counts within last zeros =
+    let size : length (take values finite) ≡ values = length-take-le values finite within in
+    record {
+      each = λ value inside.
+          let low : value < values = omega arith in
+          subst (HasValueCount board (Finite value)) (sym (get_or-take values finite value 0 low))
+          (counts.each value (omega arith));
+      to_greatest = λ value. (
+        λ inside.
+            let low : value < values = omega arith in (
+              values - 1,
+              omega arith,
+              count-occurs board (values - 1) (get_or finite (values - 1) 0) (counts.each (values - 1) (omega arith))
+                  (last (omega arith)),
+            ),
+        λ some.
+            let most : value ≤ some.0 = some.1 in
+            let inside = counts.inside some.0 some.2 in
+            elim (cases_lt some.0 values) [
+              | inl low ↦ omega arith
+              | inr past ↦ absurd (occurs-counted board some.0 (get_or finite some.0 0) (counts.each some.0 inside) some.2
+                  (zeros some.0 past inside))
+            ],
+      );
+      unending = counts.unending;
+    }
+
+-- a list that was cut after its last number that is not 0
+pub is-trimmed : (values : ℕ) (old new : List ℕ) → new ≡ take values old → values ≤ length old
+    → (0 < values → get_or old (values - 1) 0 ≢ 0)
+    → ((value : ℕ) → values ≤ value → value < length old → get_or old value 0 ≡ 0) → IsTrimmed old new
+is-trimmed values old new is within last zeros =
+    let size : length new ≡ values = ap length is ∙ length-take-le values old within in
+    record {
+      within = omega (arith, size, within);
+      is = is ∙ ap (λ (n : ℕ). take n old) (sym size);
+      last = subst (λ (n : ℕ). 0 < n → get_or old (n - 1) 0 ≢ 0) (sym size) last;
+      zeros = subst (λ (n : ℕ). (value : ℕ) → n ≤ value → value < length old → get_or old value 0 ≡ 0) (sym size) zeros;
     }

@@ -1,5 +1,5 @@
 -- The open gaps of a round that are shut are closed, family by family.
-use Rattle.std.proofs.Common.{◌≡◌, ◌≢◌, ℕ, zero, suc, ◌+◌, ◌-◌, ◌<◌, ◌≤◌, ◌⊎◌, ◌↔◌, true, cond, List, [], ◌∷◌, length}
+use Rattle.std.proofs.Common.{◌≡◌, ◌≢◌, ℕ, zero, suc, ◌+◌, ◌-◌, ◌<◌, ◌≤◌, ◌⊎◌, ◌↔◌, true, cond, nat_eq, List, [], ◌∷◌, length}
 use Rattle.std.proofs.Common.{get_or, set, sym, ap, ◌∙◌, subst, inl, inr, arith, refl, eq-eqb, ne_eqb, below_more}
 use Rattle.std.specs.List.{remove}
 use Rattle.std.proofs.lemmas.Bool.{cases_lt, cases_eq, cases_Bool, both_ways}
@@ -14,7 +14,7 @@ use Rattle.classes.specs.Numbers.{class_number, class_with}
 use Rattle.classes.proofs.Cited.{all-put, of-all-put}
 use Rattle.gap_values.specs.declared.families.Family.{Family}
 use Rattle.gap_values.specs.Inside.Families.{IsFamilyOf}
-use Rattle.gap_values.specs.Inside.Sets.{HasLabel, AreLeft, IsShut, ArePassed, open_count}
+use Rattle.gap_values.specs.Inside.Sets.{HasLabel, AreLeft, IsShut, IsPassed, ArePassed, open_count}
 use Rattle.gap_values.proofs.FamilyMembers.{member-long, others-number, number-last-others}
 
 -- ---- the answers that are in no set yet
@@ -121,21 +121,21 @@ module _ (b : PlainBoard) (is : IsBoard b) (sets : List (List ℕ)) where
           → ((x : ℕ) → x < MAX_LABELS → has_bit live x ≡ true → ⊥)
           → IsShut b sets (put v f.held)
       left-shut live index most left empty label answer =
-          let long = member-long b is count f family v low in
+          let long = member-long b count f family v low in
           elim (left.all label answer) [
             | inl has ↦ absurd (empty label (small label answer.is_label) has)
             | inr in_lists ↦ elim in_lists [
               | inl own ↦ (
                 count,
                 omega arith,
-                subst (λ n. HasLabel sets n label) (sym (number-last-others b is count f family v low)) own,
+                subst (λ n. HasLabel sets n label) (sym (number-last-others b count f family v low)) own,
               )
               | inr some ↦
                   let under : some.0 < index = some.1 in (
                     some.0,
                     omega arith,
                     subst (λ n. HasLabel sets n label)
-                        (sym (others-number b is count f family v low some.0 (omega arith))) some.2,
+                        (sym (others-number b count f family v low some.0 (omega arith))) some.2,
                   )
             ]
           ]
@@ -147,17 +147,17 @@ module _ (b : PlainBoard) (is : IsBoard b) (sets : List (List ℕ)) where
       shut-none live index least left shut x x_low has =
           let was = left.answers x x_low has in
           let some = shut x was.0 in
-          let long = member-long b is count f family v low in
+          let long = member-long b count f family v low in
           let inside : some.0 < length (put v f.held) = some.1 in
           was.1 (elim (cases_lt some.0 count) [
             | inl before ↦ inr (
               some.0,
               omega arith,
-              subst (λ n. HasLabel sets n x) (others-number b is count f family v low some.0 before) some.2,
+              subst (λ n. HasLabel sets n x) (others-number b count f family v low some.0 before) some.2,
             )
             | inr last ↦
                 let here : some.0 ≡ count = omega arith in
-                inl (subst (λ n. HasLabel sets n x) (number-last-others b is count f family v low)
+                inl (subst (λ n. HasLabel sets n x) (number-last-others b count f family v low)
                 (subst (λ k. HasLabel sets (class_number (remove (put v f.held) k)) x) here some.2))
           ])
 
@@ -215,146 +215,138 @@ open-few (word ∷ words) =
       | inr closed_word ↦ omega (arith, rest, ap {B = ℕ} (λ t. cond t 1 0) (ne_eqb word 4294967295 closed_word))
     ]
 
-pub open-close : (words : List ℕ) (n word : ℕ) → n < length words → get_or words n 0 ≡ 4294967295
-    → word < 4294967295 → open_count words ≡ suc (open_count (set words n word))
-open-close [] n word inside was low = absurd (omega arith)
-open-close (first ∷ words) zero word inside was low =
-    omega (
-      arith,
-      ap {B = ℕ} (λ t. cond t 1 0) (eq-eqb first 4294967295 was),
-      ap {B = ℕ} (λ t. cond t 1 0) (ne_eqb word 4294967295 (λ same. omega (arith, same))),
-    )
-open-close (first ∷ words) (suc n) word inside was low =
-    let rest = open-close words n word (omega arith) was low in
-    omega (arith, rest)
+-- each word of `new` is as in `old`, or was open and is the round
+abbrev pub AreClosing : ℕ → List ℕ → List ℕ → Type 0
+AreClosing round old new =
+    (n : ℕ) → n < length old
+    → (get_or new n 0 ≡ get_or old n 0) ⊎ ((get_or old n 0 ≡ 4294967295) × (get_or new n 0 ≡ round))
 
--- ---- gaps are passed one after the other
+one-open : (word : ℕ) → word ≡ 4294967295 → ◌≡◌ {A = ℕ} (cond (nat_eq word 4294967295) 1 0) 1
+one-open word is = ap {B = ℕ} (λ t. cond t 1 0) (eq-eqb word 4294967295 is)
 
-module _ (b : PlainBoard) (sets : List (List ℕ)) (round : ℕ) (low : round < 4294967295) where
+none-open : (word : ℕ) → word < 4294967295 → ◌≡◌ {A = ℕ} (cond (nat_eq word 4294967295) 1 0) 0
+none-open word low = ap {B = ℕ} (λ t. cond t 1 0) (ne_eqb word 4294967295 (λ same. omega (arith, same)))
+
+open-kept : (round : ℕ) (old new : List ℕ) → round < 4294967295 → length new ≡ length old
+    → AreClosing round old new → open_count new ≤ open_count old
+open-kept round [] [] low size each = omega arith
+open-kept round [] (new ∷ others) low size each = absurd (omega (arith, size))
+open-kept round (old ∷ others) [] low size each = absurd (omega (arith, size))
+open-kept round (old ∷ olds) (new ∷ news) low size each =
+    let rest = open-kept round olds news low (omega (arith, size)) (λ n under. each (suc n) (omega arith)) in
+    elim (each 0 (omega arith)) [
+      | inl same ↦ omega (arith, rest, ap {B = ℕ} (λ w. cond (nat_eq w 4294967295) 1 0) same)
+      | inr closes ↦ omega (arith, rest, one-open old closes.0, none-open new (omega (arith, closes.1)))
+    ]
+
+pub open-falls : (round : ℕ) (old new : List ℕ) (n : ℕ) → round < 4294967295 → length new ≡ length old
+    → AreClosing round old new → n < length old → get_or old n 0 ≡ 4294967295 → get_or new n 0 ≡ round
+    → open_count new < open_count old
+open-falls round [] new n low size each inside was is = absurd (omega arith)
+open-falls round (old ∷ olds) [] n low size each inside was is = absurd (omega (arith, size))
+open-falls round (old ∷ olds) (new ∷ news) zero low size each inside was is =
+    let rest = open-kept round olds news low (omega (arith, size)) (λ n under. each (suc n) (omega arith)) in
+    omega (arith, rest, one-open old was, none-open new (omega (arith, is)))
+open-falls round (old ∷ olds) (new ∷ news) (suc n) low size each inside was is =
+    let rest = open-falls round olds news n low (omega (arith, size)) (λ k under. each (suc k) (omega arith))
+    (omega arith) was is in
+    elim (each 0 (omega arith)) [
+      | inl same ↦ omega (arith, rest, ap {B = ℕ} (λ w. cond (nat_eq w 4294967295) 1 0) same)
+      | inr closes ↦ omega (arith, rest, one-open old closes.0, none-open new (omega (arith, closes.1)))
+    ]
+
+-- ---- gaps are passed one after the other, in words of which the first is that of a gap
+
+module _ (b : PlainBoard) (sets : List (List ℕ)) (round : ℕ) (low : round < 4294967295) (first : ℕ) where
   abbrev gap_of : ℕ → List ℕ
-  gap_of n = class_with (places b) (b.pebbles - 1) n
+  gap_of index = class_with (places b) (b.pebbles - 1) (first + index)
 
-  pub passed-none : (from : ℕ) (words : List ℕ) → ArePassed b sets round from from 0 words words
-  passed-none from words = record {
-    same_length = refl;
-    shut = λ gap least under. absurd (omega arith);
-    left_open = λ gap least under. absurd (omega arith);
-    changed = λ gap. inl refl;
-    before = λ gap under. refl;
-    behind = λ gap past. refl;
-    few = omega arith;
-    counted = omega arith;
-    none = λ zero_closed gap. refl;
-  }
+  abbrev Passed : List ℕ → List ℕ → ℕ → Type 0
+  Passed old new index = IsPassed b sets round (first + index) (get_or old index 0) (get_or new index 0)
 
   -- none of the gaps is open
-  pub passed-over : (from to : ℕ) (words : List ℕ) → from ≤ to
-      → ((gap : ℕ) → from ≤ gap → gap < to → get_or words gap 0 ≢ 4294967295)
-      → ArePassed b sets round from to 0 words words
-  passed-over from to words most none = record {
+  pub passed-over : (from to : ℕ) (words : List ℕ)
+      → ((index : ℕ) → from ≤ index → index < to → get_or words index 0 ≢ 4294967295)
+      → ArePassed b sets round first from to words words
+  passed-over from to words none = record {
     same_length = refl;
-    shut = λ gap least under open_word. absurd (none gap least under open_word);
-    left_open = λ gap least under open_word. absurd (none gap least under open_word);
-    changed = λ gap. inl refl;
-    before = λ gap under. refl;
-    behind = λ gap past. refl;
-    few = omega arith;
-    counted = omega arith;
-    none = λ zero_closed gap. refl;
+    passed = λ index least under. record {
+      shut = λ open_word. absurd (none index least under open_word);
+      left_open = λ open_word. absurd (none index least under open_word);
+      changed = inl refl;
+    };
+    before = λ index under. refl;
+    behind = λ index past. refl;
   }
 
-  pub passed-kept : (from to closed : ℕ) (old now : List ℕ) → from ≤ to
+  pub passed-none : (from : ℕ) (words : List ℕ) → ArePassed b sets round first from from words words
+  passed-none from words = passed-over from from words (λ index least under. absurd (omega arith))
+
+  pub passed-kept : (from to : ℕ) (old now : List ℕ)
       → (get_or now to 0 ≡ 4294967295 → IsShut b sets (gap_of to) → ⊥)
-      → ArePassed b sets round from to closed old now → ArePassed b sets round from (to + 1) closed old now
-  passed-kept from to closed old now most stays was = record {
-    same_length = was.same_length;
-    shut = λ gap least under open_word now_round. elim (cases_eq gap to) [
-      | inl here ↦
-          let same = was.behind gap (omega arith) in
-          absurd (omega (arith, same, open_word, now_round, low))
-      | inr before ↦ was.shut gap least (omega (arith, before)) open_word now_round
-    ];
-    left_open = λ gap least under open_word shut. elim (cases_eq gap to) [
-      | inl here ↦ stays (ap (λ n. get_or now n 0) (sym here) ∙ open_word)
-          (subst (λ n. IsShut b sets (gap_of n)) here shut)
-      | inr before ↦ was.left_open gap least (omega (arith, before)) open_word shut
-    ];
-    changed = was.changed;
-    before = was.before;
-    behind = λ gap past. was.behind gap (omega arith);
-    few = (let few = was.few in omega arith);
-    counted = was.counted;
-    none = was.none;
-  }
+      → ArePassed b sets round first from to old now → ArePassed b sets round first from (to + 1) old now
+  passed-kept from to old now stays was =
+      let same = was.behind to (omega arith) in
+      record {
+        same_length = was.same_length;
+        passed = λ index least under. elim (cases_eq index to) [
+          | inl here ↦ subst (Passed old now) (sym here) (record {
+            shut = λ open_word now_round. absurd (omega (arith, same, open_word, now_round, low));
+            left_open = stays;
+            changed = inl same;
+          })
+          | inr before ↦ was.passed index least (omega (arith, before))
+        ];
+        before = was.before;
+        behind = λ index past. was.behind index (omega arith);
+      }
 
-  pub passed-shut : (from to closed : ℕ) (old now : List ℕ) → from ≤ to → to < length now
+  pub passed-shut : (from to : ℕ) (old now : List ℕ) → from ≤ to → to < length now
       → get_or now to 0 ≡ 4294967295 → IsShut b sets (gap_of to)
-      → ArePassed b sets round from to closed old now
-      → ArePassed b sets round from (to + 1) (closed + 1) old (set now to round)
-  passed-shut from to closed old now most inside open_now is_shut was =
+      → ArePassed b sets round first from to old now
+      → ArePassed b sets round first from (to + 1) old (set now to round)
+  passed-shut from to old now most inside open_now is_shut was =
       let here_is : get_or (set now to round) to 0 ≡ round = get_or-set_same now to round 0 inside in
       let other : (n : ℕ) → n ≢ to → get_or (set now to round) n 0 ≡ get_or now n 0 =
       λ n differ. get_or-set_other now to n round 0 differ in
       record {
         same_length = length-set now to round ∙ was.same_length;
-        shut = λ gap least under open_word now_round. elim (cases_eq gap to) [
-          | inl here ↦ subst (λ n. IsShut b sets (gap_of n)) (sym here) is_shut
-          | inr differ ↦ was.shut gap least (omega (arith, differ)) open_word (sym (other gap differ) ∙ now_round)
+        passed = λ index least under. elim (cases_eq index to) [
+          | inl here ↦ subst (Passed old (set now to round)) (sym here) (record {
+            shut = λ open_word now_round. is_shut;
+            left_open = λ open_word. absurd (omega (arith, here_is, open_word, low));
+            changed = inr (sym (was.behind to (omega arith)) ∙ open_now, here_is);
+          })
+          | inr differ ↦ subst (IsPassed b sets round (first + index) (get_or old index 0)) (sym (other index differ))
+              (was.passed index least (omega (arith, differ)))
         ];
-        left_open = λ gap least under open_word shut. elim (cases_eq gap to) [
-          | inl here ↦
-              let is = ap (λ n. get_or (set now to round) n 0) here ∙ here_is in
-              absurd (omega (arith, is, open_word, low))
-          | inr differ ↦ was.left_open gap least (omega (arith, differ)) (sym (other gap differ) ∙ open_word) shut
-        ];
-        changed = λ gap. elim (cases_eq gap to) [
-          | inl here ↦ inr (
-            sym (was.behind gap (omega arith)) ∙ ap (λ n. get_or now n 0) here ∙ open_now,
-            ap (λ n. get_or (set now to round) n 0) here ∙ here_is,
-          )
-          | inr differ ↦ elim (was.changed gap) [
-            | inl same ↦ inl (other gap differ ∙ same)
-            | inr closes ↦ inr (closes.0, other gap differ ∙ closes.1)
-          ]
-        ];
-        before = λ gap under. other gap (λ same. omega (arith, same)) ∙ was.before gap under;
-        behind = λ gap past. other gap (λ same. omega (arith, same)) ∙ was.behind gap (omega arith);
-        few = (let few = was.few in omega arith);
-        counted =
-            let one = open-close now to round inside open_now low in
-            let before = was.counted in
-            omega arith;
-        none = λ zero_closed gap. absurd (omega arith);
+        before = λ index under. other index (λ same. omega (arith, same)) ∙ was.before index under;
+        behind = λ index past. other index (λ same. omega (arith, same)) ∙ was.behind index (omega arith);
       }
 
-  pub passed-join : (from middle to first second : ℕ) (old now new : List ℕ) → middle ≤ to
-      → ArePassed b sets round from middle first old now → ArePassed b sets round middle to second now new
-      → ArePassed b sets round from to (first + second) old new
-  passed-join from middle to first second old now new most one two = record {
+  pub passed-join : (from middle to : ℕ) (old now new : List ℕ) → from ≤ middle → middle ≤ to
+      → ArePassed b sets round first from middle old now → ArePassed b sets round first middle to now new
+      → ArePassed b sets round first from to old new
+  passed-join from middle to old now new least most one two = record {
     same_length = two.same_length ∙ one.same_length;
-    shut = λ gap least under open_word now_round. elim (cases_lt gap middle) [
-      | inl early ↦ one.shut gap least early open_word (sym (two.before gap early) ∙ now_round)
-      | inr late ↦ two.shut gap late under (one.behind gap late ∙ open_word) now_round
+    passed = λ index after under. elim (cases_lt index middle) [
+      | inl early ↦ subst (IsPassed b sets round (first + index) (get_or old index 0)) (sym (two.before index early))
+          (one.passed index after early)
+      | inr late ↦ subst (λ w. IsPassed b sets round (first + index) w (get_or new index 0)) (one.behind index late)
+          (two.passed index late under)
     ];
-    left_open = λ gap least under open_word shut. elim (cases_lt gap middle) [
-      | inl early ↦ one.left_open gap least early (sym (two.before gap early) ∙ open_word) shut
-      | inr late ↦ two.left_open gap late under open_word shut
-    ];
-    changed = λ gap. elim (two.changed gap) [
-      | inl same ↦ elim (one.changed gap) [
-        | inl was ↦ inl (same ∙ was)
-        | inr closes ↦ inr (closes.0, same ∙ closes.1)
-      ]
-      | inr closes ↦ elim (one.changed gap) [
-        | inl was ↦ inr (sym was ∙ closes.0, closes.1)
-        | inr earlier ↦ inr (earlier.0, closes.1)
-      ]
-    ];
-    before = λ gap under.
-        let few = one.few in
-        two.before gap (omega arith) ∙ one.before gap under;
-    behind = λ gap past. two.behind gap past ∙ one.behind gap (omega arith);
-    few = (let first_few = one.few in let second_few = two.few in omega arith);
-    counted = (let first_count = one.counted in let second_count = two.counted in omega arith);
-    none = λ zero_closed gap. two.none (omega arith) gap ∙ one.none (omega arith) gap;
+    before = λ index under. two.before index (omega arith) ∙ one.before index under;
+    behind = λ index past. two.behind index past ∙ one.behind index (omega arith);
   }
+
+-- ---- a word of a part is one of all words
+
+pub part-passed : (b : PlainBoard) (sets : List (List ℕ)) (round first offset index was is : ℕ) (old new : List ℕ)
+    → first + offset ≡ index → offset < length old → get_or old offset 0 ≡ was → get_or new offset 0 ≡ is
+    → ArePassed b sets round first 0 (length old) old new → IsPassed b sets round (0 + index) was is
+part-passed b sets round first offset index was is old new place inside was_is is_is passed =
+    let whole : first + offset ≡ 0 + index = omega (arith, place) in
+    subst (λ n. IsPassed b sets round n was is) whole
+    (subst (λ w. IsPassed b sets round (first + offset) w is) was_is
+    (subst (IsPassed b sets round (first + offset) (get_or old offset 0)) is_is
+    (passed.passed offset (omega arith) inside)))

@@ -1,3 +1,4 @@
+pub mod Cited
 mod ClosedGaps
 mod WaysTables
 mod TableNumbers

@@ -13,10 +13,10 @@ use Rattle.classes.specs.ClassGaps.{gap_at, member_with}
 use Rattle.classes.specs.Numbers.{ways, class_number, class_with}
 use Rattle.classes.proofs.Cited.{is-below, put-none, ways-zero, with-is, with-number}
 use Rattle.gap_values.specs.GapTables.{IsClosedBefore, ClosesBy}
-use Rattle.gap_values.specs.Inside.Sets.{TellClosed, IsShut, ArePassed, AreToldTo, open_count}
+use Rattle.gap_values.specs.Inside.Sets.{TellClosed, IsShut, IsPassed, ArePassed, AreToldTo, open_count}
 use Rattle.gap_values.specs.Inside.Words.{round_of_word, gap_table, AreGapWords, AreRounds}
 use Rattle.gap_values.proofs.ClosedParts.{shut-closes}
-use Rattle.gap_values.proofs.ClosingSteps.{open-few}
+use Rattle.gap_values.proofs.ClosingSteps.{open-falls, open-few}
 use Rattle.gap_values.proofs.TableNumbers.{gap-below}
 use Rattle.gap_values.proofs.TellingSteps.{told-begins}
 use Rattle.gap_values.proofs.Words.{before-from, before-to, gap_at-index, result-is}
@@ -130,11 +130,25 @@ closes-sooner board words gap round b is_board low below is closes = λ label an
     )
 
 -- a round that closed its open gaps that are shut
-module _ (board : PlainBoard) (is_board : IsBoard board) (some : 2 ≤ board.pebbles) (round closed : ℕ)
+module _ (board : PlainBoard) (is_board : IsBoard board) (some : 2 ≤ board.pebbles) (round : ℕ)
     (old new : List ℕ) (sets : List (List ℕ)) (low : round < 4294967295) (at : IsAtRound board round old sets)
-    (passed : ArePassed board sets round 0 (gap_count board) closed old new) where
+    (passed : ArePassed board sets round 0 0 (gap_count board) old new) where
+  passed-at : (n : ℕ) → n < gap_count board → IsPassed board sets round n (get_or old n 0) (get_or new n 0)
+  passed-at n n_low =
+      let same : 0 + n ≡ n = omega arith in
+      subst (λ k. IsPassed board sets round k (get_or old n 0) (get_or new n 0)) same
+      (passed.passed n (omega arith) n_low)
+
+  -- no word but those of open gaps changed
+  changed : (n : ℕ)
+      → (get_or new n 0 ≡ get_or old n 0) ⊎ ((get_or old n 0 ≡ 4294967295) × (get_or new n 0 ≡ round))
+  changed n = elim (cases_lt n (gap_count board)) [
+    | inl n_low ↦ (passed-at n n_low).changed
+    | inr past ↦ inl (passed.behind n past)
+  ]
+
   agree : Agree round old new
-  agree n b most = elim (passed.changed n) [
+  agree n b most = elim (changed n) [
     | inl same ↦ (
       subst (λ w. IsClosedBefore (round_of_word w) b) (sym same),
       subst (λ w. IsClosedBefore (round_of_word w) b) same,
@@ -146,7 +160,7 @@ module _ (board : PlainBoard) (is_board : IsBoard board) (some : 2 ≤ board.peb
   ]
 
   old-open : (n : ℕ) → get_or new n 0 ≡ 4294967295 → get_or old n 0 ≡ 4294967295
-  old-open n open_now = elim (passed.changed n) [
+  old-open n open_now = elim (changed n) [
     | inl same ↦ sym same ∙ open_now
     | inr closes ↦ closes.0
   ]
@@ -161,7 +175,7 @@ module _ (board : PlainBoard) (is_board : IsBoard board) (some : 2 ≤ board.peb
       (ap (λ k. get_or old k 0) (with-is (places board) (board.pebbles - 1) n n_low).number_is ∙ open_word)
 
   new-words : (n : ℕ) → n < gap_count board → (get_or new n 0 < round + 1) ⊎ (get_or new n 0 ≡ 4294967295)
-  new-words n n_low = elim (passed.changed n) [
+  new-words n n_low = elim (changed n) [
     | inl same ↦ elim (at.words_are n n_low) [
       | inl less ↦ inl (omega (arith, same))
       | inr none ↦ inr (same ∙ none)
@@ -182,7 +196,7 @@ module _ (board : PlainBoard) (is_board : IsBoard board) (some : 2 ≤ board.peb
           | inr now ↦
               let word : get_or new n 0 ≡ round = omega (arith, is.0) in
               let was : get_or old n 0 ≡ 4294967295 =
-              elim (passed.changed n) [
+              elim (changed n) [
                 | inr closes ↦ closes.0
                 | inl same ↦ elim (at.words_are n n_low) [
                   | inl less ↦ absurd (omega (arith, same, less, word))
@@ -190,11 +204,11 @@ module _ (board : PlainBoard) (is_board : IsBoard board) (some : 2 ≤ board.peb
                 ]
               ] in
               closes-agree board old new round agree (gap_with board n) round (omega arith)
-              ((shut-is n n_low was).0 (passed.shut n (omega arith) n_low was word))
+              ((shut-is n n_low was).0 ((passed-at n n_low).shut was word))
         ],
     λ closes. elim (new-words n n_low) [
       | inl less ↦ before-from (get_or new n 0) (suc round) (omega arith) (omega arith)
-      | inr none ↦ absurd (passed.left_open n (omega arith) n_low none
+      | inr none ↦ absurd ((passed-at n n_low).left_open none
           ((shut-is n n_low (old-open n none)).1
           (closes-back board old new round agree (gap_with board n) round (omega arith) closes)))
     ],
@@ -204,10 +218,26 @@ module _ (board : PlainBoard) (is_board : IsBoard board) (some : 2 ≤ board.peb
   pub telling-begins : AreToldTo board new round 0 sets
   telling-begins = told-begins board is_board some new round low old sets (λ n. agree n round (omega arith)) at.tell
 
-  -- some gap closed: the next round begins
-  pub next-round : (told : List (List ℕ)) → closed ≢ 0 → TellClosed board new (round + 1) told
+  -- some gap closed: fewer are open
+  pub some-closed : (n : ℕ) × (n < gap_count board) × (get_or new n 0 ≡ round) → open_count new < open_count old
+  some-closed told =
+      let size : length old ≡ gap_count board = at.size in
+      let was : get_or old told.0 0 ≡ 4294967295 =
+      elim (changed told.0) [
+        | inr closes ↦ closes.0
+        | inl same ↦ elim (at.words_are told.0 told.1) [
+          | inl less ↦ absurd (omega (arith, same, less, told.2))
+          | inr none ↦ none
+        ]
+      ] in
+      open-falls round old new told.0 low passed.same_length (λ n under. changed n) (omega (arith, size, told.1)) was
+      told.2
+
+  -- and the next round begins
+  pub next-round : (told : List (List ℕ)) → (n : ℕ) × (n < gap_count board) × (get_or new n 0 ≡ round)
+      → TellClosed board new (round + 1) told
       → IsAtRound board (round + 1) new told
-  next-round told some_closed tell = record {
+  next-round told some_told tell = record {
     size = passed.same_length ∙ at.size;
     before = λ n b n_low b_low. elim (cases_lt b round) [
       | inl before ↦ new-before n b n_low before
@@ -216,15 +246,18 @@ module _ (board : PlainBoard) (is_board : IsBoard board) (some : 2 ≤ board.peb
           subst (IsRight board new n) same (right-now n n_low)
     ];
     words_are = new-words;
-    few = (let few = at.few in let counted = passed.counted in omega (arith, some_closed));
+    few = (let few = at.few in let fewer = some-closed some_told in omega arith);
     tell = tell;
   }
 
   -- no gap closed: the words are a table of gaps
-  pub last-round : closed ≡ 0 → AreRounds board new
+  pub last-round : ((n : ℕ) → n < gap_count board → get_or new n 0 ≢ round) → AreRounds board new
   last-round none_closed =
       let below : (n : ℕ) → n < gap_count board → (get_or new n 0 < round) ⊎ (get_or new n 0 ≡ 4294967295) =
-      λ n n_low. subst (λ w. (w < round) ⊎ (w ≡ 4294967295)) (sym (passed.none none_closed n)) (at.words_are n n_low) in
+      λ n n_low. elim (new-words n n_low) [
+        | inl less ↦ inl (let differs = none_closed n n_low in omega (arith, less, differs))
+        | inr none ↦ inr none
+      ] in
       let right : (n b : ℕ) → n < gap_count board → IsRight board new n b = λ n b n_low.
       elim (cases_lt b round) [
         | inl before ↦ new-before n b n_low before

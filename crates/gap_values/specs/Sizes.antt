@@ -1,5 +1,5 @@
 -- The number of configurations of a value.
-use Rattle.std.specs.Prelude.{ℕ, ◌<◌, ◌≤◌, List, length, slice_index}
+use Rattle.std.specs.Prelude.{ℕ, ◌<◌, ◌≤◌, ◌↔◌, List, length, slice_index}
 use Rattle.board_text.specs.PlainBoard.{PlainBoard}
 use Rattle.positions.specs.declared.value.Value.{Value}
 use Rattle.positions.specs.declared.value.Value.TheVariants.{Finite, Forever}
@@ -15,10 +15,15 @@ HasValueCount board value count =
     (λ rank. (rank < configurations board) × HasValue board (configuration_at board rank) value)
     count
 
--- so many configurations have each finite value of the list, none a greater one, and so many
--- Forever
+-- the number of values from 0 to the greatest that occurs
+abbrev pub IsCountOfValues : PlainBoard → ℕ → Type 0
+IsCountOfValues board number =
+    (value : ℕ) → value < number ↔ ((other : ℕ) × (value ≤ other) × Occurs board other)
+
+-- so many configurations have each finite value of the list, which ends with the greatest that
+-- occurs, and so many Forever
 pub record AreValueCounts (board : PlainBoard) (finite : List ℕ) (forever : ℕ) : Type 0 where
   pub each : (value : ℕ) → value < length finite
       → HasValueCount board (Finite value) (slice_index finite value)
-  pub beyond : (value : ℕ) → length finite ≤ value → Occurs board value → ⊥
+  pub to_greatest : IsCountOfValues board (length finite)
   pub unending : HasValueCount board Forever forever

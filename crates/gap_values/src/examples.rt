@@ -9,6 +9,7 @@ use board_text::{Board, MAX_PEBBLES, parse};
 use positions::{Value, is_small, value_of};
 use std::alloc::Global;
 use std::process::Abort;
+use std::thread::Threads;
 
 /// The chain of three labels with two pebbles on the lowest.
 const CHAIN_OF_THREE: &str = "board 1\nlabels 3\npebbles 2\nstart 0 0\n\
@@ -40,13 +41,19 @@ const SIX_ON_THE_CYCLE: &str = "board 2\nlabels 3\npebbles 6\nstart - - - - - -\
 const PAIR_WITH_A_BLANK: &str = "board 2\nlabels 2\npebbles 2\nstart 1 -\nbeats 1 0\nend\n";
 
 /// Asserts the value of a board's start, and how many configurations last for ever.
-fn assert_values(rt: &impl Abort, alloc: Global, text: &str, wanted: Value, forever: u64) {
+fn assert_values(
+    rt: &(impl Abort + Threads + Sync),
+    alloc: Global,
+    text: &str,
+    wanted: Value,
+    forever: u64,
+) {
     let board = parse(alloc, text.as_bytes()).ok().expect(rt, "a board");
     assert!(rt; has_few_gaps(&board));
-    match GapValues::of(alloc, &board) {
+    match GapValues::of_by(rt, alloc, &board, 1) {
         Ok(values) => {
             assert_eq!(rt; values.value(board.start()), wanted);
-            let sizes = values.sizes(alloc).ok().expect(rt, "memory");
+            let sizes = values.sizes_by(rt, alloc, 1).ok().expect(rt, "memory");
             assert_eq!(rt; sizes.forever, forever);
         }
         Err(_) => panic!(rt; "memory"),
@@ -62,13 +69,19 @@ fn is_configuration(board: &Board, held: &[u16]) -> bool
 }
 
 /// The values of a board that has few gaps.
-fn values_of(alloc: Global, board: &Board) -> Option<GapValues>
+fn values_of(
+    rt: &(impl Threads + Sync),
+    alloc: Global,
+    board: &Board,
+    workers: u8,
+) -> Option<GapValues>
+    requires { 1 ≤ workers }
     ensures { IfSome result (λ values. values ≡ board.now) }
 {
     if !has_few_gaps(board) {
         return None;
     }
-    GapValues::of(alloc, board).ok()
+    GapValues::of_by(rt, alloc, board, workers).ok()
 }
 
 /// The value of a configuration by its gaps, and the one that the slow program finds.
@@ -83,11 +96,13 @@ fn both_values(board: &Board, values: &GapValues, held: &mut [u16]) -> Option<(V
 }
 
 /// Asserts that all configurations of a board have the values that the slow program finds.
-fn assert_all_values(rt: &impl Abort, alloc: Global, text: &str) {
+fn assert_all_values(rt: &(impl Abort + Threads + Sync), alloc: Global, text: &str, workers: u8)
+    requires { 1 ≤ workers }
+{
     let board = parse(alloc, text.as_bytes()).ok().expect(rt, "a board");
     let pebbles = board.pebbles() as usize;
     let last = board.places() - 1;
-    let values = match values_of(alloc, &board) {
+    let values = match values_of(rt, alloc, &board, workers) {
         Some(values) => values,
         None => panic!(rt; "memory"),
     };
@@ -111,11 +126,11 @@ fn assert_all_values(rt: &impl Abort, alloc: Global, text: &str) {
 #[test]
 fn all_values_of_boards(rt: HostRuntime) {
     let alloc = rt.alloc();
-    assert_all_values(&rt, alloc, CHAIN_OF_THREE);
-    assert_all_values(&rt, alloc, CHAIN_WITHOUT_LABELS);
-    assert_all_values(&rt, alloc, FIVE_ON_THE_CHAIN);
-    assert_all_values(&rt, alloc, SIX_ON_THE_CYCLE);
-    assert_all_values(&rt, alloc, PAIR_WITH_A_BLANK);
+    assert_all_values(&rt, alloc, CHAIN_OF_THREE, 1);
+    assert_all_values(&rt, alloc, CHAIN_WITHOUT_LABELS, 2);
+    assert_all_values(&rt, alloc, FIVE_ON_THE_CHAIN, 3);
+    assert_all_values(&rt, alloc, SIX_ON_THE_CYCLE, 4);
+    assert_all_values(&rt, alloc, PAIR_WITH_A_BLANK, 5);
 }
 
 #[test]

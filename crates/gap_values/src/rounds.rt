@@ -1,11 +1,12 @@
 //! The rounds in which gaps close.
 
-ghost use Rattle.std.specs.Prelude.{◌≡◌, ◌-◌, ◌≤◌, IfOk};
+ghost use Rattle.std.specs.Prelude.{◌≡◌, ◌-◌, ◌<◌, ◌≤◌, IfOk};
 ghost use Rattle.board_text.specs.PlainBoard.{places};
 ghost use Rattle.classes.specs.Numbers.{ways};
-ghost use Rattle.gap_values.specs.Inside.Words.{AreRounds};
+ghost use Rattle.gap_values.specs.Inside.Sets.{ArePassed, AreSets};
+ghost use Rattle.gap_values.specs.Inside.Words.{AreGapWords, AreRounds};
 
-use crate::closing::{OPEN, close_gaps};
+use crate::closing::OPEN;
 use crate::gap_numbers::GapNumbers;
 use crate::telling::tell_round;
 use board_text::{Board, Memory};
@@ -15,14 +16,23 @@ use std::alloc::Global;
 /// The largest number of gaps of a board whose values are found.
 pub const MAX_GAPS: u32 = 536_870_912;
 
-/// The round in which each gap closes, at its number, or `OPEN`. The error is that memory ran out.
-pub(crate) fn rounds_of_gaps(
+/// The round in which each gap closes, at its number, or `OPEN`. In each round `close` closes the
+/// gaps that are shut. The error is that memory ran out.
+pub(crate) fn rounds_of_gaps<F: Fn(&[LabelSet], u32, Vec<u32>) -> Vec<u32>>(
     alloc: Global,
     board: &Board,
     numbers: &GapNumbers,
+    close: F,
 ) -> Result<Vec<u32>, Memory>
     requires board { numbers.now ≡ board.now }
     requires few { ways (board.now.pebbles - 1) (places board.now) ≤ MAX_GAPS }
+    requires closes { 2 ≤ board.now.pebbles → (sets : _) → (round : _) → (words : _)
+        → AreSets board.now sets.now → round < OPEN → AreGapWords board.now words.items
+        → F.pre close sets round words }
+    requires closed { (sets : _) → (round : _) → (words : _) → (new : _)
+        → F.post close sets round words new
+        → ArePassed board.now sets.now round 0 0
+        (ways (board.now.pebbles - 1) (places board.now)) words.items new.items }
     ensures { IfOk result (λ words. AreRounds board.now words.items) }
 {
     let mut words = vec![in alloc; OPEN; numbers.gaps() as usize]?;
@@ -34,11 +44,10 @@ pub(crate) fn rounds_of_gaps(
     let mut sets = vec![in alloc; LabelSet::below(0); lists as usize]?;
     let mut round = 0;
     loop {
-        let closed = close_gaps(board, numbers, &sets, round, &mut words);
-        if closed == 0 {
+        words = close(&sets, round, words);
+        if !tell_round(board, numbers, &words, round, &mut sets) {
             return Ok(words);
         }
-        tell_round(board, numbers, &words, round, &mut sets);
         round += 1;
     }
 }

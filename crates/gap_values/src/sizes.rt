@@ -1,8 +1,9 @@
 //! How many configurations have a value.
 
-ghost use Rattle.std.specs.Prelude.{◌≡◌, ◌-◌, ◌<◌, ◌≤◌, ℕ, length, slice_index, IfOk};
+ghost use Rattle.std.specs.Prelude.{◌≡◌, ◌≢◌, ◌+◌, ◌-◌, ◌<◌, ◌≤◌, ℕ, length, slice_index, IfOk};
 ghost use Rattle.classes.specs.ClassGaps.{member_with};
 ghost use Rattle.gap_values.specs.Sizes.{AreValueCounts};
+ghost use Rattle.gap_values.specs.Inside.Counts.{IsAboveRounds, AreSizesBetween, IsTrimmed};
 ghost use Rattle.gap_values.specs.Inside.Families.{IsFamilyOf};
 ghost use Rattle.gap_values.specs.Inside.Words.{least_word, AreGapWords, AreRounds};
 
@@ -12,6 +13,7 @@ use crate::gap_numbers::GapNumbers;
 use crate::weight::family_weights;
 use board_text::Memory;
 use std::alloc::Global;
+use std::thread::{Threads, map_chunks};
 
 /// The least of the words of the gaps of the class of `family` with the least place `least`.
 fn first_of_member(numbers: &GapNumbers, words: &[u32], family: &Family, least: u16) -> u32
@@ -34,24 +36,121 @@ fn first_of_member(numbers: &GapNumbers, words: &[u32], family: &Family, least: 
 /// How many configurations have each value.
 #[derive(Drop)]
 pub struct Sizes {
-    /// Those of each finite value, 0 and up to the greatest that a gap has.
+    /// Those of each finite value from 0 to the greatest that occurs.
     pub finite: Vec<u64>,
     /// Those that last for ever.
     pub forever: u64,
 }
 
-/// The numbers of configurations of all values, in one pass over the classes. The error is that
-/// memory ran out.
-pub(crate) fn sizes_of(alloc: Global, numbers: &GapNumbers, words: &[u32]) -> Result<Sizes, Memory>
+/// The numbers of configurations of all values, which at most `workers` threads count, each those
+/// of a part. The error is that memory ran out.
+pub(crate) fn sizes_of(
+    rt: &(impl Threads + Sync),
+    alloc: Global,
+    numbers: &GapNumbers,
+    words: &[u32],
+    workers: u8,
+) -> Result<Sizes, Memory>
+    requires words { AreRounds numbers.now words.now }
+    requires workers { 1 ≤ workers }
+    ensures { IfOk result (λ sizes. AreValueCounts numbers.now sizes.finite.items sizes.forever) }
+{
+    let _ = numbers.pebbles();
+    let rounds = rounds_in(words);
+    let mut sizes = sizes_in_parts(rt, alloc, numbers, words, rounds, workers)?;
+    sizes.trim();
+    Ok(sizes)
+}
+
+/// The same, counted on this thread.
+pub(crate) fn sizes_alone(
+    alloc: Global,
+    numbers: &GapNumbers,
+    words: &[u32],
+) -> Result<Sizes, Memory>
     requires { AreRounds numbers.now words.now }
     ensures { IfOk result (λ sizes. AreValueCounts numbers.now sizes.finite.items sizes.forever) }
 {
-    let fewer = numbers.pebbles() - 1;
+    let _ = numbers.pebbles();
     let rounds = rounds_in(words);
+    let mut sizes = sizes_between(alloc, numbers, words, rounds, 0, words.len() as u64)?;
+    sizes.trim();
+    Ok(sizes)
+}
+
+/// The numbers of configurations of all values, added up from at most `workers` parts. One worker
+/// is this thread. The error is that memory ran out.
+fn sizes_in_parts(
+    rt: &(impl Threads + Sync),
+    alloc: Global,
+    numbers: &GapNumbers,
+    words: &[u32],
+    rounds: u32,
+    workers: u8,
+) -> Result<Sizes, Memory>
+    requires words { AreGapWords numbers.now words.now }
+    requires rounds { IsAboveRounds words.now rounds }
+    requires workers { 1 ≤ workers }
+    ensures { IfOk result (AreSizesBetween numbers.now words.now rounds 0 (length words.now)) }
+{
+    let _ = numbers.pebbles();
+    if workers == 1 {
+        return sizes_between(alloc, numbers, words, rounds, 0, words.len() as u64);
+    }
+    let size = words.len().div_ceil(workers as usize).max(1);
+    let parts = map_chunks(
+        rt,
+        alloc,
+        words,
+        size,
+        &move |first: usize, part: &[u32]| -> Result<Sizes, Memory>
+            requires words { AreGapWords numbers.now words.now }
+            requires rounds { IsAboveRounds words.now rounds }
+            requires part { first + length part.now ≤ length words.now }
+            ensures { IfOk result (AreSizesBetween numbers.entry.now words.entry.now rounds first
+                (first + length part.now)) }
+        {
+            sizes_between(
+                alloc,
+                numbers,
+                words,
+                rounds,
+                first as u64,
+                (first + part.len()) as u64,
+            )
+        },
+    )?;
+    let mut sizes = sizes_between(alloc, numbers, words, rounds, 0, 0)?;
+    for index in 0..parts.len() {
+        match &parts[index] {
+            Ok(part) => sizes.add(part),
+            Err(_) => return Err(Memory),
+        }
+    }
+    Ok(sizes)
+}
+
+/// The numbers of configurations of all values, of the classes of the families from the number
+/// `from` up to the number `to` alone, in one pass. The error is that memory ran out.
+fn sizes_between(
+    alloc: Global,
+    numbers: &GapNumbers,
+    words: &[u32],
+    rounds: u32,
+    from: u64,
+    to: u64,
+) -> Result<Sizes, Memory>
+    requires words { AreGapWords numbers.now words.now }
+    requires rounds { IsAboveRounds words.now rounds }
+    requires order { from ≤ to }
+    requires to { to ≤ length words.now }
+    ensures { IfOk result (AreSizesBetween numbers.now words.now rounds from to) }
+{
+    let fewer = numbers.pebbles() - 1;
     let mut finite = vec![in alloc; 0u64; rounds as usize]?;
     let mut forever: u64 = 0;
-    let mut walk = numbers.families(fewer);
-    for number in 0..numbers.gaps() {
+    let mut walk = numbers.families_from(fewer, from);
+    for number in from..to {
         let family = numbers.family(&walk, number);
         numbers.next_family(&mut walk, number);
         let weights = family_weights(numbers, &family);
@@ -68,11 +167,52 @@ pub(crate) fn sizes_of(alloc: Global, numbers: &GapNumbers, words: &[u32]) -> Re
     Ok(Sizes { finite, forever })
 }
 
+impl Sizes {
+    /// Takes the zeros from the end of the list.
+    fn trim(&mut self)
+        ensures finite { IsTrimmed self.old.finite.items self.new.finite.items }
+        ensures forever { self.new.forever ≡ self.old.forever }
+    {
+        let values = values_in(&self.finite);
+        self.finite.truncate(values);
+    }
+
+    /// Adds the counts of `other`, which has as many.
+    fn add(&mut self, other: &Sizes)
+        requires same { length other.now.finite.items ≡ length self.old.finite.items }
+        requires few { (value : ℕ) → slice_index self.old.finite.items value
+            + slice_index other.now.finite.items value ≤ 18446744073709551615 }
+        requires few_unending { self.old.forever + other.now.forever ≤ 18446744073709551615 }
+        ensures size { length self.new.finite.items ≡ length self.old.finite.items }
+        ensures finite { (value : ℕ) → value < length self.old.finite.items
+            → slice_index self.new.finite.items value
+            ≡ slice_index self.old.finite.items value + slice_index other.now.finite.items value }
+        ensures forever { self.new.forever ≡ self.old.forever + other.now.forever }
+    {
+        for value in 0..self.finite.len() {
+            self.finite[value] += other.finite[value];
+        }
+        self.forever += other.forever;
+    }
+}
+
+/// The number of counts up to the last that is not 0.
+fn values_in(counts: &[u64]) -> usize
+    ensures within { result ≤ length counts.now }
+    ensures last { 0 < result → slice_index counts.now (result - 1) ≢ 0 }
+    ensures zeros { (value : ℕ) → result ≤ value → value < length counts.now
+        → slice_index counts.now value ≡ 0 }
+{
+    let mut values = counts.len();
+    while values > 0 && counts[values - 1] == 0 {
+        values -= 1;
+    }
+    values
+}
+
 /// A number above each word that stands for a round.
 fn rounds_in(words: &[u32]) -> u32
-    ensures above { (index : ℕ) → index < length words.now → slice_index words.now index < OPEN
-        → slice_index words.now index < result }
-    ensures few { result ≤ OPEN }
+    ensures { IsAboveRounds words.now result }
 {
     let mut rounds = 0;
     for index in 0..words.len() {

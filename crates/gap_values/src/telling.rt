@@ -1,6 +1,6 @@
 //! Gaps that closed are told to the sets of closed gaps.
 
-ghost use Rattle.std.specs.Prelude.{◌≡◌, ◌+◌, ◌-◌, ◌<◌, ◌≤◌, ℕ, length};
+ghost use Rattle.std.specs.Prelude.{◌≡◌, ◌↔◌, ◌+◌, ◌-◌, ◌<◌, ◌≤◌, ℕ, IsTrue, length, slice_index};
 ghost use Rattle.board_text.specs.PlainBoard.{IsBoard, places};
 ghost use Rattle.classes.specs.ClassGaps.{member_with};
 ghost use Rattle.classes.specs.Numbers.{ways};
@@ -57,30 +57,37 @@ fn tell_family(board: &Board, family: &Family, words: &[u32], round: u32, sets: 
     }
 }
 
-/// Tells all gaps that closed in the round.
+/// Tells all gaps that closed in the round, and returns whether there are any.
 pub(crate) fn tell_round(
     board: &Board,
     numbers: &GapNumbers,
     words: &[u32],
     round: u32,
     sets: &mut [LabelSet],
-)
+) -> bool
     requires board { numbers.now ≡ board.now }
     requires some { 2 ≤ board.now.pebbles }
     requires words { AreGapWords board.now words.now }
     requires round { round < OPEN }
     requires sets { AreToldTo board.now words.now round 0 sets.old }
-    ensures { AreToldTo board.now words.now round
+    ensures sets { AreToldTo board.now words.now round
         (ways (board.now.pebbles - 1) (places board.now)) sets.new }
+    ensures any { IsTrue result ↔ ((gap : ℕ)
+        × (gap < ways (board.now.pebbles - 1) (places board.now))
+        × (slice_index words.now gap ≡ round)) }
 {
     let fewer = board.pebbles() - 2;
+    let mut any = false;
     let mut walk = numbers.families(fewer);
     for number in 0..numbers.ways(fewer, board.places()) {
-        let size = numbers.family_size(&walk, number);
-        if is_among(words, walk.start, size, round) {
+        let start = walk.start as usize;
+        let size = numbers.family_size(&walk, number) as usize;
+        if is_among(words, start, start + size, round) {
             let family = numbers.family(&walk, number);
             tell_family(board, &family, words, round, sets);
+            any = true;
         }
         numbers.next_family(&mut walk, number);
     }
+    any
 }

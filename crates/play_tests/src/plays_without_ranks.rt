@@ -4,14 +4,15 @@
 ghost use Rattle.std.specs.Prelude.{◌≡◌};
 
 use crate::outcomes::{Outcome, PLENTY, Writer, assert_play};
-use board_text::{Board, Source};
+use board_text::{Board, Source, Through};
 use fakes::{Drip, Failing, Shape, shaped};
-use player::{PlayEnd, play_adversary, play_labeller};
+use player::{PlayEnd, play_adversary_with_prompts, play_labeller_with_prompts};
 use positions::Side;
 use solved_boards::numbered_values_of;
 use solver::NumberedValues;
 use std::alloc::Global;
 use std::process::Abort;
+use strategies::NumberedMoves;
 
 /// The lines of a person, the end of the play, and the text that is written.
 #[derive(Clone, Copy)]
@@ -33,9 +34,12 @@ fn outcome(
 {
     let mut reader = Drip::new(lines, PLENTY);
     let mut writer = Writer::new(PLENTY, Failing::Refuses);
+    let mut nobody = Through::new(Vec::new(alloc));
+    let (lines, out, err) = (&mut reader, &mut writer, &mut nobody);
+    let moves = NumberedMoves::new(board, values);
     let answer = match person {
-        Side::Adversary => play_adversary(alloc, board, values, &mut reader, &mut writer),
-        Side::Labeller => play_labeller(alloc, board, values, &mut reader, &mut writer),
+        Side::Adversary => play_adversary_with_prompts(alloc, &moves, lines, out, false, err),
+        Side::Labeller => play_labeller_with_prompts(alloc, &moves, lines, out, false, err),
     };
     Outcome {
         answer,

@@ -1,10 +1,11 @@
 -- The reply to the line of a person who answers.
-use Rattle.std.proofs.Common.{◌≡◌, ◌≢◌, ℕ, suc, ◌+◌, ◌≤◌, ◌⊎◌, ◌↔◌, Bool, true, false, not, List, ◌++◌, inl, inr, refl}
+use Rattle.std.proofs.Common.{◌≡◌, ◌≢◌, ℕ, suc, ◌+◌, ◌<◌, ◌≤◌, ◌⊎◌, ◌↔◌, Bool, true, false, not, List, ◌++◌, inl, inr, refl}
 use Rattle.std.proofs.Common.{sym, ap, ◌∙◌, subst, arith, add-one, append_assoc}
 use Rattle.std.specs.Prelude.{Option, None, Some, Result, Ok, Err, IfOk, IsSome}
 use Rattle.std.specs.Option.{is_some}
 use Rattle.std.specs.Fmt.{decimal}
 use Rattle.std.proofs.lemmas.Fmt.{decimal_injective}
+use Rattle.board_text.specs.Domination.{has_bit}
 use Rattle.board_text.specs.PlainBoard.{PlainBoard}
 use Rattle.board_text.specs.declared.board.TheConstants.{MAX_LABELS}
 use Rattle.positions.specs.Counts.{IsSmallest}
@@ -133,6 +134,19 @@ module _ (inside seat : PlayState) (same : inside ≡ seat) where
       let there : IsLegalAt inside label = subst (λ (s : PlayState). IsLegalAt s label) (sym same) legal in
       subst (λ p. Legal inside.board inside.at p label)
       (same_request inside.board inside.at there.0 asked there.1 best) there.2
+
+  -- the bits of the labels that are legal
+  pub legal_bits : (space : PlainBoard) (held : List ℕ) (asked : ℕ) (bits : List ℕ) → space ≡ inside.board
+      → held ≡ inside.at → IsBestRequest inside.board inside.at asked
+      → ((label : ℕ) → label < MAX_LABELS → (has_bit bits label ≡ true) ↔ Legal space held asked label)
+      → (label : ℕ) → label < MAX_LABELS → (has_bit bits label ≡ true) ↔ IsLegalAt seat label
+  legal_bits space held asked bits of_board of_places best each label low =
+      let there : (has_bit bits label ≡ true) ↔ Legal inside.board inside.at asked label =
+      subst (λ (b : PlainBoard). (has_bit bits label ≡ true) ↔ Legal b inside.at asked label) of_board
+      (subst (λ (c : List ℕ). (has_bit bits label ≡ true) ↔ Legal space c asked label) of_places (each label low)) in (
+        λ is. legal_at asked label best (there.0 is),
+        λ at. there.1 (legal_there asked label best at),
+      )
 
   -- the pebble was put on the label, and the text of the next request was written
   pub put_said : (space : PlainBoard) (asked label : ℕ) (after written old middle new said : List ℕ)

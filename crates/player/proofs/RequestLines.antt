@@ -1,5 +1,5 @@
 -- The reply to the line of a person who asks.
-use Rattle.std.proofs.Common.{◌≡◌, ◌≢◌, ℕ, ◌+◌, ◌≤◌, ◌<◌, ◌^◌, List, ◌++◌, inl, inr, refl, sym, ap, ◌∙◌, subst, arith}
+use Rattle.std.proofs.Common.{◌≡◌, ◌≢◌, ℕ, ◌+◌, ◌≤◌, ◌<◌, ◌^◌, List, [], ◌++◌, inl, inr, refl, sym, ap, ◌∙◌, subst, arith}
 use Rattle.std.proofs.Common.{add-one}
 use Rattle.std.specs.Prelude.{codes}
 use Rattle.std.specs.Fmt.{decimal}
@@ -18,7 +18,7 @@ use Rattle.player.specs.Transcript.{opening_lines, no_request_line}
 use Rattle.player.specs.Transcript.{stuck_line, takes_line, at_line}
 use Rattle.player.specs.Inside.PlayState.{PlayState}
 use Rattle.player.specs.Inside.Steps.{AddsText}
-use Rattle.player.specs.declared.line_meaning.LineMeaning.TheVariants.{Number}
+use Rattle.player.specs.declared.line_meaning.LineMeaning.TheVariants.{Number, Other}
 use Rattle.player.specs.declared.end.PlayEnd.TheVariants.{Stuck}
 
 -- a number isn't the word `quit`
@@ -45,6 +45,13 @@ no_pebble pebbles Answers there requests number outside line spells =
       refl,
       refl,
     ))
+
+-- a line that is neither a number nor `quit` is no request
+pub no_number : (pebbles : ℕ) (Answers : ℕ → List ℕ → Standing → Type 0) (there : List ℕ) (requests : ℕ)
+    → pebbles < 2 ^ 32 → (line : List ℕ) → Spells line Other
+    → RepliesToLine pebbles Answers there requests line no_request_line (Going there requests)
+no_number pebbles Answers there requests few line spells =
+    inr (inr ((spells.0, λ pebble inside same. spells.1 pebble (omega (arith, inside, few)) same), refl, refl))
 
 -- ---- a play that is known by its parts
 
@@ -82,3 +89,10 @@ module _ (inside seat : PlayState) (same : inside ≡ seat) where
 pub begins : (board : PlainBoard) (value : Value) → HasValue board board.start value
     → BeginsPlay (PersonAsks board) (opening_lines board value board.start) (Going board.start 0)
 begins board value has = (value, has, refl, refl)
+
+-- the text that opens it, by a board that is the same
+pub opening_of : (space board : PlainBoard) (value : Value) (old new : List ℕ) → space ≡ board → old ≡ []
+    → new ≡ old ++ opening_lines space value space.start → new ≡ opening_lines board value board.start
+opening_of space board value old new same none said =
+    said ∙ ap (λ l. l ++ opening_lines space value space.start) none
+    ∙ ap (λ (b : PlainBoard). opening_lines b value b.start) same

@@ -1,18 +1,20 @@
 -- What a person is told in a play, line by line.
-use Rattle.std.proofs.Common.{◌≡◌, ℕ, suc, ◌<◌, ◌⊎◌, Bool, true, false, List, [], ◌∷◌, ◌++◌}
-use Rattle.std.proofs.Common.{inl, inr, refl, sym, ap, ◌∙◌, subst, arith, append-nil, append_assoc, length}
+use Rattle.std.proofs.Common.{◌≡◌, ℕ, ◌<◌, Bool, true, false, List, [], ◌∷◌, ◌++◌}
+use Rattle.std.proofs.Common.{inl, inr, refl, sym, ap, ◌∙◌, subst, append-nil, append_assoc, length}
 use Rattle.std.specs.Prelude.{Option, Result, Ok, Err, IfErr}
 use Rattle.std.specs.Io.KnownBytes.{Appends, Keeps}
 use Rattle.board_text.specs.Streams.{AppendsPrefix}
-use Rattle.player.specs.Inside.Prompts.{TellsAfter, greeting_if}
+use Rattle.positions.specs.declared.value.Value.{Value}
+use Rattle.player.specs.Inside.Prompts.{IsToldHere, IsToldAtEnd, greeting_if}
 use Rattle.player.specs.Inside.LineInput.{GivesNoLine, Unread}
 use Rattle.player.specs.Inside.Steps.{FailsToWrite}
 use Rattle.player.specs.Play.{BreaksOff, Ends, GoesOnOrEnds, HasEnded}
-use Rattle.player.specs.Prompts.{AreChoices, ArePrompts, AreToldResponses, BringsAndTells, IsPlayedAndTold, IsToldAfter}
-use Rattle.player.specs.Prompts.{IsToldIn, NearlyTells, TellsBefore, greeting_of, shown_line}
+use Rattle.player.specs.Prompts.{ArePrompts, AreToldResponses, BringsAndTells, EndsBefore, HasValueIn, IsPlayedAndTold, IsToldAt}
+use Rattle.player.specs.Prompts.{IsToldIn, IsToldLast, NearlyTells, TellsBefore, greeting_of, left_words, shown_line}
+use Rattle.player.specs.Prompts.{start_of, start_words}
 use Rattle.player.specs.Showing.{AreForPerson, HasNoControl}
 use Rattle.player.specs.Transcript.{AreResponses, BeginsPlay, Game, Going, IsPlayed, IsResponse, Over}
-use Rattle.player.specs.Transcript.{PersonAnswers, PersonAsks, PersonClimbs, Standing}
+use Rattle.player.specs.Transcript.{Standing}
 use Rattle.player.specs.declared.end.PlayEnd.{PlayEnd}
 use Rattle.player.specs.declared.end.PlayFault.{PlayFault}
 use Rattle.player.specs.declared.end.PlayFault.TheVariants.{Read, Write, Memory, Limit}
@@ -29,130 +31,63 @@ use Rattle.player.proofs.WrittenPlay.{brings_more, no_line}
 module _ (game : Game) where
   pub responses : (from : Standing) (lines : List (List ℕ)) (text told : List ℕ) (to : Standing)
       → AreToldResponses game from lines text told to → AreResponses game from lines text to
-  responses from [] text told to (none, nothing, same) = (none, same)
-  responses from (line ∷ lines) text told to (said, more, prompt, later, next, is, after, rest, text_is, told_is) =
+  responses from [] text told to (none, here, same) = (none, same)
+  responses from (line ∷ lines) text told to (said, more, prompt, later, next, here, is, rest, text_is, told_is) =
       (said, more, next, is, responses next lines more later to rest, text_is)
 
   pub told_more : (from : Standing) (lines : List (List ℕ)) (line text said told prompt : List ℕ) (to next : Standing)
       → AreToldResponses game from lines text told to → IsResponse game to line said next
-      → IsToldAfter game to next prompt
+      → IsToldAt game next prompt
       → AreToldResponses game from (lines ++ line ∷ []) (text ++ said) (told ++ prompt) next
-  told_more from [] line text said told prompt to next (none, nothing, same) is after = (
+  told_more from [] line text said told prompt to next (none, here, same) is there = (
     said,
     [],
+    told,
     prompt,
-    [],
     next,
+    here,
     subst (λ s. IsResponse game s line said next) (sym same) is,
-    subst (λ s. IsToldAfter game s next prompt) (sym same) after,
-    (refl, refl, refl),
+    (refl, there, refl),
     ap (λ l. l ++ said) none ∙ sym (append-nil said),
-    ap (λ l. l ++ prompt) nothing ∙ sym (append-nil prompt),
+    refl,
   )
   told_more from (first ∷ lines) line text said told prompt to next
-      (reply, more, words, later, stood, was, then, rest, text_is, told_is) is after = (
+      (reply, more, words, later, stood, here, was, rest, text_is, told_is) is there = (
         reply,
         more ++ said,
         words,
         later ++ prompt,
         stood,
+        here,
         was,
-        then,
-        told_more stood lines line more said later prompt to next rest is after,
+        told_more stood lines line more said later prompt to next rest is there,
         ap (λ l. l ++ said) text_is ∙ append_assoc reply more said,
         ap (λ l. l ++ prompt) told_is ∙ append_assoc words later prompt,
       )
 
--- after a line the play stands where it stood, or one request more is answered
-stands_or_moves : (game : Game) (at now : List ℕ) (requests answered : ℕ) (line said : List ℕ)
-    → IsResponse game (Going at requests) line said (Going now answered)
-    → (Going now answered ≡ Going at requests) ⊎ (answered ≡ suc requests)
-stands_or_moves (PersonAsks board) at now requests answered line said (inl (
-  pebble,
-  inside,
-  is,
-  inl (label, best, text, to),
-)) =
-    inr cc
-stands_or_moves (PersonAsks board) at now requests answered line said (inl (
-  pebble,
-  inside,
-  is,
-  inr (none, text, to),
-)) = cc
-stands_or_moves (PersonAsks board) at now requests answered line said (inr (inl (is, text, to))) = cc
-stands_or_moves (PersonAsks board) at now requests answered line said (inr (inr (is, text, to))) = inl to
-stands_or_moves (PersonAnswers board) at now requests answered line said
-    (inl (pebble, label, asked, legal, (next, best, inl (some, text, to)), is)) = inr cc
-stands_or_moves (PersonAnswers board) at now requests answered line said
-    (inl (pebble, label, asked, legal, (next, best, inr (none, text, to)), is)) = cc
-stands_or_moves (PersonAnswers board) at now requests answered line said (inr (inl (is, text, to))) = cc
-stands_or_moves (PersonAnswers board) at now requests answered line said (inr (inr (is, text, to))) = inl to
-stands_or_moves (PersonClimbs levels) at now requests answered line said (inl (
-  pebble,
-  inside,
-  is,
-  (label, low, reply, text, to),
-)) =
-    inr cc
-stands_or_moves (PersonClimbs levels) at now requests answered line said (inr (inl (is, text, to))) = cc
-stands_or_moves (PersonClimbs levels) at now requests answered line said (inr (inr (is, text, to))) = inl to
-
-same_at : (at now : List ℕ) (requests answered : ℕ) → Going now answered ≡ Going at requests → now ≡ at
-same_at at now requests answered same = cc
-
-same_requests : (at now : List ℕ) (requests answered : ℕ) → Going now answered ≡ Going at requests → answered ≡ requests
-same_requests at now requests answered same = cc
-
--- so the number of answered requests tells whether a line was wrong
-after_line : (game : Game) (at now : List ℕ) (requests answered : ℕ) (line said told : List ℕ)
-    → IsResponse game (Going at requests) line said (Going now answered)
-    → TellsAfter true game now requests answered told
-    → IsToldAfter game (Going at requests) (Going now answered) told
-after_line game at now requests answered line said told is (inl (few, words, choices, told_is)) =
-    elim (stands_or_moves game at now requests answered line said is) [
-      | inl same ↦ inl (
-        same,
-        words,
-        subst (λ l. AreChoices game l words)
-            (same_at at now requests answered same) choices,
-        told_is,
-      )
-      | inr more ↦ absurd (omega (arith, few, more))
-    ]
-after_line game at now requests answered line said told is (inr (more, none)) =
-    inr ((λ same. let one = same_requests at now requests answered same in absurd (omega (arith, more, one))), none)
-
--- nothing is told once one more request is answered
-pub tells_no_more : (game : Game) (at : List ℕ) (before requests : ℕ) (shows : Bool) → before < requests
-    → TellsAfter shows game at before requests []
-tells_no_more game at before requests true less = inr (less, refl)
-tells_no_more game at before requests false less = refl
-
 module _ (game : Game) (at : List ℕ) (requests : ℕ) where
   -- before a line is read
-  pub begins_told : (shows : Bool)
-      → BringsAndTells shows game (Going at requests) (greeting_if shows game) [] [] (Going at requests)
-  begins_told true = ([], (refl, refl, refl), sym (append-nil (shown_line (greeting_of game))))
-  begins_told false = ((refl, refl), refl)
+  pub begins_told : (shows : Bool) (prompt : List ℕ) → IsToldHere shows game at prompt
+      → BringsAndTells shows game (Going at requests) (greeting_if shows game ++ prompt) [] [] (Going at requests)
+  begins_told true prompt here = (prompt, (refl, here, refl), refl)
+  begins_told false prompt here = ((refl, refl), here)
 
   -- a line that leaves the play going
   pub goes_on_told : (shows : Bool) (told prompt : List ℕ) (lines : List (List ℕ)) (line text said stood now : List ℕ)
       (before answered : ℕ) → BringsAndTells shows game (Going at requests) told lines text (Going stood before)
       → IsResponse game (Going stood before) line said (Going now answered)
-      → TellsAfter shows game now before answered prompt
+      → IsToldHere shows game now prompt
       → BringsAndTells shows game (Going at requests) (told ++ prompt) (lines ++ line ∷ []) (text ++ said)
       (Going now answered)
-  goes_on_told true told prompt lines line text said stood now before answered (prompts, brings, is) replies after = (
+  goes_on_told true told prompt lines line text said stood now before answered (prompts, brings, is) replies here = (
     prompts ++ prompt,
     told_more game (Going at requests) lines line text said prompts prompt (Going stood before)
-        (Going now answered) brings
-        replies (after_line game stood now before answered line said prompt replies after),
+        (Going now answered) brings replies here,
     ap (λ l. l ++ prompt) is ∙ append_assoc (shown_line (greeting_of game)) prompts prompt,
   )
-  goes_on_told false told prompt lines line text said stood now before answered (brings, none) replies after = (
+  goes_on_told false told prompt lines line text said stood now before answered (brings, none) replies here = (
     brings_more game (Going at requests) lines line text said (Going stood before) (Going now answered) brings replies,
-    ap (λ l. l ++ prompt) none ∙ after,
+    ap (λ l. l ++ prompt) none ∙ here,
   )
 
   -- a line that ends it
@@ -165,8 +100,7 @@ module _ (game : Game) (at : List ℕ) (requests : ℕ) where
     subst (λ l. AreToldResponses game (Going at requests) (lines ++ line ∷ []) (text ++ said) l (Over end))
         (append-nil prompts)
         (told_more game (Going at requests) lines line text said prompts [] (Going stood before)
-        (Over end) brings replies
-        (inr ((λ same. cc), refl))),
+        (Over end) brings replies refl),
     is,
   )
   ends_told false told lines line text said stood before end (brings, none) replies =
@@ -184,6 +118,18 @@ module _ (game : Game) (at : List ℕ) (requests : ℕ) where
     brings_more game (Going at requests) lines line text said (Going stood before) to brought replies,
     inl (lines, line, refl, text, Going stood before, tells),
   )
+
+-- as many requests were answered as the value has
+pub reached : (shows : Bool) (value : Value) (end : PlayEnd) → (EndsBefore end value → ⊥)
+    → IsToldAtEnd shows value end []
+reached true value end not_before = inr (not_before, refl)
+reached false value end not_before = refl
+
+-- what is told at the end
+pub last_told : (shows : Bool) (game : Game) (value : Value) (end : PlayEnd) (told : List ℕ)
+    → HasValueIn game (start_of game) value → IsToldAtEnd shows value end told → IsToldLast shows game end told
+last_told true game value end told has is = (value, has, is)
+last_told false game value end told has is = is
 
 -- ---- faults
 
@@ -289,15 +235,25 @@ module _ (shows : Bool) (game : Game) (opening : List ℕ) (first : Standing)
         left_old left_new taken_old taken_now taken_new written Memory breaks
 
     pub prompted : (result : Result PlayEnd PlayFault)
-        → IsToldIn (BringsAndTells shows game first) (AreResponses game first) left_old left_new taken_now taken_new
-        result told
+        → IsToldIn (BringsAndTells shows game first) (AreResponses game first) (IsToldLast shows game) left_old left_new
+        taken_now taken_new result told
         → ArePrompts shows game left_old left_new taken_old taken_new result told
-    prompted (Ok end) is = record {
-      ok = has_ended (BringsAndTells shows game first told) (IsPlayedAndTold shows game told) opening
-          (played_and_told told)
-          left_old left_new taken_old taken_now taken_new written end is.ok;
-      fault = tt;
-    }
+    prompted (Ok end) is = record { ok = of_ended is.ok; fault = tt }
+      where
+        of_ended : (prompts last : List ℕ)
+            × HasEnded (BringsAndTells shows game first prompts) left_old left_new taken_now taken_new end
+            × IsToldLast shows game end last × (told ≡ prompts ++ last)
+            → (prompts last : List ℕ)
+            × HasEnded (IsPlayedAndTold shows game prompts) left_old left_new taken_old taken_new end
+            × IsToldLast shows game end last × (told ≡ prompts ++ last)
+        of_ended (prompts, last, ended, lasts, is) = (
+          prompts,
+          last,
+          has_ended (BringsAndTells shows game first prompts) (IsPlayedAndTold shows game prompts) opening
+              (played_and_told prompts) left_old left_new taken_old taken_now taken_new written end ended,
+          lasts,
+          is,
+        )
     prompted (Err fault) is = record { ok = tt; fault = broken_before fault is.fault }
 
   -- no line has been read
@@ -330,42 +286,46 @@ over_alone : (shows : Bool) (game : Game) (end : PlayEnd) → BringsAndTells sho
 over_alone true game end = ((refl, refl), refl)
 over_alone false game end = ((refl, refl), refl)
 
--- the play was over before a line was read, and nothing was told
+-- the play was over before a line was read
 pub untold_at_once : (shows : Bool) (game : Game) (opening : List ℕ) (end : PlayEnd)
     → BeginsPlay game opening (Over end)
     → (left taken_old taken_new : Option (List ℕ)) → Appends taken_old taken_new opening
-    → ArePrompts shows game left left taken_old taken_new (Ok end) []
-untold_at_once shows game opening end opens left taken_old taken_new written = record {
-  ok = over_at_once (IsPlayedAndTold shows game []) opening (Over end)
-      (record {
-        opening = opening;
-        first = Over end;
-        more = [];
-        opens = opens;
-        brings = over_alone shows game end;
-        text_is = sym (append-nil opening);
-      })
-      left taken_old taken_new end refl written;
+    → (last : List ℕ) → IsToldLast shows game end last
+    → ArePrompts shows game left left taken_old taken_new (Ok end) last
+untold_at_once shows game opening end opens left taken_old taken_new written last lasts = record {
+  ok = (
+    [],
+    last,
+    over_at_once (IsPlayedAndTold shows game []) opening (Over end)
+        (record {
+          opening = opening;
+          first = Over end;
+          more = [];
+          opens = opens;
+          brings = over_alone shows game end;
+          text_is = sym (append-nil opening);
+        })
+        left taken_old taken_new end refl written,
+    lasts,
+    refl,
+  );
   fault = tt;
 }
 
 -- ---- all are lines for a person
 
 module _ (game : Game) where
-  after_for_person : (from to : Standing) (told : List ℕ) → IsToldAfter game from to told → AreForPerson true told
-  after_for_person (Going at requests) to told (inl (same, words, choices, is)) =
-      subst (AreForPerson true) (sym is) (one_line HasNoControl _ (plain_if_shown words))
-  after_for_person (Going at requests) to told (inr (other, none)) = subst (AreForPerson true) (sym none)
-      (nothing_for_person true)
-  after_for_person (Over end) to told none = subst (AreForPerson true) (sym none) (nothing_for_person true)
+  here_for_person : (at : Standing) (told : List ℕ) → IsToldAt game at told → AreForPerson true told
+  here_for_person (Going at requests) told (value, choices, has, are, is) =
+      subst (AreForPerson true) (sym is) (one_line HasNoControl _ (plain_if_shown (left_words value ++ choices)))
+  here_for_person (Over end) told none = subst (AreForPerson true) (sym none) (nothing_for_person true)
 
   prompts_told : (from : Standing) (lines : List (List ℕ)) (text told : List ℕ) (to : Standing)
       → AreToldResponses game from lines text told to → AreForPerson true told
-  prompts_told from [] text told to (none, nothing, same) = subst (AreForPerson true) (sym nothing)
-      (nothing_for_person true)
-  prompts_told from (line ∷ lines) text told to (said, more, prompt, later, next, is, after, rest, text_is, told_is) =
+  prompts_told from [] text told to (none, here, same) = here_for_person from told here
+  prompts_told from (line ∷ lines) text told to (said, more, prompt, later, next, here, is, rest, text_is, told_is) =
       subst (AreForPerson true) (sym told_is)
-      (then_lines HasNoControl true prompt later (after_for_person from next prompt after)
+      (then_lines HasNoControl true prompt later (here_for_person from prompt here)
       (prompts_told next lines more later to rest))
 
   brings_for_person : (shows : Bool) (from : Standing) (told : List ℕ) (lines : List (List ℕ)) (text : List ℕ)
@@ -379,6 +339,14 @@ module _ (game : Game) where
   brings_for_person true (Over end) told lines text to (brings, none) =
       subst (AreForPerson true) (sym none) (nothing_for_person true)
   brings_for_person false from told lines text to (brings, none) = none
+
+  last_for_person : (shows : Bool) (end : PlayEnd) (told : List ℕ) → IsToldLast shows game end told
+      → AreForPerson shows told
+  last_for_person true end told (value, has, inl (before, is)) =
+      subst (AreForPerson true) (sym is) (one_line HasNoControl _ (plain_if_shown (start_words value)))
+  last_for_person true end told (value, has, inr (reached, none)) =
+      subst (AreForPerson true) (sym none) (nothing_for_person true)
+  last_for_person false end told none = none
 
   played_for_person : (shows : Bool) (told : List ℕ) (lines : List (List ℕ)) (text : List ℕ) (to : Standing)
       → IsPlayedAndTold shows game told lines text to → AreForPerson shows told
@@ -428,10 +396,18 @@ module _ (shows : Bool) (game : Game) (told : List ℕ) (left_old left_new : Opt
 
   pub prompts_for_person : (taken_old taken_new : Option (List ℕ)) (result : Result PlayEnd PlayFault)
       → ArePrompts shows game left_old left_new taken_old taken_new result told → AreForPerson shows told
-  prompts_for_person taken_old taken_new (Ok end) is =
-      of_ended (IsPlayedAndTold shows game told) (AreForPerson shows told)
-      (played_for_person game shows told) left_old left_new
-      taken_old taken_new end is.ok
+  prompts_for_person taken_old taken_new (Ok end) is = both is.ok
+    where
+      both : (prompts last : List ℕ)
+          × HasEnded (IsPlayedAndTold shows game prompts) left_old left_new taken_old taken_new end
+          × IsToldLast shows game end last × (told ≡ prompts ++ last)
+          → AreForPerson shows told
+      both (prompts, last, ended, lasts, is) =
+          subst (AreForPerson shows) (sym is)
+          (then_lines HasNoControl shows prompts last
+          (of_ended (IsPlayedAndTold shows game prompts) (AreForPerson shows prompts)
+          (played_for_person game shows prompts) left_old left_new taken_old taken_new end ended)
+          (last_for_person game shows end last lasts))
   prompts_for_person taken_old taken_new (Err fault) is =
       of_broken (TellsBefore fault (IsPlayedAndTold shows game) (IsPlayed game) left_old left_new told)
       (AreForPerson shows told) (before_for_person fault) left_old left_new taken_old taken_new fault is.fault

@@ -1,19 +1,23 @@
--- What a person at a terminal is told in a play: a greeting, and after each wrong line the choices
--- that there are.
-use Rattle.std.specs.Prelude.{◌≡◌, ◌≢◌, ℕ, ◌<◌, ◌-◌, ◌==◌, ◌↔◌, ◌⊎◌, if◌then◌else◌, List, [], ◌∷◌}
-use Rattle.std.specs.Prelude.{◌++◌, AllPairs, Bool, Contains, IfErr, IfOk, Option, Result, codes}
-use Rattle.std.specs.Prelude.{true}
+-- What a person at a terminal is told in a play: a greeting, before each line how many more requests
+-- can be answered and what can be typed, and at the end whether the play could have gone on.
+use Rattle.std.specs.Prelude.{◌≡◌, ℕ, ◌<◌, ◌-◌, ◌==◌, ◌↔◌, ◌⊎◌, if◌then◌else◌, List, [], ◌∷◌, ◌++◌}
+use Rattle.std.specs.Prelude.{AllPairs, Bool, Contains, IfErr, IfOk, Option, Result, codes, false}
+use Rattle.std.specs.Prelude.{replicate, true}
 use Rattle.std.specs.Fmt.{decimal}
 use Rattle.board_text.specs.LineForms.{spaced_numbers, with_line_feed}
 use Rattle.board_text.specs.PlainBoard.{PlainBoard}
 use Rattle.positions.specs.Game.{Legal}
-use Rattle.strategies.specs.Best.{IsBestRequest}
+use Rattle.positions.specs.Value.{HasValue}
+use Rattle.positions.specs.declared.value.Value.{Value}
+use Rattle.positions.specs.declared.value.Value.TheVariants.{Finite, Forever}
+use Rattle.strategies.specs.Best.{IsBestRequest, IsLess}
 use Rattle.player.specs.Play.{BreaksOff, HasEnded}
 use Rattle.player.specs.Showing.{shown}
 use Rattle.player.specs.Transcript.{Game, PersonAsks, PersonAnswers, PersonClimbs}
 use Rattle.player.specs.Transcript.{Standing, Going, Over, BeginsPlay, AreResponses, IsPlayed}
 use Rattle.player.specs.Transcript.{IsResponse}
 use Rattle.player.specs.declared.end.PlayEnd.{PlayEnd}
+use Rattle.player.specs.declared.end.PlayEnd.TheVariants.{Stuck, Stopped, NoStrategy}
 use Rattle.player.specs.declared.end.PlayFault.{PlayFault}
 use Rattle.player.specs.declared.end.PlayFault.TheVariants.{Read, Limit}
 
@@ -56,26 +60,46 @@ AreChoices (PersonAnswers board) at words =
     × AreLegalLabels board at pebble labels × (words ≡ label_choices pebble labels)
 AreChoices (PersonClimbs levels) at words = words ≡ pebble_choices levels
 
+-- the configuration has this value, which on a nested board is forever
+abbrev pub HasValueIn : Game → List ℕ → Value → Type 0
+HasValueIn (PersonAsks board) at value = HasValue board at value
+HasValueIn (PersonAnswers board) at value = HasValue board at value
+HasValueIn (PersonClimbs levels) at value = value ≡ Forever
+
+-- how many more requests can be answered from a configuration of this value
+abbrev pub left_words : Value → List ℕ
+left_words (Finite number) = decimal number ++ codes " more can be answered; "
+left_words Forever = codes "requests can be answered for ever; "
+
+-- the line told at a configuration: how many more requests can be answered, and what can be typed
+abbrev pub IsPrompt : Game → List ℕ → List ℕ → Type 0
+IsPrompt game at told = (value : Value) × (choices : List ℕ) × HasValueIn game at value
+    × AreChoices game at choices × (told ≡ shown_line (left_words value ++ choices))
+
+-- how many requests could be answered from a start of this value
+abbrev pub start_words : Value → List ℕ
+start_words (Finite number) =
+    decimal number ++ codes " can be answered from the start: the play could have gone on"
+start_words Forever =
+    codes "requests can be answered from the start for ever: the play could have gone on"
+
 -- ---- when they are told
 
--- after a line that left the play where it stood, the choices there; after any other, nothing
-abbrev pub IsToldAfter : Game → Standing → Standing → List ℕ → Type 0
-IsToldAfter game (Going at requests) to told =
-    ((to ≡ Going at requests) × (words : List ℕ) × AreChoices game at words
-    × (told ≡ shown_line words))
-    ⊎ ((to ≢ Going at requests) × (told ≡ []))
-IsToldAfter game (Over end) to told = told ≡ []
+-- once the play stands here: the line there, unless it is over
+abbrev pub IsToldAt : Game → Standing → List ℕ → Type 0
+IsToldAt game (Going at requests) told = IsPrompt game at told
+IsToldAt game (Over end) told = told ≡ []
 
--- the replies to these lines, and what is told after each
+-- the replies to these lines, and what is told wherever the play stands
 abbrev pub AreToldResponses : Game → Standing → List (List ℕ) → List ℕ → List ℕ → Standing → Type 0
-AreToldResponses game from [] text told to = (text ≡ []) × (told ≡ []) × (from ≡ to)
+AreToldResponses game from [] text told to = (text ≡ []) × IsToldAt game from told × (from ≡ to)
 AreToldResponses game from (line ∷ lines) text told to =
-    (said more prompt later : List ℕ) × (next : Standing) × IsResponse game from line said next
-    × IsToldAfter game from next prompt × AreToldResponses game next lines more later to
+    (said more prompt later : List ℕ) × (next : Standing) × IsToldAt game from prompt
+    × IsResponse game from line said next × AreToldResponses game next lines more later to
     × (text ≡ said ++ more) × (told ≡ prompt ++ later)
 
 -- the replies from a standing on, and what is told: nothing if nobody is there to see it, or the
--- play is over before a line is read; else the greeting, and what is told after each line
+-- play is over before a line is read; else the greeting, and what is told wherever the play stands
 abbrev pub BringsAndTells : Bool → Game → Standing → List ℕ → List (List ℕ) → List ℕ → Standing
     → Type 0
 BringsAndTells true game (Going at requests) told lines text to =
@@ -94,6 +118,32 @@ pub record IsPlayedAndTold (shows : Bool) (game : Game) (told : List ℕ) (lines
   pub opens : BeginsPlay game opening first
   pub brings : BringsAndTells shows game first told lines more to
   pub text_is : text ≡ opening ++ more
+
+-- ---- the end
+
+-- the configuration that the play begins at
+abbrev pub start_of : Game → List ℕ
+start_of (PersonAsks board) = board.start
+start_of (PersonAnswers board) = board.start
+start_of (PersonClimbs levels) = replicate levels 0
+
+-- fewer requests were answered than the value has
+abbrev pub EndsBefore : PlayEnd → Value → Type 0
+EndsBefore (Stuck requests) value = IsLess (Finite requests) value
+EndsBefore (Stopped requests) value = IsLess (Finite requests) value
+EndsBefore NoStrategy value = ⊥
+
+-- that the play could have gone on, if fewer requests were answered than the value of its start has;
+-- else nothing
+abbrev pub IsToldOfStart : Value → PlayEnd → List ℕ → Type 0
+IsToldOfStart value end told = (EndsBefore end value × (told ≡ shown_line (start_words value)))
+    ⊎ ((EndsBefore end value → ⊥) × (told ≡ []))
+
+-- what is told at the end of a play, if a person is there to see it
+abbrev pub IsToldLast : Bool → Game → PlayEnd → List ℕ → Type 0
+IsToldLast true game end told =
+    (value : Value) × HasValueIn game (start_of game) value × IsToldOfStart value end told
+IsToldLast false game end told = told ≡ []
 
 -- ---- a play that is broken off
 
@@ -119,12 +169,15 @@ TellsBefore Read Tells Brings left_old left_new = Tells
 TellsBefore Limit Tells Brings left_old left_new = Tells
 TellsBefore fault Tells Brings left_old left_new = NearlyTells Tells Brings left_old left_new
 
--- what was told in a play with this result, by the lines that came and the text that was written
+-- what was told in a play with this result, by the lines that came and the text that was written,
+-- and at its end
 pub record IsToldIn (Tells : List ℕ → List (List ℕ) → List ℕ → Standing → Type 0)
-    (Brings : List (List ℕ) → List ℕ → Standing → Type 0)
+    (Brings : List (List ℕ) → List ℕ → Standing → Type 0) (Ends : PlayEnd → List ℕ → Type 0)
     (left_old left_new taken_old taken_new : Option (List ℕ))
     (result : Result PlayEnd PlayFault) (told : List ℕ) : Type 0 where
-  pub ok : IfOk result (HasEnded (Tells told) left_old left_new taken_old taken_new)
+  pub ok : IfOk result (λ end. (prompts last : List ℕ)
+      × HasEnded (Tells prompts) left_old left_new taken_old taken_new end × Ends end last
+      × (told ≡ prompts ++ last))
   pub fault : IfErr result (λ fault. BreaksOff
       (TellsBefore fault Tells Brings left_old left_new told)
       left_old left_new taken_old taken_new fault)
@@ -132,4 +185,4 @@ pub record IsToldIn (Tells : List ℕ → List (List ℕ) → List ℕ → Stand
 -- the same of a play from its opening on
 abbrev pub ArePrompts : Bool → Game → Option (List ℕ) → Option (List ℕ) → Option (List ℕ)
     → Option (List ℕ) → Result PlayEnd PlayFault → List ℕ → Type 0
-ArePrompts shows game = IsToldIn (IsPlayedAndTold shows game) (IsPlayed game)
+ArePrompts shows game = IsToldIn (IsPlayedAndTold shows game) (IsPlayed game) (IsToldLast shows game)

@@ -16,10 +16,11 @@ use crate::play::{Play, flush, play_on};
 use crate::prompts::{PEBBLES_GREETING, tell_pebble_choices};
 use crate::writing::{end_stopped, say_no_request, write_opening, write_reply, write_stuck};
 use board_text::{Board, Sink, Source, Through};
-use solver::{NumberedValues, Values};
+use positions::Value;
+use solver::Values;
 use std::alloc::{AllocError, Global};
 use std::marker::Model;
-use strategies::{Configuration, NumberedMoves};
+use strategies::{Configuration, Moves, NumberedMoves};
 
 /// Plays with a person who is the adversary: each line names a pebble, which is put on the label of
 /// the best answer.
@@ -50,68 +51,43 @@ pub fn play_adversary_side<R: Source, W: Sink>(
     ensures value { IfOk result (KeepsToValue (PersonAsks board.now)) }
     ensures streams { TellsBothStreams result (R.has_failed reader.new) (W.has_failed writer.new) }
 {
-    play_adversary(alloc, board, values.numbered(), reader, writer)
-}
-
-/// Plays as `play_adversary_side` does, by the values of a board that may have too many
-/// configurations for ranks.
-pub fn play_adversary<R: Source, W: Sink>(
-    alloc: Global,
-    board: &Board,
-    values: &NumberedValues,
-    reader: &mut R,
-    writer: &mut W,
-) -> Result<PlayEnd, PlayFault>
-    requires same_board { values.now.board ≡ board.now }
-    requires reader_ready { R.has_failed reader.old ≡ false }
-    requires reader_unended { R.has_ended reader.old ≡ false }
-    requires writer_ready { W.has_failed writer.old ≡ false }
-    ensures ok { IfOk result (HasEnded (IsPlayed (PersonAsks board.now))
-        (R.remaining reader.old) (R.remaining reader.new)
-        (W.contents writer.old) (W.contents writer.new)) }
-    ensures fault { IfErr result (BreaksOff (IsPlayed (PersonAsks board.now))
-        (R.remaining reader.old) (R.remaining reader.new)
-        (W.contents writer.old) (W.contents writer.new)) }
-    ensures value { IfOk result (KeepsToValue (PersonAsks board.now)) }
-    ensures streams { TellsBothStreams result (R.has_failed reader.new) (W.has_failed writer.new) }
-{
+    let moves = NumberedMoves::new(board, values.numbered());
     let mut nobody = Through::new(Vec::new(alloc));
-    play_adversary_with_prompts(alloc, board, values, reader, writer, false, &mut nobody)
+    play_adversary_with_prompts(alloc, &moves, reader, writer, false, &mut nobody)
 }
 
-/// Plays as `play_adversary` does, and if `shows` says so, prompts the person by lines on
-/// `errors`: a greeting before the first line is read, and after the answer to each wrong line the
-/// pebbles that can be asked for.
+/// Plays as `play_adversary_side` does on the board of `moves`, and if `shows` says so, prompts the
+/// person by lines on `errors`: a greeting, before each line the value and the pebbles that can be
+/// asked for, and at the end that the play could have gone on, if fewer requests were answered than
+/// the value of the start has.
 ///
 /// If `errors` fails, or has failed before, nothing more is written there, and the play goes on.
-pub fn play_adversary_with_prompts<R: Source, W: Sink, E: Sink>(
+pub fn play_adversary_with_prompts<M: Moves, R: Source, W: Sink, E: Sink>(
     alloc: Global,
-    board: &Board,
-    values: &NumberedValues,
+    moves: &M,
     reader: &mut R,
     writer: &mut W,
     shows: bool,
     errors: &mut E,
 ) -> Result<PlayEnd, PlayFault>
-    requires same_board { values.now.board ≡ board.now }
     requires reader_ready { R.has_failed reader.old ≡ false }
     requires reader_unended { R.has_ended reader.old ≡ false }
     requires writer_ready { W.has_failed writer.old ≡ false }
-    ensures ok { IfOk result (HasEnded (IsPlayed (PersonAsks board.now))
+    ensures ok { IfOk result (HasEnded (IsPlayed (PersonAsks (M.board moves.now)))
         (R.remaining reader.old) (R.remaining reader.new)
         (W.contents writer.old) (W.contents writer.new)) }
-    ensures fault { IfErr result (BreaksOff (IsPlayed (PersonAsks board.now))
+    ensures fault { IfErr result (BreaksOff (IsPlayed (PersonAsks (M.board moves.now)))
         (R.remaining reader.old) (R.remaining reader.new)
         (W.contents writer.old) (W.contents writer.new)) }
-    ensures value { IfOk result (KeepsToValue (PersonAsks board.now)) }
+    ensures value { IfOk result (KeepsToValue (PersonAsks (M.board moves.now))) }
     ensures streams { TellsBothStreams result (R.has_failed reader.new) (W.has_failed writer.new) }
-    ensures prompts { (told : List ℕ) × ArePrompts shows (PersonAsks board.now)
+    ensures prompts { (told : List ℕ) × ArePrompts shows (PersonAsks (M.board moves.now))
         (R.remaining reader.old) (R.remaining reader.new)
         (W.contents writer.old) (W.contents writer.new) result told
         × IsMore E.contents E.has_failed errors.old errors.new told }
 {
+    let board = moves.board();
     let mut text = String::new(alloc);
-    let moves = NumberedMoves::new(board, values);
     let Ok(()) = write_opening(&mut text, board, moves.value(board.start())) else {
         return Err(PlayFault::Memory);
     };
@@ -122,28 +98,32 @@ pub fn play_adversary_with_prompts<R: Source, W: Sink, E: Sink>(
 
 /// A play in which the person is the adversary.
 #[derive(Drop)]
-struct AdversarySide<'a> {
-    moves: NumberedMoves<'a>,
+struct AdversarySide<'a, M: Moves> {
+    moves: &'a M,
     configuration: Configuration,
     /// The number of answered requests.
     requests: u32,
 }
 
-impl<'a> Model for AdversarySide<'a> {
+impl<'a, M: Moves> Model for AdversarySide<'a, M> {
     ghost use Rattle.board_text.specs.PlainBoard.{IsConfiguration};
     ghost use Rattle.player.specs.Inside.PlayState.{PlayState};
 
     ghost Value = { PlayState };
 
-    ghost view = { λ s. record { board = s.moves; at = s.configuration; requests = s.requests } };
+    ghost view = { λ s. record { board = M.board s.moves.now; at = s.configuration; requests = s.requests } };
 
-    ghost invariant = { λ s. IsConfiguration s.moves s.configuration };
+    ghost invariant = { λ s. IsConfiguration (M.board s.moves.now) s.configuration };
 }
 
-impl<'a> AdversarySide<'a> {
+impl<'a, M: Moves> AdversarySide<'a, M> {
     /// A play at the start, in which no request was answered yet.
-    fn new(moves: NumberedMoves<'a>) -> AdversarySide<'a>
-        ensures { result ≡ record { board = moves.entry; at = moves.entry.start; requests = 0 } }
+    fn new(moves: &'a M) -> AdversarySide<'a, M>
+        ensures { result ≡ record {
+          board = M.board moves.now;
+          at = (M.board moves.now).start;
+          requests = 0;
+        } }
     {
         let configuration = Configuration::of(moves.board().start());
         AdversarySide {
@@ -181,7 +161,7 @@ impl<'a> AdversarySide<'a> {
     }
 }
 
-impl Play for AdversarySide<'_> {
+impl<M: Moves> Play for AdversarySide<'_, M> {
     ghost game = { λ s. PersonAsks s.board };
 
     ghost at = { λ s. s.at };
@@ -209,6 +189,14 @@ impl Play for AdversarySide<'_> {
 
     fn requests(&self) -> u32 {
         self.requests
+    }
+
+    fn value(&self) -> Value {
+        self.moves.value(self.configuration.as_slice())
+    }
+
+    fn start_value(&self) -> Value {
+        self.moves.value(self.moves.board().start())
     }
 
     fn greeting(&self) -> &'static str {

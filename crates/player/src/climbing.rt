@@ -20,6 +20,7 @@ use crate::prompts::{PEBBLES_GREETING, tell_pebble_choices};
 use crate::writing::{end_stopped, say_no_request};
 use board_text::{Memory, Sink, Source, Through};
 use nested_cycles::{MAX_LEVELS, NestedGame};
+use positions::Value;
 use std::alloc::{AllocError, Global};
 
 /// Plays on the nested board of level `levels`, 1 to `MAX_LEVELS`, with as many pebbles as levels:
@@ -53,8 +54,8 @@ pub fn play_nested<R: Source, W: Sink>(
 }
 
 /// Plays as `play_nested` does, and if `shows` says so, prompts the person by lines on `errors`: a
-/// greeting before the first line is read, and after the answer to
-/// each wrong line the pebbles that can be asked for.
+/// greeting, before each line that requests can be answered for ever and the pebbles that can be
+/// asked for, and at the end that the play could have gone on.
 ///
 /// If `errors` fails, or has failed before, nothing more is written there, and the play goes on.
 pub fn play_nested_with_prompts<R: Source, W: Sink, E: Sink>(
@@ -163,6 +164,14 @@ impl Play for Climb {
 
     fn requests(&self) -> u32 {
         self.requests
+    }
+
+    fn value(&self) -> Value {
+        Value::Forever
+    }
+
+    fn start_value(&self) -> Value {
+        Value::Forever
     }
 
     fn greeting(&self) -> &'static str {

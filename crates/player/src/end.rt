@@ -1,8 +1,10 @@
 //! How a play ends, and why one is broken off.
 
-ghost use Rattle.std.specs.Prelude.{◌≡◌};
+ghost use Rattle.std.specs.Prelude.{◌≡◌, ◌↔◌, IsTrue};
+ghost use Rattle.player.specs.Prompts.{EndsBefore};
 ghost use Rattle.player.specs.declared.end.PlayFault.TheVariants as faults;
 
+use positions::Value;
 use std::alloc::AllocError;
 
 /// How a play has ended, with the number of requests that were answered.
@@ -14,6 +16,20 @@ pub enum PlayEnd {
     Stopped { requests: u32 },
     /// The value is forever, so the adversary has no strategy to play.
     NoStrategy,
+}
+
+impl PlayEnd {
+    /// Whether fewer requests were answered than the `value` has.
+    pub(crate) fn is_before(self, value: Value) -> bool
+        ensures { IsTrue result ↔ EndsBefore self value }
+    {
+        match self {
+            PlayEnd::Stuck { requests } | PlayEnd::Stopped { requests } => {
+                Value::Finite(requests) < value
+            }
+            PlayEnd::NoStrategy => false,
+        }
+    }
 }
 
 /// Why a play was broken off.

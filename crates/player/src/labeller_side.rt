@@ -1,8 +1,9 @@
 //! Plays in which the person is the labeller.
 
 ghost use Rattle.std.specs.Prelude.{◌≡◌, ◌↔◌, ◌+◌, ◌<◌, ◌≤◌, ◌^◌, ◌++◌, ℕ, List, false, None, IfOk};
-ghost use Rattle.std.specs.Prelude.{IfErr, OnOk, IsTrue, string_bytes};
+ghost use Rattle.std.specs.Prelude.{IfErr, OnOk, string_bytes, true};
 ghost use Rattle.std.specs.Fmt.{decimal};
+ghost use Rattle.board_text.specs.Domination.{has_bit};
 ghost use Rattle.board_text.specs.LineForms.{spaced_numbers};
 ghost use Rattle.board_text.specs.PlainBoard.{IsBoard, IsConfiguration};
 ghost use Rattle.positions.specs.Value.{HasValue};
@@ -22,16 +23,16 @@ ghost use Rattle.player.specs.Inside.Steps.{AddsText};
 use crate::end::{PlayEnd, PlayFault};
 use crate::line_meaning::LineMeaning;
 use crate::play::{Play, flush, play_on};
-use crate::prompts::LABELS_GREETING;
+use crate::prompts::{LABELS_GREETING, tell_last};
 use crate::showing::{write_digits, write_shown};
 use crate::writing::{end_stopped, write_at, write_opening, write_stuck};
-use board_text::{Board, Sink, Source, Through};
-use positions::Value;
-use solver::{NumberedValues, Values};
+use board_text::{Board, MAX_LABELS, Sink, Source, Through};
+use positions::{LabelSet, Value, legal_labels};
+use solver::Values;
 use std::alloc::{AllocError, Global};
 use std::fmt::Write;
 use std::marker::Model;
-use strategies::{Configuration, NumberedMoves};
+use strategies::{Configuration, Moves, NumberedMoves};
 
 /// Plays with a person who is the labeller: best requests are made,
 /// and each line answers one with a label.
@@ -62,69 +63,43 @@ pub fn play_labeller_side<R: Source, W: Sink>(
     ensures value { IfOk result (KeepsToValue (PersonAnswers board.now)) }
     ensures streams { TellsBothStreams result (R.has_failed reader.new) (W.has_failed writer.new) }
 {
-    play_labeller(alloc, board, values.numbered(), reader, writer)
-}
-
-/// Plays as `play_labeller_side` does, by the values of a board that may have too many
-/// configurations for ranks.
-pub fn play_labeller<R: Source, W: Sink>(
-    alloc: Global,
-    board: &Board,
-    values: &NumberedValues,
-    reader: &mut R,
-    writer: &mut W,
-) -> Result<PlayEnd, PlayFault>
-    requires same_board { values.now.board ≡ board.now }
-    requires reader_ready { R.has_failed reader.old ≡ false }
-    requires reader_unended { R.has_ended reader.old ≡ false }
-    requires writer_ready { W.has_failed writer.old ≡ false }
-    ensures ok { IfOk result (HasEnded (IsPlayed (PersonAnswers board.now))
-        (R.remaining reader.old) (R.remaining reader.new)
-        (W.contents writer.old) (W.contents writer.new)) }
-    ensures fault { IfErr result (BreaksOff (IsPlayed (PersonAnswers board.now))
-        (R.remaining reader.old) (R.remaining reader.new)
-        (W.contents writer.old) (W.contents writer.new)) }
-    ensures value { IfOk result (KeepsToValue (PersonAnswers board.now)) }
-    ensures streams { TellsBothStreams result (R.has_failed reader.new) (W.has_failed writer.new) }
-{
+    let moves = NumberedMoves::new(board, values.numbered());
     let mut nobody = Through::new(Vec::new(alloc));
-    play_labeller_with_prompts(alloc, board, values, reader, writer, false, &mut nobody)
+    play_labeller_with_prompts(alloc, &moves, reader, writer, false, &mut nobody)
 }
 
-/// Plays as `play_labeller` does, and if `shows` says so, prompts the person by lines on `errors`:
-/// a greeting before the first line is read, and after the answer to each wrong line the labels
-/// that are legal for the pebble that is asked for.
+/// Plays as `play_labeller_side` does on the board of `moves`, and if `shows` says so, prompts the
+/// person by lines on `errors`: a greeting, before each line the value and the labels that are legal
+/// for the pebble that is asked for, and at the end that the play could have gone on, if fewer
+/// requests were answered than the value of the start has.
 ///
 /// If `errors` fails, or has failed before, nothing more is written there, and the play goes on.
-pub fn play_labeller_with_prompts<R: Source, W: Sink, E: Sink>(
+pub fn play_labeller_with_prompts<M: Moves, R: Source, W: Sink, E: Sink>(
     alloc: Global,
-    board: &Board,
-    values: &NumberedValues,
+    moves: &M,
     reader: &mut R,
     writer: &mut W,
     shows: bool,
     errors: &mut E,
 ) -> Result<PlayEnd, PlayFault>
-    requires same_board { values.now.board ≡ board.now }
     requires reader_ready { R.has_failed reader.old ≡ false }
     requires reader_unended { R.has_ended reader.old ≡ false }
     requires writer_ready { W.has_failed writer.old ≡ false }
-    ensures ok { IfOk result (HasEnded (IsPlayed (PersonAnswers board.now))
+    ensures ok { IfOk result (HasEnded (IsPlayed (PersonAnswers (M.board moves.now)))
         (R.remaining reader.old) (R.remaining reader.new)
         (W.contents writer.old) (W.contents writer.new)) }
-    ensures fault { IfErr result (BreaksOff (IsPlayed (PersonAnswers board.now))
+    ensures fault { IfErr result (BreaksOff (IsPlayed (PersonAnswers (M.board moves.now)))
         (R.remaining reader.old) (R.remaining reader.new)
         (W.contents writer.old) (W.contents writer.new)) }
-    ensures value { IfOk result (KeepsToValue (PersonAnswers board.now)) }
+    ensures value { IfOk result (KeepsToValue (PersonAnswers (M.board moves.now))) }
     ensures streams { TellsBothStreams result (R.has_failed reader.new) (W.has_failed writer.new) }
-    ensures prompts { (told : List ℕ) × ArePrompts shows (PersonAnswers board.now)
+    ensures prompts { (told : List ℕ) × ArePrompts shows (PersonAnswers (M.board moves.now))
         (R.remaining reader.old) (R.remaining reader.new)
         (W.contents writer.old) (W.contents writer.new) result told
         × IsMore E.contents E.has_failed errors.old errors.new told }
 {
     let mut text = String::new(alloc);
-    let moves = NumberedMoves::new(board, values);
-    let Ok(next) = open(&mut text, &moves) else {
+    let Ok(next) = open(&mut text, moves) else {
         return Err(PlayFault::Memory);
     };
     flush(&mut text, writer)?;
@@ -133,7 +108,10 @@ pub fn play_labeller_with_prompts<R: Source, W: Sink, E: Sink>(
             let mut play = LabellerSide::new(moves, pebble);
             play_on(&mut play, &mut text, reader, writer, shows, errors)
         }
-        Next::Ends(end) => Ok(end),
+        Next::Ends(end) => {
+            tell_last(moves.value(moves.board().start()), end, shows, errors);
+            Ok(end)
+        }
     }
 }
 
@@ -156,11 +134,11 @@ struct Request {
 
 /// Appends the value of the start and its places, and the first request or that there is no
 /// strategy; returns the next turn.
-fn open(text: &mut String, moves: &NumberedMoves<'_>) -> Result<Next, AllocError>
-    ensures is_board { IsBoard moves.now }
+fn open<M: Moves>(text: &mut String, moves: &M) -> Result<Next, AllocError>
+    ensures is_board { IsBoard (M.board moves.now) }
     ensures said { IfOk result (λ next. AddsText (string_bytes text.old) (string_bytes text.new)
-        (λ said. (to : Standing) × BeginsPlay (PersonAnswers moves.now) said to
-        × IsStandingAfter moves.now moves.now.start 0 next to)) }
+        (λ said. (to : Standing) × BeginsPlay (PersonAnswers (M.board moves.now)) said to
+        × IsStandingAfter (M.board moves.now) (M.board moves.now).start 0 next to)) }
 {
     let board = moves.board();
     let value = moves.value(board.start());
@@ -175,12 +153,13 @@ fn open(text: &mut String, moves: &NumberedMoves<'_>) -> Result<Next, AllocError
 }
 
 /// The best request at the configuration `held`, whose value is finite.
-fn request_at(moves: &NumberedMoves<'_>, held: &[u16]) -> Request
-    requires held { IsConfiguration moves.now held.now }
-    requires finite { (number : ℕ) × HasValue moves.now held.now (Finite number) }
-    ensures { IsRequestAt moves.now held.now result }
+fn request_at<M: Moves>(moves: &M, held: &[u16]) -> Request
+    requires held { IsConfiguration (M.board moves.now) held.now }
+    requires finite { (number : ℕ) × HasValue (M.board moves.now) held.now (Finite number) }
+    ensures { IsRequestAt (M.board moves.now) held.now result }
 {
-    let pebble = moves.request(held).unwrap();
+    let (_, request) = moves.request(held);
+    let pebble = request.unwrap();
     let is_stuck = moves.answer(held, pebble).is_none();
     Request { pebble, is_stuck }
 }
@@ -200,8 +179,8 @@ fn write_request(text: &mut String, request: Request, requests: u32) -> Result<N
 
 /// A play in which the person is the labeller.
 #[derive(Drop)]
-struct LabellerSide<'a> {
-    moves: NumberedMoves<'a>,
+struct LabellerSide<'a, M: Moves> {
+    moves: &'a M,
     configuration: Configuration,
     /// The pebble that is asked for, which is the best request.
     asked: u8,
@@ -209,21 +188,25 @@ struct LabellerSide<'a> {
     requests: u32,
 }
 
-impl<'a> Model for LabellerSide<'a> {
+impl<'a, M: Moves> Model for LabellerSide<'a, M> {
     ghost use Rattle.player.specs.Inside.PlayState.{PlayState, IsPlayState};
 
     ghost Value = { PlayState };
 
-    ghost view = { λ s. record { board = s.moves; at = s.configuration; requests = s.requests } };
+    ghost view = { λ s. record { board = M.board s.moves.now; at = s.configuration; requests = s.requests } };
 
-    ghost invariant = { λ s. IsPlayState s.moves s.configuration s.asked };
+    ghost invariant = { λ s. IsPlayState (M.board s.moves.now) s.configuration s.asked };
 }
 
-impl<'a> LabellerSide<'a> {
+impl<'a, M: Moves> LabellerSide<'a, M> {
     /// A play at the start, in which no request was answered yet and pebble `asked` is asked for.
-    fn new(moves: NumberedMoves<'a>, asked: u8) -> LabellerSide<'a>
-        requires { IsBestRequest moves moves.start asked }
-        ensures { result ≡ record { board = moves.entry; at = moves.entry.start; requests = 0 } }
+    fn new(moves: &'a M, asked: u8) -> LabellerSide<'a, M>
+        requires { IsBestRequest (M.board moves.now) (M.board moves.now).start asked }
+        ensures { result ≡ record {
+          board = M.board moves.now;
+          at = (M.board moves.now).start;
+          requests = 0;
+        } }
     {
         let configuration = Configuration::of(moves.board().start());
         LabellerSide {
@@ -234,13 +217,16 @@ impl<'a> LabellerSide<'a> {
         }
     }
 
-    /// Whether `label` is legal for the pebble that is asked for.
-    fn is_legal(&self, label: u16) -> bool
-        requires { label < self.now.board.labels }
-        ensures { IsTrue result ↔ IsLegalAt self.now label }
+    /// The labels that are legal for the pebble that is asked for.
+    fn legal(&self) -> LabelSet
+        ensures { (label : ℕ) → label < MAX_LABELS
+            → (has_bit result label ≡ true) ↔ IsLegalAt self.now label }
     {
-        self.moves
-            .is_legal(self.configuration.as_slice(), self.asked, label)
+        legal_labels(
+            self.moves.board(),
+            self.configuration.as_slice(),
+            self.asked,
+        )
     }
 
     /// Writes the labels that are legal for the pebble that
@@ -250,8 +236,9 @@ impl<'a> LabellerSide<'a> {
             × IsMore E.contents E.has_failed errors.old errors.new (spaced_numbers labels)
             × HasNoControl (spaced_numbers labels) }
     {
+        let legal = self.legal();
         for label in 0..self.moves.board().labels() {
-            if self.is_legal(label) {
+            if legal.contains(label) {
                 write_shown(errors, " ");
                 write_digits(errors, u64::from(label));
             }
@@ -275,7 +262,7 @@ impl<'a> LabellerSide<'a> {
     {
         let board = self.moves.board();
         let configuration = self.configuration.with(self.asked, label);
-        let request = request_at(&self.moves, configuration.as_slice());
+        let request = request_at(self.moves, configuration.as_slice());
         let requests = self.requests + 1;
         write_at(text, board, configuration.as_slice())?;
         match write_request(text, request, requests)? {
@@ -290,7 +277,7 @@ impl<'a> LabellerSide<'a> {
     }
 }
 
-impl Play for LabellerSide<'_> {
+impl<M: Moves> Play for LabellerSide<'_, M> {
     ghost game = { λ s. PersonAnswers s.board };
 
     ghost at = { λ s. s.at };
@@ -305,7 +292,7 @@ impl Play for LabellerSide<'_> {
         let labels = u32::from(self.moves.board().labels());
         match meaning {
             LineMeaning::Number(number) => {
-                if number < labels && self.is_legal(number as u16) {
+                if number < labels && self.legal().contains(number as u16) {
                     self.move_to_label(number as u16, text)
                 } else {
                     say_no_answer(text)
@@ -318,6 +305,14 @@ impl Play for LabellerSide<'_> {
 
     fn requests(&self) -> u32 {
         self.requests
+    }
+
+    fn value(&self) -> Value {
+        self.moves.value(self.configuration.as_slice())
+    }
+
+    fn start_value(&self) -> Value {
+        self.moves.value(self.moves.board().start())
     }
 
     fn greeting(&self) -> &'static str {

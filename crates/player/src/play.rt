@@ -6,7 +6,8 @@ ghost use Rattle.std.specs.Io.KnownBytes.{Appends};
 ghost use Rattle.board_text.specs.Streams.{AppendsPrefix};
 ghost use Rattle.player.specs.Transcript.{Game, Standing, Going, AreResponses, stopped_line};
 ghost use Rattle.player.specs.Inside.Transcript.{standing_of};
-ghost use Rattle.player.specs.Prompts.{AreChoices, BringsAndTells, IsToldIn, greeting_of};
+ghost use Rattle.player.specs.Prompts.{AreChoices, BringsAndTells, HasValueIn, IsToldIn, IsToldLast};
+ghost use Rattle.player.specs.Prompts.{greeting_of, start_of};
 ghost use Rattle.player.specs.Showing.{IsMore, shown};
 ghost use Rattle.player.specs.Play.{HasEnded, BreaksOff, TellsBothStreams};
 ghost use Rattle.player.specs.Inside.Steps.{IsResponseToMeaning, AddsText, Writes, FailsToWrite};
@@ -16,9 +17,10 @@ ghost use Rattle.player.specs.declared.end.PlayFault.TheVariants.{Write};
 use crate::end::{PlayEnd, PlayFault};
 use crate::line_meaning::LineMeaning;
 use crate::lines::Lines;
-use crate::prompts::{greet, prompt};
+use crate::prompts::{greet, prompt, tell_last};
 use crate::writing::write_stopped;
 use board_text::{Failed, Sink, Source, write_all};
+use positions::Value;
 use std::alloc::AllocError;
 
 /// The largest number of lines that a play reads.
@@ -53,6 +55,14 @@ pub(crate) trait Play {
     fn requests(&self) -> u32
         ensures { result ≡ requests self.now };
 
+    /// The value of the configuration.
+    fn value(&self) -> Value
+        ensures { HasValueIn (game self.now) (at self.now) result };
+
+    /// The value of the start.
+    fn start_value(&self) -> Value
+        ensures { HasValueIn (game self.now) (start_of (game self.now)) result };
+
     /// The words that greet the person.
     fn greeting(&self) -> &'static str
         ensures { result.now ≡ greeting_of (game self.now) };
@@ -66,8 +76,9 @@ pub(crate) trait Play {
 /// Plays on with the lines of `reader` until the play or the input ends. Each answer is written
 /// before the next line is read.
 ///
-/// If `shows` says that there is a person to see it, a greeting is written to `errors` before a
-/// line is read, and the choices after the answer to each wrong line.
+/// If `shows` says that there is a person to see it, a greeting is written to `errors` at first,
+/// before each line how many more requests can be answered and what can be typed, and at the end of
+/// the play whether it could have gone on.
 pub(crate) fn play_on<P: Play, R: Source, W: Sink, E: Sink>(
     play: &mut P,
     text: &mut String,
@@ -92,21 +103,25 @@ pub(crate) fn play_on<P: Play, R: Source, W: Sink, E: Sink>(
     ensures told { (told : List ℕ)
         × IsToldIn (BringsAndTells shows (P.game play.old) (Going (P.at play.old) 0))
         (AreResponses (P.game play.old) (Going (P.at play.old) 0))
+        (IsToldLast shows (P.game play.old))
         (R.remaining reader.old) (R.remaining reader.new)
         (W.contents writer.old) (W.contents writer.new) result told
         × IsMore E.contents E.has_failed errors.old errors.new told }
 {
     greet(play, shows, errors);
+    prompt(play, shows, errors);
     let mut lines = Lines::new();
     for _ in 0..MOST_LINES {
         let Some(meaning) = lines.next(reader)? else {
-            return end_play(play, text, writer);
+            let end = end_play(play, text, writer)?;
+            tell_last(play.start_value(), end, shows, errors);
+            return Ok(end);
         };
-        let answered = play.requests();
         if let Some(end) = answer_line(play, meaning, text, writer)? {
+            tell_last(play.start_value(), end, shows, errors);
             return Ok(end);
         }
-        prompt(play, answered, shows, errors);
+        prompt(play, shows, errors);
     }
     Err(PlayFault::Limit)
 }

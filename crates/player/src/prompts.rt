@@ -1,14 +1,16 @@
-//! What a person at a terminal is told: a greeting, and after a wrong line the choices that there
-//! are.
+//! What a person at a terminal is told: a greeting, before each line how many more requests can be
+//! answered and what can be typed, and at the end whether the play could have gone on.
 
-ghost use Rattle.std.specs.Prelude.{◌≡◌, ◌≤◌, ℕ, List};
-ghost use Rattle.player.specs.Inside.Prompts.{TellsAfter, greeting_if};
-ghost use Rattle.player.specs.Prompts.{pebble_choices};
-ghost use Rattle.player.specs.Showing.{IsMore, shown};
+ghost use Rattle.std.specs.Prelude.{◌≤◌, ℕ, List};
+ghost use Rattle.player.specs.Inside.Prompts.{IsToldHere, IsToldAtEnd, greeting_if};
+ghost use Rattle.player.specs.Prompts.{left_words, pebble_choices, start_words};
+ghost use Rattle.player.specs.Showing.{HasNoControl, IsMore, shown};
 
+use crate::end::PlayEnd;
 use crate::play::Play;
 use crate::showing::{write_digits, write_line, write_more, write_shown};
 use board_text::Sink;
+use positions::Value;
 
 /// The greeting of a person who asks for pebbles.
 pub(crate) const PEBBLES_GREETING: &str =
@@ -29,18 +31,65 @@ pub(crate) fn greet<P: Play, E: Sink>(play: &P, shows: bool, errors: &mut E)
     write_line(errors, play.greeting());
 }
 
-/// Tells the choices after a wrong line, if there is a person to see them. A line was wrong if no
-/// more requests are answered than the `answered` ones before it.
-pub(crate) fn prompt<P: Play, E: Sink>(play: &P, answered: u32, shows: bool, errors: &mut E)
-    ensures { (told : List ℕ)
-        × TellsAfter shows (P.game play.now) (P.at play.now) answered (P.requests play.now) told
+/// Tells how many more requests can be answered, and what can be typed, if there is a person to see
+/// it.
+pub(crate) fn prompt<P: Play, E: Sink>(play: &P, shows: bool, errors: &mut E)
+    ensures { (told : List ℕ) × IsToldHere shows (P.game play.now) (P.at play.now) told
         × IsMore E.contents E.has_failed errors.old errors.new told }
 {
-    if !shows || play.requests() > answered {
+    if !shows {
         return;
     }
+    tell_left(errors, play.value());
     play.tell_choices(errors);
     write_more(errors, "\n");
+}
+
+/// Writes the words for how many more requests can be answered from a configuration of this
+/// `value`.
+fn tell_left<E: Sink>(errors: &mut E, value: Value)
+    ensures words { IsMore E.contents E.has_failed errors.old errors.new (left_words value) }
+    ensures plain { HasNoControl (left_words value) }
+{
+    match value {
+        Value::Finite(number) => {
+            write_digits(errors, u64::from(number));
+            write_more(errors, " more can be answered; ");
+        }
+        Value::Forever => write_more(errors, "requests can be answered for ever; "),
+    }
+}
+
+/// Tells that the play could have gone on, if its `end` came before the `value` of the start,
+/// and if there is a person to see it.
+pub(crate) fn tell_last<E: Sink>(value: Value, end: PlayEnd, shows: bool, errors: &mut E)
+    ensures { (told : List ℕ) × IsToldAtEnd shows value end told
+        × IsMore E.contents E.has_failed errors.old errors.new told }
+{
+    if !shows || !end.is_before(value) {
+        return;
+    }
+    tell_start(errors, value);
+    write_more(errors, "\n");
+}
+
+/// Writes the words for how many requests could be answered from a start of this `value`.
+fn tell_start<E: Sink>(errors: &mut E, value: Value)
+    ensures { IsMore E.contents E.has_failed errors.old errors.new (shown (start_words value)) }
+{
+    match value {
+        Value::Finite(number) => {
+            write_digits(errors, u64::from(number));
+            write_shown(
+                errors,
+                " can be answered from the start: the play could have gone on",
+            );
+        }
+        Value::Forever => write_shown(
+            errors,
+            "requests can be answered from the start for ever: the play could have gone on",
+        ),
+    }
 }
 
 /// Writes the words for the pebbles that can be asked for, of which there are `pebbles`.

@@ -22,11 +22,12 @@ use Rattle.runs.specs.Verdicts.{IsChecked, IsProofOf, IsVerdict, IsVerdictOf, te
 use Rattle.runs.specs.Run.{Bytes, Ran}
 use Rattle.runs.specs.SolveRun.{IsSolution, IsSolved}
 use Rattle.runs.specs.Texts.{HasNoBoard, HasNoProof, IsBoardAmong, IsBoardWithin, IsByClasses, IsMemory, IsSmallBoard}
+use Rattle.runs.specs.Texts.{IsWithin}
+use Rattle.runs.specs.declared.boards.BoardLimit.{BoardLimit}
+use Rattle.runs.specs.declared.boards.BoardLimit.TheVariants.{Small}
 use Rattle.runs.specs.Texts.{IsWrongAmong, IsWrongWithin, OfAnySize}
-use Rattle.graphs.specs.Numbered.{IsFewBy}
 use Rattle.graphs.specs.declared.graph.Numbering.{Numbering}
 use Rattle.graphs.specs.declared.graph.Numbering.TheVariants.{Ordered, Classes}
-use Rattle.runs.proofs.BoardLimits.{few_configurations}
 use Rattle.runs.proofs.DocumentKinds.{by_classes, by_ranks}
 use Rattle.runs.specs.declared.fault.RunFault.{RunFault}
 use Rattle.runs.specs.declared.fault.RunFault.TheVariants.{Board, TooLarge, Proof, Memory, Worker, Read, Write, Limit}
@@ -78,10 +79,10 @@ not_wrong_among IsSmall text board small DocumentTooLarge wrong = wrong
 not_wrong_among IsSmall text board small Limit wrong = wrong
 
 -- nor is that of a board within the limit
-pub not_wrong : (limit : Numbering) (text : List ℕ) (board : PlainBoard) → IsBoardWithin limit text board
+pub not_wrong : (limit : BoardLimit) (text : List ℕ) (board : PlainBoard) → IsBoardWithin limit text board
     → (fault : RunFault)
     → IsWrongWithin limit text fault → ⊥
-not_wrong limit = not_wrong_among (IsFewBy limit)
+not_wrong limit = not_wrong_among (IsWithin limit)
 
 module _ (text written : List ℕ) (value : Value) (solution : IsSolution text value written) where
   -- the text is that of one board
@@ -89,8 +90,8 @@ module _ (text written : List ℕ) (value : Value) (solution : IsSolution text v
   same_board board is spelled = one_board solution.0 board solution.1.is_board is (sym solution.1.spelled ∙ spelled)
 
   pub no_fault_of_board : (fault : RunFault) → HasNoBoard text fault → IsMemory fault
-  no_fault_of_board (Board fault) wrong = absurd (not_wrong Ordered text solution.0 solution.1 (Board fault) wrong)
-  no_fault_of_board TooLarge wrong = absurd (not_wrong Ordered text solution.0 solution.1 TooLarge wrong)
+  no_fault_of_board (Board fault) wrong = absurd (not_wrong Small text solution.0 solution.1 (Board fault) wrong)
+  no_fault_of_board TooLarge wrong = absurd (not_wrong Small text solution.0 solution.1 TooLarge wrong)
   no_fault_of_board Memory wrong = refl
   no_fault_of_board (Proof fault) wrong = absurd wrong
   no_fault_of_board Worker wrong = absurd wrong
@@ -112,7 +113,7 @@ module _ (text written : List ℕ) (value : Value) (solution : IsSolution text v
         → verdict ≡ Accepted (record { claim = claim_of value })
     accepts_of Ordered proof verdict (few, is_proof) spelled is =
         accepts board value written small.is_board
-        (few_configurations board small.few) solved proof verdict is_proof spelled is
+        small.few solved proof verdict is_proof spelled is
     accepts_of Classes proof verdict is_proof spelled is = absurd (ranked (by_classes written board proof spelled))
 
     pub accepts_text : (verdict : Verdict) (line : List ℕ) → IsChecked board written verdict line
@@ -123,7 +124,7 @@ module _ (text written : List ℕ) (value : Value) (solution : IsSolution text v
     no_fault_of_document (Proof fault) (inl (begins, has), not) = absurd (ranked begins)
     no_fault_of_document (Proof fault) (inr (begins, few, has), not) =
         absurd (not (faultless_document board written fault.line fault.kind solved.document small.is_board
-        (is_formed board solved.document small.is_board.start (few_configurations board small.few) solved.is_document)
+        (is_formed board solved.document small.is_board.start small.few solved.is_document)
         solved.text_is has))
     no_fault_of_document Memory wrong = refl
     no_fault_of_document TooLarge (begins, large) = absurd (large small.few)
@@ -144,7 +145,7 @@ as_small : (text : List ℕ) (one other : PlainBoard) → IsSmallBoard text one 
     → IsSmallBoard text other
 as_small text one other small is =
     let same : one ≡ other = one_board one other small.is_board is.is_board (sym small.spelled ∙ is.spelled) in
-    record { is_board = is.is_board; few = subst (IsFewBy Ordered) same small.few; spelled = is.spelled }
+    record { is_board = is.is_board; few = subst (IsWithin Small) same small.few; spelled = is.spelled }
 
 pub runs_agree : (limit board_limit proof_limit : ℕ) (bytes text : List ℕ)
     (solve_left board_left proof_left : Option (List ℕ)) (written : Bytes) (value : Value) (verdict : Verdict)

@@ -1,6 +1,5 @@
 -- The lemmas that crates above cite, passed on from one place. Declares nothing.
 pub use Rattle.runs.proofs.AcceptedDocuments.{not_wrong, not_wrong_among}
-pub use Rattle.runs.proofs.BoardLimits.{is_small}
 pub use Rattle.runs.proofs.ClassSolutions.{class_solution_or_fault, one_class_solution, one_unsolved}
 pub use Rattle.runs.proofs.EndLines.{one_length}
 pub use Rattle.runs.proofs.OneOutcome.{one_report, one_solution, one_wrong, one_wrong_among}

@@ -1,15 +1,18 @@
 -- A text has one solution by classes or one fault, and a check accepts the solution.
-use Rattle.std.proofs.Common.{◌≡◌, ◌≤◌, ◌⊎◌, ℕ, List, length, refl, sym, ap, ◌∙◌, subst, arith, inl, inr}
-use Rattle.board_text.specs.PlainBoard.{PlainBoard}
+use Rattle.std.proofs.Common.{◌≡◌, ◌-◌, ◌≤◌, ◌⊎◌, ℕ, List, length, refl, sym, ap, ◌∙◌, subst, arith, inl, inr}
+use Rattle.board_text.specs.PlainBoard.{PlainBoard, places}
 use Rattle.board_text.proofs.Cited.{one_board}
 use Rattle.class_documents.proofs.Cited.{no_fault as no_class_fault}
 use Rattle.class_strategies.proofs.Cited.{breaks_no_rule, has_form as is_formed, one_document as one_made}
+use Rattle.class_strategies.proofs.Cited.{short_text_fits}
 use Rattle.proof_text.proofs.Cited.{no_class_text_fault as faultless_document, one_class_document}
 use Rattle.proof_text.specs.ProofText.{class_text}
-use Rattle.classes.specs.Numbers.{class_count}
-use Rattle.classes.specs.declared.counting.TheConstants.{MAX_CLASSES}
+use Rattle.proof_text.specs.Documents.{IsClassProof}
+use Rattle.classes.specs.Numbers.{ways}
+use Rattle.gap_values.specs.declared.rounds.TheConstants.{MAX_GAPS}
 use Rattle.graphs.specs.declared.graph.Numbering.{Numbering}
 use Rattle.graphs.specs.declared.graph.Numbering.TheVariants.{Ordered, Classes}
+use Rattle.runs.specs.declared.boards.BoardLimit.TheVariants.{Large}
 use Rattle.positions.specs.Claim.{claim_of}
 use Rattle.positions.specs.declared.value.Value.{Value}
 use Rattle.positions.proofs.Cited.{same_value}
@@ -23,7 +26,6 @@ use Rattle.runs.specs.declared.fault.RunFault.TheVariants.{DocumentTooLarge}
 use Rattle.runs.specs.declared.verdicts.Verdict.{Verdict}
 use Rattle.runs.specs.declared.verdicts.Verdict.TheVariants.{Accepted, Refused, RefusedByClasses}
 use Rattle.runs.proofs.AcceptedDocuments.{not_wrong}
-use Rattle.runs.proofs.BoardLimits.{few_classes}
 use Rattle.runs.proofs.DocumentKinds.{by_classes, by_ranks}
 use Rattle.runs.proofs.OneOutcome.{one_wrong}
 
@@ -31,7 +33,7 @@ use Rattle.runs.proofs.OneOutcome.{one_wrong}
 
 module _ (text : List ℕ) where
   -- the text is that of one board at most
-  same_board : (first second : PlainBoard) → IsBoardWithin Classes text first → IsBoardWithin Classes text second
+  same_board : (first second : PlainBoard) → IsBoardWithin Large text first → IsBoardWithin Large text second
       → second ≡ first
   same_board first second one other =
       one_board second first other.is_board one.is_board (sym other.spelled ∙ one.spelled)
@@ -48,8 +50,8 @@ module _ (text : List ℕ) where
       )
 
   -- a board whose document is too long has no solution
-  long_or_short : (value : Value) (written : List ℕ) (board other : PlainBoard) → IsBoardWithin Classes text board
-      → IsBoardWithin Classes text other → IsSolvedByClasses board value written → HasLongDocument other → ⊥
+  long_or_short : (value : Value) (written : List ℕ) (board other : PlainBoard) → IsBoardWithin Large text board
+      → IsBoardWithin Large text other → IsSolvedByClasses board value written → HasLongDocument other → ⊥
   long_or_short value written board other within within_too solved long =
       let here : HasLongDocument board = subst HasLongDocument (same_board board other within within_too) long in
       let same : here.0 ≡ solved.document = one_made board here.0 solved.document here.1 solved.is_document in
@@ -59,7 +61,7 @@ module _ (text : List ℕ) where
 
   -- a fault is that of the document, or that of the text
   fault_is : (fault : RunFault) → IsUnsolvedByClasses text fault
-      → ((fault ≡ DocumentTooLarge) × IsUnsolvedByClasses text DocumentTooLarge) ⊎ IsWrongWithin Classes text fault
+      → ((fault ≡ DocumentTooLarge) × IsUnsolvedByClasses text DocumentTooLarge) ⊎ IsWrongWithin Large text fault
   fault_is DocumentTooLarge h = inl (refl, h)
   fault_is (Board told) h = inr h
   fault_is TooLarge h = inr h
@@ -75,7 +77,7 @@ module _ (text : List ℕ) where
   class_solution_or_fault value written fault (board, within, solved) bad = elim (fault_is fault bad) [
     | inl (is, (other, within_too, long)) ↦
         long_or_short value written board other within within_too solved long
-    | inr wrong ↦ not_wrong Classes text board within fault wrong
+    | inr wrong ↦ not_wrong Large text board within fault wrong
   ]
 
   pub one_unsolved : (fault other : RunFault) → IsUnsolvedByClasses text fault → IsUnsolvedByClasses text other
@@ -83,11 +85,11 @@ module _ (text : List ℕ) where
   one_unsolved fault other bad also = elim (fault_is fault bad) [
     | inl (is, (board, within, long)) ↦ elim (fault_is other also) [
       | inl (is_too, long_too) ↦ is ∙ sym is_too
-      | inr wrong ↦ absurd (not_wrong Classes text board within other wrong)
+      | inr wrong ↦ absurd (not_wrong Large text board within other wrong)
     ]
     | inr wrong ↦ elim (fault_is other also) [
-      | inl (is_too, (board, within, long)) ↦ absurd (not_wrong Classes text board within fault wrong)
-      | inr wrong_too ↦ one_wrong Classes text fault other wrong wrong_too
+      | inl (is_too, (board, within, long)) ↦ absurd (not_wrong Large text board within fault wrong)
+      | inr wrong_too ↦ one_wrong Large text fault other wrong wrong_too
     ]
   ]
 
@@ -99,10 +101,17 @@ module _ (text written : List ℕ) (value : Value) (solution : IsClassSolution t
   solved = subst (λ (b : PlainBoard). IsSolvedByClasses b value written)
       (one_board solution.0 board solution.1.is_board is.is_board (sym solution.1.spelled ∙ is.spelled)) solution.2
 
-  few : class_count board ≤ MAX_CLASSES
-  few = subst (λ (b : PlainBoard). class_count b ≤ MAX_CLASSES)
+  -- the text is short enough for a check, so the document has the form of documents
+  has_the_form : IsClassProof board solved.document
+  has_the_form =
+      let few : ways (board.pebbles - 1) (places board) ≤ MAX_GAPS =
+      subst (λ (b : PlainBoard). ways (b.pebbles - 1) (places b) ≤ MAX_GAPS)
       (one_board solution.0 board solution.1.is_board is.is_board (sym solution.1.spelled ∙ is.spelled))
-      (few_classes Classes solution.0 solution.1.few)
+      solution.1.few in
+      let size : length (class_text board solved.document) ≡ length written = ap length (sym solved.text_is) in
+      is_formed board solved.document is.is_board.start solved.is_document
+      (short_text_fits board solved.document solved.is_document (omega (arith, few))
+      (omega (arith, size, solved.short)))
 
   by_class : IsByClasses written
   by_class = by_classes written board solved.document solved.text_is
@@ -126,7 +135,7 @@ module _ (text written : List ℕ) (value : Value) (solution : IsClassSolution t
   accepts_of Ordered proof verdict is_proof spelled told = absurd (by_ranks written board proof spelled by_class)
   accepts_of Classes proof verdict is_proof spelled told =
       verdict_of proof verdict (one_class_document board solved.document proof is.is_board
-      (is_formed board solved.document is.is_board.start few solved.is_document) is_proof
+      has_the_form is_proof
       (sym solved.text_is ∙ spelled)) told
 
   pub class_document_accepted : (verdict : Verdict) (line : List ℕ) → IsChecked board written verdict line
@@ -137,7 +146,7 @@ module _ (text written : List ℕ) (value : Value) (solution : IsClassSolution t
   pub class_document_faultless : (fault : RunFault) → HasNoProof board written fault → IsMemory fault
   class_document_faultless (Proof fault) (inl (begins, has), not) =
       absurd (not (faultless_document board written fault.line fault.kind solved.document is.is_board
-      (is_formed board solved.document is.is_board.start few solved.is_document) solved.text_is has))
+      has_the_form solved.text_is has))
   class_document_faultless (Proof fault) (inr (begins, small, has), not) = absurd (begins by_class)
   class_document_faultless Memory wrong = refl
   class_document_faultless TooLarge (begins, large) = absurd (begins by_class)

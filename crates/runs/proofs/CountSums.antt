@@ -14,7 +14,7 @@ use Rattle.positions.specs.Value.{HasValue}
 use Rattle.positions.proofs.Cited.{size_of, some_value, configuration_at_is, same_size, same_value}
 use Rattle.graphs.specs.Graph.{count_below}
 use Rattle.solver.proofs.Cited.{count-same}
-use Rattle.solver.specs.Sizes.{HasCount}
+use Rattle.gap_values.specs.Sizes.{HasValueCount}
 use Rattle.runs.specs.Report.{Report, IsReport}
 
 -- ---- sums of numbers
@@ -119,7 +119,7 @@ module _ (board : PlainBoard) (report : Report) (is : IsReport board report) whe
   occurs_below : (rank value : ℕ) → rank < configurations board
       → HasValue board (configuration_at board rank) (Finite value) → value < lines
   occurs_below rank value below has =
-      (is.counts.to_greatest value).1
+      (is.counted.to_greatest value).1
       (value, omega arith, (configuration_at board rank, configuration_at_is board rank below, has))
 
   class_below : (rank : ℕ) → rank < configurations board → class rank < suc lines
@@ -164,7 +164,7 @@ module _ (board : PlainBoard) (report : Report) (is : IsReport board report) whe
   count_is : (value : Value) (count : ℕ)
       → ((other : Value) (rank : ℕ) → rank < configurations board → HasValue board (configuration_at board rank) other
       → class_of other ≡ class_of value → other ≡ value)
-      → HasCount board value count → count ≡ count_below (configurations board) (λ rank. class rank == class_of value)
+      → HasValueCount board value count → count ≡ count_below (configurations board) (λ rank. class rank == class_of value)
   count_is value count apart has =
       same_size (λ rank. (rank < configurations board) × HasValue board (configuration_at board rank) value) count
       (count_below (configurations board) (λ rank. class rank == class_of value)) has
@@ -179,8 +179,8 @@ module _ (board : PlainBoard) (report : Report) (is : IsReport board report) whe
       let finite : total lines (slice_index report.counts) ≡ total lines g =
       total_same lines (slice_index report.counts) g
       (λ value low. count_is (Finite value) (slice_index report.counts value) (finite_apart value low)
-      (is.counts.counted value low)) in
-      let forever : report.forever ≡ g lines = count_is Forever report.forever forever_apart is.forever in
+      (is.counted.each value low)) in
+      let forever : report.forever ≡ g lines = count_is Forever report.forever forever_apart is.counted.unending in
       let whole : total (suc lines) g ≡ configurations board =
       all_classes class (suc lines) (configurations board) class_below in
       let last = total_last lines g in

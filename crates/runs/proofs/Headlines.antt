@@ -12,7 +12,6 @@ use Rattle.strategies.specs.Meaning.{Means}
 use Rattle.strategies.proofs.Cited.{is_formed, breaks_no_rule, means_value}
 use Rattle.runs.specs.Headline.{ShowsValue, IsAccepted}
 use Rattle.runs.specs.SolveRun.{IsSolution}
-use Rattle.runs.proofs.BoardLimits.{few_configurations}
 
 pub accepted : (text : List ℕ) (value : Value) (written : List ℕ) → IsSolution text value written
     → IsAccepted text value written
@@ -28,7 +27,7 @@ accepted text value written (board, small, solved) =
         written_is = solved.text_is;
         means = means_value board solved.document value start is solved.has_value;
       };
-      is_proof = is_formed board solved.document start (few_configurations board small.few) is;
+      is_proof = is_formed board solved.document start small.few is;
       rules = breaks_no_rule board solved.document start is;
     }
 

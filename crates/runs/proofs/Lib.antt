@@ -17,3 +17,4 @@ pub mod ClassSolutions
 pub mod ToldNotices
 pub mod PlayFaults
 pub mod Cited
+pub mod ValueCounts

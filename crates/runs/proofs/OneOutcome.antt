@@ -12,14 +12,13 @@ use Rattle.positions.specs.Ranks.{configurations, configuration_at}
 use Rattle.positions.specs.Value.{HasValue}
 use Rattle.positions.proofs.Cited.{same_size, same_value}
 use Rattle.proof_text.specs.ProofText.{proof_text}
-use Rattle.solver.specs.Sizes.{HasCount}
+use Rattle.gap_values.specs.Sizes.{AreValueCounts, HasValueCount}
 use Rattle.strategies.proofs.Cited.{one_document}
-use Rattle.runs.specs.Report.{Report, AreCounts, IsReport, IsReportOf, report_text_alone, IsReportOfText}
+use Rattle.runs.specs.Report.{Report, IsReport, IsReportOf, report_text_alone, IsReportOfText}
 use Rattle.runs.specs.SolveRun.{IsSolution, IsSolved}
-use Rattle.graphs.specs.Numbered.{IsFewBy}
-use Rattle.runs.specs.Texts.{IsBoardWithin, IsWrongAmong, IsWrongWithin}
-use Rattle.graphs.specs.declared.graph.Numbering.{Numbering}
-use Rattle.graphs.specs.declared.graph.Numbering.TheVariants.{Ordered}
+use Rattle.runs.specs.Texts.{IsBoardWithin, IsWithin, IsWrongAmong, IsWrongWithin}
+use Rattle.runs.specs.declared.boards.BoardLimit.{BoardLimit}
+use Rattle.runs.specs.declared.boards.BoardLimit.TheVariants.{Small}
 use Rattle.runs.specs.declared.fault.RunFault.{RunFault}
 use Rattle.runs.specs.declared.fault.RunFault.TheVariants.{Board, TooLarge, Proof, Memory, Worker, Read, Write, Limit}
 use Rattle.runs.specs.declared.fault.RunFault.TheVariants.{DocumentTooLarge}
@@ -34,28 +33,29 @@ same_bound P first second one other = elim (cases_order first second) [
   | inr (inr more) ↦ let below : second < second = (other second).1 ((one second).0 more) in absurd (omega arith)
 ]
 
-same_count : (board : PlainBoard) (value : Value) (first second : ℕ) → HasCount board value first
-    → HasCount board value second → first ≡ second
+same_count : (board : PlainBoard) (value : Value) (first second : ℕ) → HasValueCount board value first
+    → HasValueCount board value second → first ≡ second
 same_count board value =
     same_size (λ rank. (rank < configurations board) × HasValue board (configuration_at board rank) value)
 
-same_counts : (board : PlainBoard) (first second : List ℕ) → AreCounts board first → AreCounts board second
-    → first ≡ second
-same_counts board first second one other =
+same_counts : (board : PlainBoard) (first second : List ℕ) (forever unending : ℕ)
+    → AreValueCounts board first forever → AreValueCounts board second unending → first ≡ second
+same_counts board first second forever unending one other =
     let size : length first ≡ length second =
     same_bound _ (length first) (length second) one.to_greatest other.to_greatest in
     ext_get_or 0 first second size
     (λ value inside. same_count board (Finite value) (slice_index first value) (slice_index second value)
-    (one.counted value inside) (other.counted value (omega (arith, inside, size))))
+    (one.each value inside) (other.each value (omega (arith, inside, size))))
 
 same_report : (board : PlainBoard) (first second : Report) → IsReport board first → IsReport board second
     → first ≡ second
 same_report board first second one other =
     let start : first.start ≡ second.start =
     same_value board board.start first.start second.start one.start other.start in
-    let counts : first.counts ≡ second.counts = same_counts board first.counts second.counts one.counts other.counts in
+    let counts : first.counts ≡ second.counts =
+    same_counts board first.counts second.counts first.forever second.forever one.counted other.counted in
     let forever : first.forever ≡ second.forever =
-    same_count board Forever first.forever second.forever one.forever other.forever in
+    same_count board Forever first.forever second.forever one.counted.unending other.counted.unending in
     let same : ◌≡◌ {A = Report}
     (record { start = first.start; counts = first.counts; forever = first.forever }) second =
     rw (start, counts, forever) refl in
@@ -63,13 +63,13 @@ same_report board first second one other =
 
 module _ (text : List ℕ) where
   -- the text is that of one board at most
-  same_board : (limit more : Numbering) (first second : PlainBoard) → IsBoardWithin limit text first
+  same_board : (limit more : BoardLimit) (first second : PlainBoard) → IsBoardWithin limit text first
       → IsBoardWithin more text second
       → second ≡ first
   same_board limit more first second one other =
       one_board second first other.is_board one.is_board (sym other.spelled ∙ one.spelled)
 
-  pub one_report : (limit more : Numbering) (first second : List ℕ) → IsReportOfText limit text first
+  pub one_report : (limit more : BoardLimit) (first second : List ℕ) → IsReportOfText limit text first
       → IsReportOfText more text second → first ≡ second
   one_report limit more first second one other =
       let board : PlainBoard = one.0 in
@@ -85,7 +85,7 @@ module _ (text : List ℕ) where
       let board : PlainBoard = one.0 in
       let solved : IsSolved board worth second =
       subst (λ (b : PlainBoard). IsSolved b worth second)
-      (same_board Ordered Ordered board other.0 one.1 other.1) other.2 in
+      (same_board Small Small board other.0 one.1 other.1) other.2 in
       let document : one.2.document ≡ solved.document =
       one_document board one.2.document solved.document one.2.is_document solved.is_document in (
         same_value board board.start value worth one.2.has_value solved.has_value,
@@ -133,6 +133,6 @@ module _ (IsSmall : PlainBoard → Type 0) (text : List ℕ) where
     ]
   ]
 
-pub one_wrong : (limit : Numbering) (text : List ℕ) (fault other : RunFault) → IsWrongWithin limit text fault
+pub one_wrong : (limit : BoardLimit) (text : List ℕ) (fault other : RunFault) → IsWrongWithin limit text fault
     → IsWrongWithin limit text other → fault ≡ other
-one_wrong limit = one_wrong_among (IsFewBy limit)
+one_wrong limit = one_wrong_among (IsWithin limit)

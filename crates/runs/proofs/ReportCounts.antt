@@ -1,23 +1,13 @@
 -- The counts of a report, value by value.
-use Rattle.std.proofs.Common.{◌≡◌, ℕ, suc, ◌+◌, ◌<◌, ◌≤◌, inl, inr, List, [], ◌∷◌, ◌++◌, length, slice_index, Some}
-use Rattle.std.proofs.Common.{None, sym, ap, ◌∙◌, subst, arith}
-use Rattle.std.proofs.lemmas.Bool.{cases_lt}
-use Rattle.std.proofs.lemmas.List.{length-append, get_or_append_left, get_or_push, append_assoc, append-nil}
+use Rattle.std.proofs.Common.{◌≡◌, ℕ, suc, ◌+◌, ◌<◌, ◌≤◌, List, [], ◌∷◌, ◌++◌, length, slice_index, take, sym, ap, ◌∙◌}
+use Rattle.std.proofs.Common.{arith, length-take-le}
+use Rattle.std.proofs.lemmas.List.{append_assoc, append-nil}
+use Rattle.std.proofs.Math.Seq.{take-suc}
 use Rattle.board_text.specs.PlainBoard.{PlainBoard}
-use Rattle.positions.specs.Value.{HasValue}
 use Rattle.positions.specs.declared.value.Value.{Value}
-use Rattle.positions.specs.declared.value.Value.TheVariants.{Finite, Forever}
-use Rattle.positions.specs.Laws.{Occurs}
-use Rattle.solver.specs.Sizes.{HasCount, IsGreatest}
-use Rattle.runs.specs.Report.{AreCounts, IsCountOfValues, IsReportOf, head_lines, start_value_line, count_line}
-use Rattle.runs.specs.Report.{count_lines, end_lines}
-
--- the values below a bound are counted, and their lines are written
-pub record IsCountedTo (board : PlainBoard) (bound : ℕ) (before text : List ℕ) : Type 0 where
-  pub counts : List ℕ
-  pub so_many : length counts ≡ bound
-  pub counted : (value : ℕ) → value < length counts → HasCount board (Finite value) (slice_index counts value)
-  pub written : text ≡ before ++ count_lines 0 counts
+use Rattle.runs.specs.Report.{IsReportOf, head_lines, start_value_line, count_line, count_lines, end_lines}
+use Rattle.runs.specs.Inside.Counting.{IsCounted}
+use Rattle.runs.specs.declared.counting.Counted.{Counted}
 
 lines_push : (value : ℕ) (counts : List ℕ) (count : ℕ)
     → count_lines value (counts ++ count ∷ []) ≡ count_lines value counts ++ count_line (value + length counts) count
@@ -32,66 +22,35 @@ lines_push value (first ∷ counts) count =
     ∙ sym (append_assoc (count_line value first) (count_lines (suc value) counts)
     (count_line (value + suc (length counts)) count))
 
-pub counted_more : (board : PlainBoard) (bound count : ℕ) (before text more : List ℕ)
-    → IsCountedTo board bound before text → HasCount board (Finite bound) count
-    → more ≡ text ++ count_line bound count → IsCountedTo board (bound + 1) before more
-counted_more board bound count before text more is has more_is = let size = is.so_many in
-    let level_zero : bound ≡ 0 + length is.counts = omega arith in record {
-      counts = is.counts ++ count ∷ [];
-      so_many = length-append is.counts (count ∷ []) ∙ ap (λ (n : ℕ). n + 1) is.so_many;
-      counted = λ value inside. elim (cases_lt value (length is.counts)) [
-        | inl early ↦ subst (HasCount board (Finite value))
-            (sym (get_or_append_left is.counts (count ∷ []) 0 value early))
-            (is.counted value early)
-        | inr late ↦
-            let within : value < length is.counts + 1 = rw (sym (length-append is.counts (count ∷ []))) inside in
-            let last : value ≡ length is.counts = omega arith in
-            let level : bound ≡ value = sym (last ∙ is.so_many) in
-            subst (HasCount board (Finite value)) (sym (get_or_push is.counts count 0 value (sym last)))
-            (subst (λ (v : ℕ). HasCount board (Finite v) count) level has)
-      ];
-      written = more_is ∙ ap (λ (t : List ℕ). t ++ count_line bound count) is.written
-          ∙ append_assoc before (count_lines 0 is.counts) (count_line bound count)
-          ∙ ap (λ (lines : List ℕ). before ++ lines)
-          (ap (λ (v : ℕ). count_lines 0 is.counts ++ count_line v count) level_zero
-          ∙ sym (lines_push 0 is.counts count));
-    }
-
--- all values are counted
-pub counted_all : (board : PlainBoard) (bound number : ℕ) (before text : List ℕ) → IsCountedTo board bound before text
-    → bound ≡ number → IsCountOfValues board number
-    → (counts : List ℕ) × AreCounts board counts × (text ≡ before ++ count_lines 0 counts)
-counted_all board bound number before text is end all = (
-  is.counts,
-  record { counted = is.counted; to_greatest = subst (IsCountOfValues board) (sym end ∙ sym is.so_many) all },
-  is.written,
-)
-
--- the number of values is one more than the greatest
-pub values_to : (board : PlainBoard) (greatest : ℕ) → IsGreatest (Occurs board) (Some greatest)
-    → IsCountOfValues board (greatest + 1)
-values_to board greatest is value = (
-  λ inside. (greatest, omega arith, is.0),
-  λ above. let low : value ≤ above.0 = above.1 in let most : above.0 ≤ greatest = is.1 above.0 above.2 in omega arith,
-)
-
-pub no_values : (board : PlainBoard) → IsGreatest (Occurs board) None → IsCountOfValues board 0
-no_values board none value = (λ inside. absurd (omega arith), λ above. absurd (none above.0 above.2))
+-- one more line
+pub lines_more : (counts : List ℕ) (value : ℕ) (before text more : List ℕ) → value < length counts
+    → text ≡ before ++ count_lines 0 (take value counts) → more ≡ text ++ count_line value (slice_index counts value)
+    → more ≡ before ++ count_lines 0 (take (value + 1) counts)
+lines_more counts value before text more inside written more_is =
+    let size : length (take value counts) ≡ value = length-take-le value counts (omega arith) in
+    let level : 0 + length (take value counts) ≡ value = omega arith in
+    let one_more : suc value ≡ value + 1 = omega arith in
+    more_is ∙ ap (λ (t : List ℕ). t ++ count_line value (slice_index counts value)) written
+    ∙ append_assoc before (count_lines 0 (take value counts)) (count_line value (slice_index counts value))
+    ∙ ap (λ (lines : List ℕ). before ++ lines)
+    (ap (λ (v : ℕ). count_lines 0 (take value counts) ++ count_line v (slice_index counts value)) (sym level)
+    ∙ sym (lines_push 0 (take value counts) (slice_index counts value))
+    ∙ ap (count_lines 0) (sym (take-suc counts value 0 inside))
+    ∙ ap (λ (n : ℕ). count_lines 0 (take n counts)) one_more)
 
 -- the parts of a report, one after the other
-pub whole_report : (board : PlainBoard) (start : Value) (counts : List ℕ) (forever : ℕ)
-    (empty head begun counted whole : List ℕ)
-    → empty ≡ [] → head ≡ empty ++ head_lines board → begun ≡ head ++ start_value_line start
-    → counted ≡ begun ++ count_lines 0 counts → whole ≡ counted ++ end_lines forever
-    → HasValue board board.start start → AreCounts board counts → HasCount board Forever forever
-    → IsReportOf board whole
-whole_report board start counts forever empty head begun counted whole none first second third last has are size =
+pub whole_report : (board : PlainBoard) (counted : Counted) (empty head begun lines whole : List ℕ)
+    → empty ≡ [] → head ≡ empty ++ head_lines board → begun ≡ head ++ start_value_line counted.start
+    → lines ≡ begun ++ count_lines 0 counted.sizes.finite.items → whole ≡ lines ++ end_lines counted.sizes.forever
+    → IsCounted board counted → IsReportOf board whole
+whole_report board counted empty head begun lines whole none first second third last is =
+    let counts : List ℕ = counted.sizes.finite.items in
     record {
-      report = record { start = start; counts = counts; forever = forever };
-      is_report = record { start = has; counts = are; forever = size };
-      text_is = last ∙ ap (λ (t : List ℕ). t ++ end_lines forever)
+      report = record { start = counted.start; counts = counts; forever = counted.sizes.forever };
+      is_report = record { start = is.start; counted = is.sizes };
+      text_is = last ∙ ap (λ (t : List ℕ). t ++ end_lines counted.sizes.forever)
           (third ∙ ap (λ (t : List ℕ). t ++ count_lines 0 counts)
-          (second ∙ ap (λ (t : List ℕ). t ++ start_value_line start)
+          (second ∙ ap (λ (t : List ℕ). t ++ start_value_line counted.start)
           (first ∙ ap (λ (t : List ℕ). t ++ head_lines board) none)));
     }
 

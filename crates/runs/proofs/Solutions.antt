@@ -13,15 +13,15 @@ use Rattle.positions.specs.Value.{HasValue}
 use Rattle.positions.proofs.Cited.{each_or_some, count_below, size_of, some_value, smaller_occurs, configuration_at_is}
 use Rattle.positions.proofs.Cited.{configuration_at-rank_of, rank_below, same_value}
 use Rattle.proof_text.specs.ProofText.{proof_text}
-use Rattle.solver.specs.Sizes.{HasCount}
+use Rattle.gap_values.specs.Sizes.{HasValueCount, IsCountOfValues}
 use Rattle.round_workers.proofs.Cited.{value_few}
 use Rattle.strategies.specs.Best.{IsLess}
 use Rattle.strategies.proofs.Cited.{cases_value, IsLess-irrefl, document_exists, least, each_number}
-use Rattle.runs.specs.Report.{Report, IsReport, IsReportOf, IsCountOfValues, report_text_alone, IsReportOfText}
+use Rattle.runs.specs.Report.{Report, IsReport, IsReportOf, report_text_alone, IsReportOfText}
 use Rattle.runs.specs.SolveRun.{IsSolution, IsSolved}
 use Rattle.runs.specs.Texts.{IsBoardWithin, IsSmallBoard, IsWrongBoard, IsWrongWithin}
-use Rattle.graphs.specs.declared.graph.Numbering.{Numbering}
-use Rattle.graphs.specs.declared.graph.Numbering.TheVariants.{Ordered}
+use Rattle.runs.specs.declared.boards.BoardLimit.{BoardLimit}
+use Rattle.runs.specs.declared.boards.BoardLimit.TheVariants.{Small}
 use Rattle.runs.proofs.BoardLimits.{within_or_beyond}
 use Rattle.runs.specs.declared.fault.RunFault.{RunFault}
 use Rattle.runs.specs.declared.fault.RunFault.TheVariants.{Board, TooLarge}
@@ -73,7 +73,7 @@ module _ (board : PlainBoard) where
   value_at value rank below =
       value_or_not board (configuration_at board rank) (configuration_at_is board rank below) value
 
-  some_count : (value : Value) → (count : ℕ) × HasCount board value count
+  some_count : (value : Value) → (count : ℕ) × HasValueCount board value count
   some_count value =
       some_size (λ rank. HasValue board (configuration_at board rank) value) (configurations board) (value_at value)
 
@@ -117,17 +117,17 @@ module _ (board : PlainBoard) where
   report_exists is =
       let start = some_value board board.start is in
       let end = values_end in
-      let counts = each_number (λ value count. HasCount board (Finite value) count) end.0
+      let counts = each_number (λ value count. HasValueCount board (Finite value) count) end.0
       (λ value below. some_count (Finite value)) in
       let forever = some_count Forever in
       let report : Report = record { start = start.0; counts = counts.0; forever = forever.0 } in
       let is_report : IsReport board report = record {
         start = start.1;
-        counts = record {
-          counted = λ value inside. counts.2 value (let size : length counts.0 ≡ end.0 = counts.1 in omega arith);
+        counted = record {
+          each = λ value inside. counts.2 value (let size : length counts.0 ≡ end.0 = counts.1 in omega arith);
           to_greatest = subst (IsCountOfValues board) (sym counts.1) end.1;
+          unending = forever.1;
         };
-        forever = forever.1;
       } in
       let is_report_of : IsReportOf board (report_text_alone board report) =
       record { report = report; is_report = is_report; text_is = refl } in
@@ -145,12 +145,12 @@ module _ (text : List ℕ) where
       record { has_value = value.1; document = document.0; is_document = document.1; text_is = refl } in
       (value.0, proof_text board document.0, (board, small, solved))
 
-  pub report_of_text_exists : (limit : Numbering) (board : PlainBoard) → IsBoardWithin limit text board
+  pub report_of_text_exists : (limit : BoardLimit) (board : PlainBoard) → IsBoardWithin limit text board
       → (written : List ℕ) × IsReportOfText limit text written
   report_of_text_exists limit board within =
       let report = report_exists board within.is_board.start in (report.0, (board, within, report.1))
 
-  board_or_wrong : (limit : Numbering) → ((board : PlainBoard) × IsBoardWithin limit text board)
+  board_or_wrong : (limit : BoardLimit) → ((board : PlainBoard) × IsBoardWithin limit text board)
       ⊎ ((fault : RunFault) × IsWrongWithin limit text fault)
   board_or_wrong limit = elim (board_or_fault text) [
     | inr (line, kind, no_memory, has) ↦ inr (Board (record { line = line; kind = kind }), (has, no_memory))
@@ -162,10 +162,10 @@ module _ (text : List ℕ) where
 
   pub solution_or_wrong : ((value : Value) × (written : List ℕ) × IsSolution text value written)
       ⊎ ((fault : RunFault) × IsWrongBoard text fault)
-  solution_or_wrong = elim (board_or_wrong Ordered)
+  solution_or_wrong = elim (board_or_wrong Small)
       [ inl small ↦ inl (solution_exists small.0 small.1) | inr wrong ↦ inr wrong ]
 
-  pub report_or_wrong : (limit : Numbering) → ((written : List ℕ) × IsReportOfText limit text written)
+  pub report_or_wrong : (limit : BoardLimit) → ((written : List ℕ) × IsReportOfText limit text written)
       ⊎ ((fault : RunFault) × IsWrongWithin limit text fault)
   report_or_wrong limit = elim (board_or_wrong limit) [
     | inl within ↦ inl (report_of_text_exists limit within.0 within.1)

@@ -5,9 +5,10 @@ use Rattle.classes.specs.Numbers.{class_count}
 use Rattle.solver.specs.declared.fault.SolveFault.{SolveFault}
 use Rattle.solver.specs.declared.fault.SolveFault.TheVariants as solve
 use Rattle.graphs.specs.Numbered.{graph_by, graph_of, numbered}
-use Rattle.graphs.specs.declared.graph.Numbering.{Numbering}
 use Rattle.graphs.specs.declared.graph.Numbering.TheVariants.{Classes}
 use Rattle.round_workers.specs.declared.solving.TheConstants.{MIN_SHARED}
+use Rattle.runs.specs.declared.boards.BoardLimit.{BoardLimit}
+use Rattle.runs.specs.declared.boards.BoardLimit.TheVariants.{Small}
 use Rattle.runs.specs.declared.fault.RunFault.{RunFault}
 use Rattle.runs.specs.declared.fault.RunFault.TheVariants.{Board, TooLarge, Proof, Memory, Worker, Read, Write, Limit}
 use Rattle.runs.specs.declared.fault.RunFault.TheVariants.{DocumentTooLarge}
@@ -26,14 +27,14 @@ enough_classes board enough = enough
 pub refused_some : (workers : ℕ) (board : PlainBoard) (fault : SolveFault) (told : RunFault)
     → told ≡ fault_of_solving fault → (fault ≡ solve.TooLarge → ⊥) → (fault ≡ solve.Worker → 1 < workers)
     → (fault ≡ solve.Worker → MIN_SHARED ≤ (graph_of (numbered board Classes)).configurations)
-    → IsRefused workers board told
+    → IsRefused Small workers board told
 refused_some workers board solve.TooLarge told is small several enough = absurd (small refl)
-refused_some workers board solve.Memory told is small several enough = subst (IsRefused workers board) (sym is) tt
+refused_some workers board solve.Memory told is small several enough = subst (IsRefused Small workers board) (sym is) tt
 refused_some workers board solve.Worker told is small several enough =
-    subst (IsRefused workers board) (sym is) (several refl, enough_classes board (enough refl))
+    subst (IsRefused Small workers board) (sym is) (refl, several refl, enough_classes board (enough refl))
 
 -- a fault of one worker is one that several workers can give
-pub any_worker : (limit : Numbering) (workers : ℕ) (text : List ℕ) (fault : RunFault) → HasNoneWithin limit text fault
+pub any_worker : (limit : BoardLimit) (workers : ℕ) (text : List ℕ) (fault : RunFault) → HasNoneWithin limit text fault
     → CannotSolve limit workers text fault
 any_worker limit workers text Memory h = tt
 any_worker limit workers text (Board fault) h = h

@@ -1,13 +1,12 @@
 -- When the notice of a large board is told.
-use Rattle.std.proofs.Common.{◌≡◌, ◌<◌, ◌≤◌, Bool, List, ℕ, [], ◌++◌, ap, append_assoc, codes, false, inl, inr, le-ltb}
+use Rattle.std.proofs.Common.{◌≡◌, ◌-◌, ◌<◌, ◌≤◌, Bool, List, ℕ, [], ◌++◌, ap, append_assoc, codes, false, inl, inr, le-ltb}
 use Rattle.std.proofs.Common.{lt-ltb}
 use Rattle.std.proofs.Common.{refl, subst, sym, true}
 use Rattle.std.proofs.lemmas.Bool.{cases_lt}
 use Rattle.std.specs.Prelude.{Err, Ok, Result, if◌then◌else◌, nat_lt}
 use Rattle.std.specs.Fmt.{decimal}
-use Rattle.board_text.specs.PlainBoard.{PlainBoard}
-use Rattle.classes.specs.Numbers.{class_count}
-use Rattle.graphs.specs.declared.graph.Numbering.{Numbering}
+use Rattle.board_text.specs.PlainBoard.{PlainBoard, places}
+use Rattle.classes.specs.Numbers.{ways}
 use Rattle.player.specs.Showing.{AreForPerson}
 use Rattle.player.proofs.Cited.{nothing_for_person, shown_line}
 use Rattle.positions.specs.Ranks.{configurations}
@@ -16,6 +15,7 @@ use Rattle.runs.specs.BoardRun.{GaveBoard, GaveNoBoard}
 use Rattle.runs.specs.Notices.{IsNoticed, notice_for, size_notice}
 use Rattle.runs.specs.Run.{Bytes, Gave}
 use Rattle.runs.specs.Texts.{HasNoneWithin, IsBoardWithin}
+use Rattle.runs.specs.declared.boards.BoardLimit.{BoardLimit}
 use Rattle.runs.specs.declared.fault.RunFault.{RunFault}
 
 -- it isn't, where nobody is there to see it
@@ -49,7 +49,8 @@ three a b c = sym (append_assoc a b c)
 -- it is a line for a person
 told_if : (board : PlainBoard) (large : Bool) → AreForPerson true (if large then size_notice board else [])
 told_if board true = shown_line
-    (codes "a large board: its " ++ decimal (class_count board) ++ codes " classes are solved, which can take seconds")
+    (codes "a large board: its " ++ decimal (ways (board.pebbles - 1) (places board))
+    ++ codes " gaps are solved, which can take seconds")
 told_if board false = nothing_for_person true
 
 pub noticed : (shows : Bool) (board : PlainBoard) → AreForPerson shows (notice_for shows board)
@@ -58,7 +59,7 @@ noticed false board = refl
 
 -- ---- of a board that is read
 
-module _ {Answer Other : Type 0} (limit : Numbering) (most_bytes : ℕ) (read : Bytes) (text : List ℕ)
+module _ {Answer Other : Type 0} (limit : BoardLimit) (most_bytes : ℕ) (read : Bytes) (text : List ℕ)
     (gave : Gave most_bytes read text)
     (shows : Bool) (told : List ℕ) (result : Result Answer RunFault)
     (is : IsNoticed (IsBoardWithin limit text) (HasNoneWithin limit text) shows result told) where

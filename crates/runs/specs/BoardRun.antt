@@ -1,10 +1,9 @@
 -- Runs that read a board first.
 use Rattle.std.specs.Prelude.{ℕ, ◌⊎◌, List}
 use Rattle.board_text.specs.PlainBoard.{PlainBoard}
-use Rattle.graphs.specs.Numbered.{IsFewBy}
-use Rattle.graphs.specs.declared.graph.Numbering.{Numbering}
 use Rattle.runs.specs.Run.{Bytes, Gave, IsUnread}
-use Rattle.runs.specs.Texts.{HasNoneAmong, IsBoardAmong}
+use Rattle.runs.specs.Texts.{HasNoneAmong, IsBoardAmong, IsWithin}
+use Rattle.runs.specs.declared.boards.BoardLimit.{BoardLimit}
 use Rattle.runs.specs.declared.fault.RunFault.{RunFault}
 
 -- the reader gave all, which is at most so many bytes and the text of this board, which is small
@@ -20,11 +19,11 @@ GaveNoneAmong IsSmall most_bytes read fault =
     ⊎ ((text : List ℕ) × Gave most_bytes read text × HasNoneAmong IsSmall text fault)
 
 -- the same of boards within a limit
-abbrev pub GaveBoard : Numbering → ℕ → Bytes → PlainBoard → Type 0
-GaveBoard limit = GaveBoardAmong (IsFewBy limit)
+abbrev pub GaveBoard : BoardLimit → ℕ → Bytes → PlainBoard → Type 0
+GaveBoard limit = GaveBoardAmong (IsWithin limit)
 
-abbrev pub GaveNoBoard : Numbering → ℕ → Bytes → RunFault → Type 0
-GaveNoBoard limit = GaveNoneAmong (IsFewBy limit)
+abbrev pub GaveNoBoard : BoardLimit → ℕ → Bytes → RunFault → Type 0
+GaveNoBoard limit = GaveNoneAmong (IsWithin limit)
 
 -- a board that is small enough was read, and this was done with it
 abbrev pub RanOn : (PlainBoard → Type 0) → ℕ → Bytes → (PlainBoard → Type 0) → Type 0

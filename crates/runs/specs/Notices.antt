@@ -1,19 +1,20 @@
 -- The notice that a large board is solved.
-use Rattle.std.specs.Prelude.{◌≡◌, ℕ, ◌&&◌, ◌⊎◌, nat_lt, if◌then◌else◌, Bool, List, [], ◌++◌}
+use Rattle.std.specs.Prelude.{◌≡◌, ℕ, ◌&&◌, ◌⊎◌, ◌-◌, nat_lt, if◌then◌else◌, Bool, List, [], ◌++◌}
 use Rattle.std.specs.Prelude.{Result}
 use Rattle.std.specs.Prelude.{Err, codes}
 use Rattle.std.specs.Fmt.{decimal}
-use Rattle.board_text.specs.PlainBoard.{PlainBoard}
-use Rattle.classes.specs.Numbers.{class_count}
+use Rattle.board_text.specs.PlainBoard.{PlainBoard, places}
+use Rattle.classes.specs.Numbers.{ways}
 use Rattle.player.specs.Prompts.{shown_line}
 use Rattle.positions.specs.Ranks.{configurations}
 use Rattle.positions.specs.declared.space.TheConstants.{MAX_CONFIGURATIONS}
 use Rattle.runs.specs.declared.fault.RunFault.{RunFault}
 
--- the line with the number of classes
+-- the line with the number of gaps: of classes of all pebbles but one
 abbrev pub size_notice : PlainBoard → List ℕ
-size_notice board = shown_line (codes "a large board: its " ++ decimal (class_count board)
-    ++ codes " classes are solved, which can take seconds")
+size_notice board = shown_line (codes "a large board: its "
+    ++ decimal (ways (board.pebbles - 1) (places board))
+    ++ codes " gaps are solved, which can take seconds")
 
 -- that line, if a person is there to see it and the board has more configurations than are ranked;
 -- else nothing

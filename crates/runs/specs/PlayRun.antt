@@ -1,8 +1,6 @@
 -- Runs of plays: the bytes read, the answer, and the bytes written.
 use Rattle.std.specs.Prelude.{◌≡◌, ℕ, ◌⊎◌, Bool, List, [], ◌++◌, Result, Ok, Err}
 use Rattle.board_text.specs.PlainBoard.{PlainBoard}
-use Rattle.graphs.specs.Numbered.{IsFewBy}
-use Rattle.graphs.specs.declared.graph.Numbering.{Numbering}
 use Rattle.player.specs.Prompts.{ArePrompts}
 use Rattle.player.specs.Transcript.{Game, PersonAsks, PersonAnswers, IsPlayed}
 use Rattle.player.specs.Laws.{KeepsToValue}
@@ -15,6 +13,8 @@ use Rattle.runs.specs.BoardRun.{FailsOn, GaveBoard, GaveNoBoard, RanOn}
 use Rattle.runs.specs.Faults.{fault_of_play}
 use Rattle.runs.specs.Notices.{notice_for}
 use Rattle.runs.specs.Run.{Bytes}
+use Rattle.runs.specs.Texts.{IsWithin}
+use Rattle.runs.specs.declared.boards.BoardLimit.{BoardLimit}
 use Rattle.runs.specs.declared.fault.RunFault.{RunFault}
 use Rattle.runs.specs.declared.fault.RunFault.TheVariants.{Memory}
 
@@ -35,14 +35,14 @@ IsBrokenOff game lines written fault =
     × (fault ≡ fault_of_play why)
 
 -- a board within the limit was read, and the play on it is over
-abbrev pub RanPlay : Numbering → Side → ℕ → Bytes → Bytes → Bytes → PlayEnd → Type 0
+abbrev pub RanPlay : BoardLimit → Side → ℕ → Bytes → Bytes → Bytes → PlayEnd → Type 0
 RanPlay limit side most_bytes board lines written end =
-    RanOn (IsFewBy limit) most_bytes board (λ b. IsOver (game_played side b) lines written end)
+    RanOn (IsWithin limit) most_bytes board (λ b. IsOver (game_played side b) lines written end)
 
 -- the faults of a play: there is no board, and nothing else is touched; or the play was broken off
-abbrev pub PlayFails : Numbering → Side → ℕ → Type 0 → Bytes → Bytes → Bytes → RunFault → Type 0
+abbrev pub PlayFails : BoardLimit → Side → ℕ → Type 0 → Bytes → Bytes → Bytes → RunFault → Type 0
 PlayFails limit side most_bytes IsUntouched board lines written fault =
-    FailsOn (IsFewBy limit) most_bytes board IsUntouched
+    FailsOn (IsWithin limit) most_bytes board IsUntouched
     (λ b. IsBrokenOff (game_played side b) lines written) fault
 
 -- the end of a play as that of a run
@@ -53,7 +53,7 @@ run_of_play (Err fault) = Err (fault_of_play fault)
 -- what a person is told in the run of a play: nothing, if there was no board; else the notice of
 -- the board, and then the prompts of the play on it, or none, if memory for its values was refused.
 -- Without a board or its values nothing else is touched
-abbrev pub IsToldInRun : Numbering → Side → ℕ → Type 0 → Bytes → Bytes → Bytes → Bool → Bool
+abbrev pub IsToldInRun : BoardLimit → Side → ℕ → Type 0 → Bytes → Bytes → Bytes → Bool → Bool
     → Result PlayEnd RunFault → List ℕ → Type 0
 IsToldInRun limit side most_bytes IsUntouched board lines written sees_size sees_choices result
     told =

@@ -1,19 +1,16 @@
 -- The report of a board: how many of its configurations have each value.
-use Rattle.std.specs.Prelude.{◌≡◌, ℕ, suc, ◌<◌, ◌≤◌, ◌↔◌, List, [], ◌∷◌, ◌++◌, length, slice_index}
-use Rattle.std.specs.Prelude.{codes}
+use Rattle.std.specs.Prelude.{◌≡◌, ℕ, suc, List, [], ◌∷◌, ◌++◌, codes}
 use Rattle.std.specs.Fmt.{decimal}
 use Rattle.board_text.specs.LineForms.{with_line_feed}
 use Rattle.board_text.specs.PlainBoard.{PlainBoard}
-use Rattle.graphs.specs.declared.graph.Numbering.{Numbering}
+use Rattle.gap_values.specs.Sizes.{AreValueCounts}
 use Rattle.positions.specs.declared.value.Value.{Value}
-use Rattle.positions.specs.declared.value.Value.TheVariants.{Finite, Forever}
-use Rattle.positions.specs.Laws.{Occurs}
 use Rattle.positions.specs.Ranks.{configurations}
 use Rattle.positions.specs.Value.{HasValue}
 use Rattle.proof_text.specs.ProofText.{claim_words}
-use Rattle.solver.specs.Sizes.{HasCount}
 use Rattle.positions.specs.Claim.{claim_of}
 use Rattle.runs.specs.Texts.{IsBoardWithin}
+use Rattle.runs.specs.declared.boards.BoardLimit.{BoardLimit}
 
 -- the value of the start, how many configurations have each
 -- finite value from 0 on, and how many last forever
@@ -22,22 +19,10 @@ pub record Report : Type 0 where
   pub counts : List ℕ
   pub forever : ℕ
 
--- the number of values from 0 to the greatest that occurs
-abbrev pub IsCountOfValues : PlainBoard → ℕ → Type 0
-IsCountOfValues board number =
-    (value : ℕ) → value < number ↔ ((other : ℕ) × (value ≤ other) × Occurs board other)
-
--- the counts are those of all configurations,
--- for each finite value from 0 to the greatest that occurs
-pub record AreCounts (board : PlainBoard) (counts : List ℕ) : Type 0 where
-  pub counted : (value : ℕ) → value < length counts
-      → HasCount board (Finite value) (slice_index counts value)
-  pub to_greatest : IsCountOfValues board (length counts)
-
+-- the value is that of the start, and the counts are those of all configurations
 pub record IsReport (board : PlainBoard) (report : Report) : Type 0 where
   pub start : HasValue board board.start report.start
-  pub counts : AreCounts board report.counts
-  pub forever : HasCount board Forever report.forever
+  pub counted : AreValueCounts board report.counts report.forever
 
 -- the line of a word and a number
 abbrev pub size_line : List ℕ → ℕ → List ℕ
@@ -84,10 +69,10 @@ pub record IsReportOf (board : PlainBoard) (text : List ℕ) : Type 0 where
 -- ---- the report of a text
 
 -- the text is that of a board within the limit, and the bytes written are its report
-abbrev pub IsReportOfText : Numbering → List ℕ → List ℕ → Type 0
+abbrev pub IsReportOfText : BoardLimit → List ℕ → List ℕ → Type 0
 IsReportOfText limit text written = (board : PlainBoard) × IsBoardWithin limit text board
     × IsReportOf board written
 
 -- the same, of a run, which answers nothing else
-abbrev pub Reports : Numbering → List ℕ → Unit {0} → List ℕ → Type 0
+abbrev pub Reports : BoardLimit → List ℕ → Unit {0} → List ℕ → Type 0
 Reports limit text answer written = IsReportOfText limit text written

@@ -2,7 +2,6 @@
 use Rattle.std.specs.Prelude.{◌≡◌, ℕ, ◌<◌, ◌≤◌, List}
 use Rattle.board_text.specs.PlainBoard.{PlainBoard}
 use Rattle.classes.specs.Numbers.{class_count}
-use Rattle.graphs.specs.declared.graph.Numbering.{Numbering}
 use Rattle.positions.specs.declared.value.Value.{Value}
 use Rattle.positions.specs.Value.{HasValue}
 use Rattle.proof_text.specs.Proof.{PlainProof}
@@ -10,6 +9,8 @@ use Rattle.proof_text.specs.ProofText.{proof_text}
 use Rattle.round_workers.specs.declared.solving.TheConstants.{MIN_SHARED}
 use Rattle.strategies.specs.Document.{IsDocumentOf}
 use Rattle.runs.specs.Texts.{IsBoardWithin, IsSmallBoard, IsWrongWithin}
+use Rattle.runs.specs.declared.boards.BoardLimit.{BoardLimit}
+use Rattle.runs.specs.declared.boards.BoardLimit.TheVariants.{Small}
 use Rattle.runs.specs.declared.fault.RunFault.{RunFault}
 use Rattle.runs.specs.declared.fault.RunFault.TheVariants.{Memory, Worker}
 
@@ -26,12 +27,12 @@ abbrev pub IsSolution : List ℕ → Value → List ℕ → Type 0
 IsSolution text value written =
     (board : PlainBoard) × IsSmallBoard text board × IsSolved board value written
 
--- the faults of a text that isn't solved: out of memory; or it is a board's within the limit, and a
--- thread wasn't started, which several workers alone can have, and with enough classes alone; or it
--- isn't such a board's
-abbrev pub CannotSolve : Numbering → ℕ → List ℕ → RunFault → Type 0
+-- the faults of a text that isn't solved: out of memory; or it is a small board's, and a thread
+-- wasn't started, which several workers alone can have, and with enough classes alone; or it isn't a
+-- board's within the limit
+abbrev pub CannotSolve : BoardLimit → ℕ → List ℕ → RunFault → Type 0
 CannotSolve limit workers text Memory = Unit {0}
 CannotSolve limit workers text Worker =
-    (1 < workers) × ((board : PlainBoard) × IsBoardWithin limit text board
+    (limit ≡ Small) × (1 < workers) × ((board : PlainBoard) × IsBoardWithin limit text board
     × (MIN_SHARED ≤ class_count board))
 CannotSolve limit workers text fault = IsWrongWithin limit text fault

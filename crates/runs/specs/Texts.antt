@@ -1,13 +1,16 @@
 -- Texts of boards and of documents in memory, and their faults.
-use Rattle.std.specs.Prelude.{◌≡◌, ◌≢◌, ℕ, ◌⊎◌, List, take, codes}
-use Rattle.board_text.specs.PlainBoard.{PlainBoard, IsBoard}
+use Rattle.std.specs.Prelude.{◌≡◌, ◌≢◌, ℕ, ◌-◌, ◌≤◌, ◌⊎◌, List, take, codes}
+use Rattle.board_text.specs.PlainBoard.{PlainBoard, IsBoard, places}
 use Rattle.board_text.specs.BoardText.{board_text}
 use Rattle.board_text.specs.BoardFaults as board_faults
 use Rattle.board_text.specs.declared.fault.BoardKind.TheVariants as board_kinds
 use Rattle.proof_text.specs.ProofFaults.{HasClassTextFault}
-use Rattle.graphs.specs.Numbered.{IsFewBy}
-use Rattle.graphs.specs.declared.graph.Numbering.{Numbering}
-use Rattle.graphs.specs.declared.graph.Numbering.TheVariants.{Ordered}
+use Rattle.classes.specs.Numbers.{ways}
+use Rattle.gap_values.specs.declared.rounds.TheConstants.{MAX_GAPS}
+use Rattle.positions.specs.Ranks.{configurations}
+use Rattle.positions.specs.declared.space.TheConstants.{MAX_CONFIGURATIONS}
+use Rattle.runs.specs.declared.boards.BoardLimit.{BoardLimit}
+use Rattle.runs.specs.declared.boards.BoardLimit.TheVariants.{Small, Large}
 use Rattle.proof_text.specs.ProofFaults as proof_faults
 use Rattle.proof_text.specs.declared.fault.ProofKind.TheVariants as proof_kinds
 use Rattle.runs.specs.declared.fault.RunFault.{RunFault}
@@ -39,29 +42,34 @@ HasNoneAmong IsSmall text fault = IsWrongAmong IsSmall text fault
 abbrev pub OfAnySize : PlainBoard → Type 0
 OfAnySize board = Unit {0}
 
--- the text is this board's, which has few enough configurations, or classes
-abbrev pub IsBoardWithin : Numbering → List ℕ → PlainBoard → Type 0
-IsBoardWithin limit = IsBoardAmong (IsFewBy limit)
+-- the board has few enough configurations, or few enough gaps: classes of all pebbles but one
+abbrev pub IsWithin : BoardLimit → PlainBoard → Type 0
+IsWithin Small board = configurations board ≤ MAX_CONFIGURATIONS
+IsWithin Large board = ways (board.pebbles - 1) (places board) ≤ MAX_GAPS
+
+-- the text is this board's, which is within the limit
+abbrev pub IsBoardWithin : BoardLimit → List ℕ → PlainBoard → Type 0
+IsBoardWithin limit = IsBoardAmong (IsWithin limit)
 
 -- the same, with few enough configurations
 abbrev pub IsSmallBoard : List ℕ → PlainBoard → Type 0
-IsSmallBoard = IsBoardWithin Ordered
+IsSmallBoard = IsBoardWithin Small
 
 -- the fault of a text that is no such board's
-abbrev pub IsWrongWithin : Numbering → List ℕ → RunFault → Type 0
-IsWrongWithin limit = IsWrongAmong (IsFewBy limit)
+abbrev pub IsWrongWithin : BoardLimit → List ℕ → RunFault → Type 0
+IsWrongWithin limit = IsWrongAmong (IsWithin limit)
 
 -- of a text that is no small board's
 abbrev pub IsWrongBoard : List ℕ → RunFault → Type 0
-IsWrongBoard = IsWrongWithin Ordered
+IsWrongBoard = IsWrongWithin Small
 
 -- the fault of a text that is no board's within the limit, or out of memory
-abbrev pub HasNoneWithin : Numbering → List ℕ → RunFault → Type 0
-HasNoneWithin limit = HasNoneAmong (IsFewBy limit)
+abbrev pub HasNoneWithin : BoardLimit → List ℕ → RunFault → Type 0
+HasNoneWithin limit = HasNoneAmong (IsWithin limit)
 
 -- of a text that is no small board's
 abbrev pub HasNoBoard : List ℕ → RunFault → Type 0
-HasNoBoard = HasNoneWithin Ordered
+HasNoBoard = HasNoneWithin Small
 
 -- ---- documents
 
@@ -74,10 +82,10 @@ IsByClasses text = take 8 text ≡ codes "proof 2\n"
 abbrev pub IsWrongProof : PlainBoard → List ℕ → RunFault → Type 0
 IsWrongProof board text (Proof fault) =
     ((IsByClasses text × HasClassTextFault board text fault.line fault.kind)
-    ⊎ ((IsByClasses text → ⊥) × IsFewBy Ordered board
+    ⊎ ((IsByClasses text → ⊥) × IsWithin Small board
     × proof_faults.HasProofFault board text fault.line fault.kind))
     × (fault.kind ≢ proof_kinds.Memory)
-IsWrongProof board text TooLarge = (IsByClasses text → ⊥) × (IsFewBy Ordered board → ⊥)
+IsWrongProof board text TooLarge = (IsByClasses text → ⊥) × (IsWithin Small board → ⊥)
 IsWrongProof board text fault = ⊥
 
 -- the fault of a text that is no document's, or out of memory

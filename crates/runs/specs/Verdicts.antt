@@ -9,7 +9,6 @@ use Rattle.proof_text.specs.Documents.{IsClassProof, IsProof}
 use Rattle.proof_text.specs.ProofText.{class_text, proof_text}
 use Rattle.class_documents.specs.ClassRules.{BreaksNoClassRule}
 use Rattle.classes.specs.Classes.{class_of}
-use Rattle.graphs.specs.Numbered.{IsFewBy}
 use Rattle.graphs.specs.declared.graph.Numbering.{Numbering}
 use Rattle.graphs.specs.declared.graph.Numbering.TheVariants.{Ordered, Classes}
 use Rattle.positions.specs.Claim.{Holds, Shows, HoldsAt}
@@ -19,7 +18,8 @@ use Rattle.proof_check.specs.CheckFaults.{IsCheckFault}
 use Rattle.proof_check.specs.declared.fault.CheckFault.TheVariants as check_faults
 use Rattle.runs.specs.Joined.{IsBoardLength}
 use Rattle.runs.specs.Output.{line_of}
-use Rattle.runs.specs.Texts.{IsWrongProof}
+use Rattle.runs.specs.Texts.{IsWithin, IsWrongProof}
+use Rattle.runs.specs.declared.boards.BoardLimit.TheVariants.{Small}
 use Rattle.runs.specs.declared.verdicts.Verdict.{Verdict}
 use Rattle.runs.specs.declared.verdicts.Verdict.TheVariants.{Accepted, Refused, RefusedByClasses}
 use Rattle.runs.specs.declared.fault.RunFault.{RunFault}
@@ -49,7 +49,7 @@ IsClassVerdict board proof (RefusedByClasses fault) = IsFirstClassFault board pr
 
 -- a document of the kind for the board, which has few configurations if each has a row
 abbrev pub IsProofOf : Numbering → PlainBoard → PlainProof → Type 0
-IsProofOf Ordered board proof = IsFewBy Ordered board × IsProof board proof
+IsProofOf Ordered board proof = IsWithin Small board × IsProof board proof
 IsProofOf Classes board proof = IsClassProof board proof
 
 abbrev pub text_of_proof : Numbering → PlainBoard → PlainProof → List ℕ

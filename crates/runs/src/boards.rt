@@ -1,17 +1,38 @@
 //! The board that a text is: of any size, or within one of two limits.
 
-ghost use Rattle.std.specs.Prelude.{◌≤◌, IfOk, IfErr};
-ghost use Rattle.classes.specs.Numbers.{class_count};
+ghost use Rattle.std.specs.Prelude.{◌-◌, ◌≤◌, ◌↔◌, IfOk, IfErr, IsTrue};
+ghost use Rattle.board_text.specs.PlainBoard.{places};
+ghost use Rattle.classes.specs.Numbers.{ways};
 ghost use Rattle.positions.specs.Ranks.{configurations};
 ghost use Rattle.runs.specs.Texts.{HasNoBoard, HasNoneAmong, HasNoneWithin, IsBoardAmong};
-ghost use Rattle.runs.specs.Texts.{IsBoardWithin, IsSmallBoard, OfAnySize};
+ghost use Rattle.runs.specs.Texts.{IsBoardWithin, IsSmallBoard, IsWithin, OfAnySize};
 
 use crate::fault::RunFault;
 use board_text::{Board, parse};
-use classes::MAX_CLASSES;
-use graphs::{Numbering, has_few};
-use positions::MAX_CONFIGURATIONS;
+use gap_values::{MAX_GAPS, has_few_gaps};
+use positions::{MAX_CONFIGURATIONS, is_small};
 use std::alloc::Global;
+
+/// How large a board may be.
+#[derive(Clone, Copy, Debug, PartialEq, Eq)]
+pub enum BoardLimit {
+    /// At most `MAX_CONFIGURATIONS` configurations.
+    Small,
+    /// At most `MAX_GAPS` gaps, which are the classes of all pebbles but one.
+    Large,
+}
+
+impl BoardLimit {
+    /// Whether `board` is within the limit.
+    fn allows(self, board: &Board) -> bool
+        ensures { IsTrue result ↔ IsWithin self board.now }
+    {
+        match self {
+            BoardLimit::Small => is_small(board),
+            BoardLimit::Large => has_few_gaps(board),
+        }
+    }
+}
 
 /// The board whose text is `text`, with any number of configurations.
 pub(crate) fn any_board(alloc: Global, text: &[u8]) -> Result<Board, RunFault>
@@ -27,19 +48,18 @@ pub fn small_board(alloc: Global, text: &[u8]) -> Result<Board, RunFault>
     ensures few { IfOk result (λ board. configurations board ≤ MAX_CONFIGURATIONS) }
     ensures fault { IfErr result (HasNoBoard text.now) }
 {
-    board_within(alloc, Numbering::Ordered, text)
+    board_within(alloc, BoardLimit::Small, text)
 }
 
-/// The board whose text is `text`. It is within the `limit`: of ordered configurations it has at
-/// most `MAX_CONFIGURATIONS`, or of classes at most `MAX_CLASSES`. Within either it has no more
-/// classes than that.
-pub fn board_within(alloc: Global, limit: Numbering, text: &[u8]) -> Result<Board, RunFault>
+/// The board whose text is `text`. It is within the `limit`, and within either it has at most
+/// `MAX_GAPS` gaps.
+pub fn board_within(alloc: Global, limit: BoardLimit, text: &[u8]) -> Result<Board, RunFault>
     ensures found { IfOk result (IsBoardWithin limit text.now) }
-    ensures classes { IfOk result (λ board. class_count board ≤ MAX_CLASSES) }
+    ensures gaps { IfOk result (λ board. ways (board.pebbles - 1) (places board) ≤ MAX_GAPS) }
     ensures fault { IfErr result (HasNoneWithin limit text.now) }
 {
     let board = parse(alloc, text)?;
-    if !has_few(&board, limit) {
+    if !limit.allows(&board) {
         return Err(RunFault::TooLarge);
     }
     Ok(board)

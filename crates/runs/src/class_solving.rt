@@ -2,7 +2,6 @@
 
 ghost use Rattle.std.specs.Prelude.{◌≡◌, ◌≤◌, ℕ, List, true, false, IfOk, IfErr, string_bytes};
 ghost use Rattle.board_text.specs.Ranges.{InRange};
-ghost use Rattle.classes.specs.Numbers.{class_count};
 ghost use Rattle.player.specs.Showing.{IsMore};
 ghost use Rattle.runs.specs.BoardRun.{GaveBoard, GaveNoBoard};
 ghost use Rattle.runs.specs.ClassSolveRun.{CannotSolveByClasses, IsClassSolution};
@@ -12,36 +11,34 @@ ghost use Rattle.runs.specs.Notices.{IsNoticed};
 ghost use Rattle.runs.specs.Run.{Ran, Fails, TellsStreams, bytes_of, stream_of};
 ghost use Rattle.runs.specs.Texts.{HasNoneWithin, IsBoardWithin};
 
-use crate::boards::board_within;
+use crate::boards::{BoardLimit, board_within};
 use crate::checking::MAX_PROOF_BYTES;
 use crate::fault::RunFault;
 use crate::notices::tell_size;
 use crate::reading::{MAX_BOARD_BYTES, read_text};
-use crate::solving::{Solved, numbered_by};
+use crate::solving::Solved;
 use crate::writing::write_text;
 use board_text::{Sink, Source};
 use class_strategies::{MadeDocument, document_by_classes_in_parts};
-use classes::MAX_CLASSES;
-use graphs::Numbering;
+use gap_values::GapValues;
 use positions::Value;
 use proof_text::print_classes_in_parts;
 use round_workers::MAX_WORKERS;
 use std::alloc::Global;
-use std::sync::Wait;
 use std::thread::Threads;
-use strategies::NumberedMoves;
+use strategies::{GapMoves, Moves};
 
-/// Reads a board of at most `MAX_CLASSES` classes, finds the value of its start by this number of
-/// `workers`, 1 to `MAX_WORKERS`, and writes its document by classes, which a check reads and
-/// accepts. They make the values and parts of the rows; the bytes written are the same for every
-/// number of them. It may wait for workers.
+/// Reads a board of at most `MAX_GAPS` gaps, finds the value of its start, and writes its document
+/// by classes, which a check reads and accepts. The number of `workers` is 1 to `MAX_WORKERS`; each
+/// closes the gaps of a part of the board, and makes a part of the rows if there are thousands of
+/// them. The bytes written are the same for every number of them.
 ///
 /// The reader and the writer must not have failed before, nor the reader have reported its end.
 /// Nothing is written before the whole text is built. If `shows` says so, a person is told on
 /// `errors` that a large board is solved, before it is; if `errors` fails, or has failed before,
 /// nothing more is written there, and the run goes on.
 pub fn run_solve_by_classes<R: Source, W: Sink, E: Sink>(
-    rt: &(impl Threads + Wait + Sync),
+    rt: &(impl Threads + Sync),
     alloc: Global,
     workers: u8,
     reader: &mut R,
@@ -55,15 +52,14 @@ pub fn run_solve_by_classes<R: Source, W: Sink, E: Sink>(
     requires writer_ready { W.has_failed writer.old ≡ false }
     ensures ok { IfOk result (Ran IsClassSolution MAX_BOARD_BYTES
         (bytes_of R.remaining reader.old reader.new) (bytes_of W.contents writer.old writer.new)) }
-    ensures fault { IfErr result (Fails IsClassSolution (CannotSolveByClasses workers)
-        MAX_BOARD_BYTES
+    ensures fault { IfErr result (Fails IsClassSolution CannotSolveByClasses MAX_BOARD_BYTES
         (bytes_of R.remaining reader.old reader.new) (bytes_of W.contents writer.old writer.new)) }
     ensures streams { TellsStreams result (R.has_failed reader.new ≡ true)
         (stream_of W.contents W.has_failed writer.old writer.new) }
     ensures notice { (told : List ℕ)
-        × IsNoticed (GaveBoard Numbering.Classes MAX_BOARD_BYTES
+        × IsNoticed (GaveBoard BoardLimit.Large MAX_BOARD_BYTES
         (bytes_of R.remaining reader.old reader.new))
-        (GaveNoBoard Numbering.Classes MAX_BOARD_BYTES
+        (GaveNoBoard BoardLimit.Large MAX_BOARD_BYTES
         (bytes_of R.remaining reader.old reader.new)) shows result told
         × IsMore E.contents E.has_failed errors.old errors.new told }
 {
@@ -76,7 +72,7 @@ pub fn run_solve_by_classes<R: Source, W: Sink, E: Sink>(
 /// The value of the start of the board whose text is `text`, and the text of its document by
 /// classes, with the notice.
 fn solve_by_classes<E: Sink>(
-    rt: &(impl Threads + Wait + Sync),
+    rt: &(impl Threads + Sync),
     alloc: Global,
     workers: u8,
     text: &[u8],
@@ -86,16 +82,16 @@ fn solve_by_classes<E: Sink>(
     requires workers { InRange 1 MAX_WORKERS workers }
     ensures ok { IfOk result (λ solved.
         IsClassSolution text.now solved.value (string_bytes solved.text)) }
-    ensures fault { IfErr result (CannotSolveByClasses workers text.now) }
+    ensures fault { IfErr result (CannotSolveByClasses text.now) }
     ensures notice { (told : List ℕ)
-        × IsNoticed (IsBoardWithin Numbering.Classes text.now)
-        (HasNoneWithin Numbering.Classes text.now) shows result told
+        × IsNoticed (IsBoardWithin BoardLimit.Large text.now)
+        (HasNoneWithin BoardLimit.Large text.now) shows result told
         × IsMore E.contents E.has_failed errors.old errors.new told }
 {
-    let board = board_within(alloc, Numbering::Classes, text)?;
+    let board = board_within(alloc, BoardLimit::Large, text)?;
     tell_size(&board, shows, errors);
-    let values = numbered_by(rt, alloc, workers, &board)?;
-    let moves = NumberedMoves::new(&board, &values);
+    let values = GapValues::of_by(rt, alloc, &board, workers)?;
+    let moves = GapMoves::new(&board, &values);
     class_solution(rt, alloc, &moves, workers)
 }
 
@@ -104,10 +100,9 @@ fn solve_by_classes<E: Sink>(
 fn class_solution(
     rt: &(impl Threads + Sync),
     alloc: Global,
-    moves: &NumberedMoves<'_>,
+    moves: &GapMoves<'_>,
     parts: u8,
 ) -> Result<Solved, RunFault>
-    requires few { class_count moves.now ≤ MAX_CLASSES }
     requires parts { 1 ≤ parts }
     ensures ok { IfOk result (λ solved.
         IsSolvedByClasses moves.now solved.value (string_bytes solved.text)) }

@@ -16,13 +16,13 @@ ghost use Rattle.strategies.specs.Meaning.{Means};
 ghost use Rattle.runs.specs.Report.{Report as CountReport, IsReport, IsReportOf, IsReportOfText};
 ghost use Rattle.runs.specs.Run.{Bytes, Ran};
 ghost use Rattle.runs.specs.SolveRun.{IsSolution, IsSolved};
-ghost use Rattle.graphs.specs.declared.graph.Numbering.{Numbering as Limit};
-ghost use Rattle.graphs.specs.declared.graph.Numbering.TheVariants.{Ordered, Classes};
 ghost use Rattle.runs.specs.Texts.{HasNoBoard, HasNoProof, IsMemory, IsSmallBoard, IsWrongBoard};
 ghost use Rattle.runs.specs.Texts.{IsBoardAmong, IsWrongWithin, OfAnySize};
 ghost use Rattle.runs.specs.ClassSolveRun.{IsClassSolution, IsUnsolvedByClasses};
 ghost use Rattle.runs.specs.CheckRun.{RanCheck};
 ghost use Rattle.runs.specs.Meaning.{AcceptsLeast, CanAnswer};
+ghost use Rattle.runs.specs.declared.boards.BoardLimit.{BoardLimit as Limit};
+ghost use Rattle.runs.specs.declared.boards.BoardLimit.TheVariants.{Small, Large};
 ghost use Rattle.runs.specs.declared.fault.RunFault.{RunFault as Fault};
 ghost use Rattle.runs.specs.declared.verdicts.Verdict.{Verdict as VerdictData};
 ghost use Rattle.runs.specs.declared.verdicts.Verdict.TheVariants.{Accepted};
@@ -52,7 +52,7 @@ pub fn solution_or_fault()
 
 /// Each board has a report. Each text of a board within a limit has one, which is the same for both
 /// limits; any other text has a fault, and no text has both. What has a report within the limit of
-/// configurations has one within that of classes.
+/// small boards has one within that of large ones.
 pub fn report_or_fault()
     ensures report { (board : PlainBoard) → IsConfiguration board board.start
         → (text : List ℕ) × IsReportOf board text }
@@ -64,8 +64,8 @@ pub fn report_or_fault()
         ((fault : Fault) × IsWrongWithin limit text fault) }
     ensures not_both { (limit : Limit) → (text : List ℕ) → (written : List ℕ) → (fault : Fault)
         → IsReportOfText limit text written → IsWrongWithin limit text fault → ⊥ }
-    ensures larger { (text : List ℕ) → (written : List ℕ) → IsReportOfText Ordered text written
-        → IsReportOfText Classes text written }
+    ensures larger { (text : List ℕ) → (written : List ℕ) → IsReportOfText Small text written
+        → IsReportOfText Large text written }
 {}
 
 /// If a text was answered with `accepted least k`, the labeller can answer k requests from the

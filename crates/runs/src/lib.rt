@@ -5,6 +5,7 @@
 mod boards;
 mod checking;
 mod class_solving;
+mod counting;
 mod fault;
 mod joined;
 mod laws;
@@ -18,7 +19,7 @@ mod solving;
 mod verdicts;
 mod writing;
 
-pub use boards::{board_within, small_board};
+pub use boards::{BoardLimit, board_within, small_board};
 pub use checking::{
     JoinedRun, MAX_JOINED_BYTES, MAX_PROOF_BYTES, run_check, run_joined, run_keeping_text,
 };

@@ -4,11 +4,11 @@ ghost use Rattle.player.specs.Showing.{IsMore};
 ghost use Rattle.runs.specs.Notices.{notice_for};
 
 use board_text::{Board, Sink};
-use classes::count_classes;
+use gap_values::count_gaps;
 use player::{write_digits, write_more, write_shown};
 use positions::is_small;
 
-/// Says that a large board is solved, with its number of classes, if `shows` says that a person is
+/// Says that a large board is solved, with its number of gaps, if `shows` says that a person is
 /// there. Of a board of at most `MAX_CONFIGURATIONS` configurations nothing is said.
 pub(crate) fn tell_size<E: Sink>(board: &Board, shows: bool, errors: &mut E)
     ensures { IsMore E.contents E.has_failed errors.old errors.new (notice_for shows board.now) }
@@ -17,7 +17,7 @@ pub(crate) fn tell_size<E: Sink>(board: &Board, shows: bool, errors: &mut E)
         return;
     }
     write_shown(errors, "a large board: its ");
-    write_digits(errors, count_classes(board));
-    write_shown(errors, " classes are solved, which can take seconds");
+    write_digits(errors, count_gaps(board));
+    write_shown(errors, " gaps are solved, which can take seconds");
     write_more(errors, "\n");
 }

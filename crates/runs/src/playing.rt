@@ -13,25 +13,25 @@ ghost use Rattle.runs.specs.PlayRun.{IsBrokenOff, IsOver, IsToldInRun, PlayFails
 ghost use Rattle.runs.specs.PlayRun.{game_played, run_of_play};
 ghost use Rattle.runs.specs.Run.{TellsFailures, bytes_of, stream_of};
 
+use crate::boards::BoardLimit;
 use crate::fault::RunFault;
 use crate::notices::tell_size;
 use crate::reading::{MAX_BOARD_BYTES, read_board};
-use crate::solving::numbered_of;
-use board_text::{Board, Sink, Source, Through};
-use graphs::Numbering;
+use board_text::{Sink, Source, Through};
+use gap_values::GapValues;
 use nested_cycles::MAX_LEVELS;
 use player::{
     PlayEnd, PlayFault, play_adversary_with_prompts, play_labeller_with_prompts,
     play_nested_with_prompts,
 };
 use positions::Side;
-use solver::NumberedValues;
 use std::alloc::Global;
+use strategies::GapMoves;
 
 /// Reads a board, finds its values and plays on it with a person,
 /// who is this `side` and writes lines.
 ///
-/// The rounds that find the values are run on this thread. No reader or writer must have failed
+/// The values are found on this thread. No reader or writer must have failed
 /// before, nor a reader have reported its end.
 /// No line is read, and nothing is written, before the values are found. Each answer is written
 /// before the next line is read.
@@ -47,10 +47,10 @@ pub fn run_play<B: Source, L: Source, W: Sink>(
     requires lines_ready { L.has_failed lines.old ≡ false }
     requires lines_unended { L.has_ended lines.old ≡ false }
     requires writer_ready { W.has_failed writer.old ≡ false }
-    ensures ok { IfOk result (RanPlay Numbering.Ordered side MAX_BOARD_BYTES
+    ensures ok { IfOk result (RanPlay BoardLimit.Small side MAX_BOARD_BYTES
         (bytes_of B.remaining board.old board.new)
         (bytes_of L.remaining lines.old lines.new) (bytes_of W.contents writer.old writer.new)) }
-    ensures fault { IfErr result (PlayFails Numbering.Ordered side MAX_BOARD_BYTES
+    ensures fault { IfErr result (PlayFails BoardLimit.Small side MAX_BOARD_BYTES
         ((lines.new ≡ lines.old) × (writer.new ≡ writer.old))
         (bytes_of B.remaining board.old board.new) (bytes_of L.remaining lines.old lines.new)
         (bytes_of W.contents writer.old writer.new)) }
@@ -58,14 +58,13 @@ pub fn run_play<B: Source, L: Source, W: Sink>(
         ((B.has_failed board.new ≡ true) ⊎ (L.has_failed lines.new ≡ true))
         (stream_of W.contents W.has_failed writer.old writer.new) }
 {
-    run_play_within(alloc, Numbering::Ordered, side, board, lines, writer)
+    run_play_within(alloc, BoardLimit::Small, side, board, lines, writer)
 }
 
-/// The same as `run_play`, on a board that may have as many configurations,
-/// or classes, as the `limit` allows.
+/// The same as `run_play`, on a board within the `limit`.
 pub fn run_play_within<B: Source, L: Source, W: Sink>(
     alloc: Global,
-    limit: Numbering,
+    limit: BoardLimit,
     side: Side,
     board: &mut B,
     lines: &mut L,
@@ -106,8 +105,8 @@ pub fn run_play_within<B: Source, L: Source, W: Sink>(
 pub struct Telling {
     /// That a large board is solved, before it is.
     pub size: bool,
-    /// A greeting before the first line is read,
-    /// and the choices after the answer to each wrong line.
+    /// A greeting before the first line is read, the value and the choices before each line, and at
+    /// the end that the play could have gone on.
     pub choices: bool,
 }
 
@@ -128,7 +127,7 @@ impl Telling {
 /// If `errors` fails, or has failed before, nothing more is written there, and the play goes on.
 pub fn run_play_with_prompts<B: Source, L: Source, W: Sink, E: Sink>(
     alloc: Global,
-    limit: Numbering,
+    limit: BoardLimit,
     side: Side,
     board: &mut B,
     lines: &mut L,
@@ -159,9 +158,9 @@ pub fn run_play_with_prompts<B: Source, L: Source, W: Sink, E: Sink>(
 {
     let board = read_board(alloc, limit, board)?;
     tell_size(&board, telling.size, errors);
-    let values = numbered_of(alloc, &board)?;
-    let shows = telling.choices;
-    Ok(play(alloc, side, &board, &values, lines, writer, shows, errors)?)
+    let values = GapValues::of(alloc, &board)?;
+    let moves = GapMoves::new(&board, &values);
+    Ok(play(alloc, side, &moves, lines, writer, telling.choices, errors)?)
 }
 
 /// Plays on the nested board of a level, 1 to `MAX_LEVELS`, with a person, who asks by lines.
@@ -192,8 +191,8 @@ pub fn run_climb<L: Source, W: Sink>(
 }
 
 /// Plays as `run_climb` does, and if `shows` says so, prompts the person by lines on `errors`: a
-/// greeting before the first line is read, and after the answer to
-/// each wrong line the pebbles that can be asked for.
+/// greeting, before each line that requests can be answered for ever and the pebbles that can be
+/// asked for, and at the end that the play could have gone on.
 ///
 /// If `errors` fails, or has failed before, nothing more is written there, and the play goes on.
 pub fn run_climb_with_prompts<L: Source, W: Sink, E: Sink>(
@@ -225,41 +224,37 @@ pub fn run_climb_with_prompts<L: Source, W: Sink, E: Sink>(
     Ok(play_nested_with_prompts(alloc, levels, lines, writer, shows, errors)?)
 }
 
-/// Plays with a person who is this `side` on `board`, whose values these are.
+/// Plays with a person who is this `side` on the board of `moves`.
 fn play<L: Source, W: Sink, E: Sink>(
     alloc: Global,
     side: Side,
-    board: &Board,
-    values: &NumberedValues,
+    moves: &GapMoves<'_>,
     lines: &mut L,
     writer: &mut W,
     shows: bool,
     errors: &mut E,
 ) -> Result<PlayEnd, PlayFault>
-    requires same_board { values.now.board ≡ board.now }
     requires lines_ready { L.has_failed lines.old ≡ false }
     requires lines_unended { L.has_ended lines.old ≡ false }
     requires writer_ready { W.has_failed writer.old ≡ false }
-    ensures ok { IfOk result (HasEnded (IsPlayed (game_played side board.now))
+    ensures ok { IfOk result (HasEnded (IsPlayed (game_played side moves.now))
         (L.remaining lines.old)
         (L.remaining lines.new)
         (W.contents writer.old) (W.contents writer.new)) }
-    ensures fault { IfErr result (BreaksOff (IsPlayed (game_played side board.now))
+    ensures fault { IfErr result (BreaksOff (IsPlayed (game_played side moves.now))
         (L.remaining lines.old) (L.remaining lines.new)
         (W.contents writer.old) (W.contents writer.new)) }
-    ensures value { IfOk result (KeepsToValue (game_played side board.now)) }
+    ensures value { IfOk result (KeepsToValue (game_played side moves.now)) }
     ensures streams { TellsBothStreams result (L.has_failed lines.new) (W.has_failed writer.new) }
-    ensures prompts { (told : List ℕ) × ArePrompts shows (game_played side board.now)
+    ensures prompts { (told : List ℕ) × ArePrompts shows (game_played side moves.now)
         (L.remaining lines.old) (L.remaining lines.new)
         (W.contents writer.old) (W.contents writer.new) result told
         × IsMore E.contents E.has_failed errors.old errors.new told }
 {
     match side {
         Side::Adversary => {
-            play_adversary_with_prompts(alloc, board, values, lines, writer, shows, errors)
+            play_adversary_with_prompts(alloc, moves, lines, writer, shows, errors)
         }
-        Side::Labeller => {
-            play_labeller_with_prompts(alloc, board, values, lines, writer, shows, errors)
-        }
+        Side::Labeller => { play_labeller_with_prompts(alloc, moves, lines, writer, shows, errors) }
     }
 }

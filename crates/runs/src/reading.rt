@@ -6,10 +6,9 @@ ghost use Rattle.runs.specs.Run.{Gave, IsUnread, bytes_of};
 ghost use Rattle.runs.specs.Texts.{OfAnySize};
 ghost use Rattle.runs.specs.declared.fault.RunFault.TheVariants.{Read, Write};
 
-use crate::boards::{any_board, board_within};
+use crate::boards::{BoardLimit, any_board, board_within};
 use crate::fault::RunFault;
 use board_text::{Board, Source, read_all};
-use graphs::Numbering;
 use std::alloc::Global;
 
 /// The most bytes of a board.
@@ -35,7 +34,7 @@ pub(crate) fn read_text<R: Source>(
 /// The board within the `limit` whose text the reader gives.
 pub(crate) fn read_board<R: Source>(
     alloc: Global,
-    limit: Numbering,
+    limit: BoardLimit,
     reader: &mut R,
 ) -> Result<Board, RunFault>
     requires ready { R.has_failed reader.old ≡ false }

@@ -7,25 +7,24 @@ ghost use Rattle.player.specs.Showing.{IsMore};
 ghost use Rattle.positions.specs.Ranks.{configurations};
 ghost use Rattle.runs.specs.BoardRun.{GaveBoard, GaveNoBoard};
 ghost use Rattle.runs.specs.Notices.{IsNoticed};
-ghost use Rattle.runs.specs.Report.{AreCounts, IsReportOf, IsReportOfText, Reports};
+ghost use Rattle.runs.specs.Inside.Counting.{IsCounted};
+ghost use Rattle.runs.specs.Report.{IsReportOf, IsReportOfText, Reports};
 ghost use Rattle.runs.specs.Report.{count_line, count_lines, end_lines, head_lines};
 ghost use Rattle.runs.specs.Report.{size_line, start_value_line};
 ghost use Rattle.runs.specs.Run.{Ran, Fails, TellsStreams, bytes_of, stream_of};
 ghost use Rattle.runs.specs.SolveRun.{CannotSolve};
 ghost use Rattle.runs.specs.Texts.{HasNoBoard, HasNoneWithin, IsBoardWithin};
 
-use crate::boards::board_within;
+use crate::boards::{BoardLimit, board_within, small_board};
+use crate::counting::{Counted, count, count_alone};
 use crate::fault::RunFault;
 use crate::notices::tell_size;
 use crate::reading::{MAX_BOARD_BYTES, read_text};
-use crate::solving::{numbered_by, numbered_of};
 use crate::writing::write_text;
 use board_text::{Board, Sink, Source, Through};
-use graphs::Numbering;
 use positions::{Claim, Value};
 use proof_text::write_claim;
 use round_workers::MAX_WORKERS;
-use solver::NumberedValues;
 use std::alloc::{AllocError, Global};
 use std::fmt::Write;
 use std::sync::Wait;
@@ -45,9 +44,9 @@ pub fn run_report_alone<R: Source, W: Sink>(
     requires reader_ready { R.has_failed reader.old ≡ false }
     requires reader_unended { R.has_ended reader.old ≡ false }
     requires writer_ready { W.has_failed writer.old ≡ false }
-    ensures ok { IfOk result (Ran (Reports Numbering.Ordered) MAX_BOARD_BYTES
+    ensures ok { IfOk result (Ran (Reports BoardLimit.Small) MAX_BOARD_BYTES
         (bytes_of R.remaining reader.old reader.new) (bytes_of W.contents writer.old writer.new)) }
-    ensures fault { IfErr result (Fails (Reports Numbering.Ordered) HasNoBoard MAX_BOARD_BYTES
+    ensures fault { IfErr result (Fails (Reports BoardLimit.Small) HasNoBoard MAX_BOARD_BYTES
         (bytes_of R.remaining reader.old reader.new) (bytes_of W.contents writer.old writer.new)) }
     ensures streams { TellsStreams result (R.has_failed reader.new ≡ true)
         (stream_of W.contents W.has_failed writer.old writer.new) }
@@ -72,23 +71,22 @@ pub fn run_report<R: Source, W: Sink>(
     requires reader_ready { R.has_failed reader.old ≡ false }
     requires reader_unended { R.has_ended reader.old ≡ false }
     requires writer_ready { W.has_failed writer.old ≡ false }
-    ensures ok { IfOk result (Ran (Reports Numbering.Ordered) MAX_BOARD_BYTES
+    ensures ok { IfOk result (Ran (Reports BoardLimit.Small) MAX_BOARD_BYTES
         (bytes_of R.remaining reader.old reader.new) (bytes_of W.contents writer.old writer.new)) }
-    ensures fault { IfErr result (Fails (Reports Numbering.Ordered)
-        (CannotSolve Numbering.Ordered workers) MAX_BOARD_BYTES
+    ensures fault { IfErr result (Fails (Reports BoardLimit.Small)
+        (CannotSolve BoardLimit.Small workers) MAX_BOARD_BYTES
         (bytes_of R.remaining reader.old reader.new) (bytes_of W.contents writer.old writer.new)) }
     ensures streams { TellsStreams result (R.has_failed reader.new ≡ true)
         (stream_of W.contents W.has_failed writer.old writer.new) }
 {
-    run_report_within(rt, alloc, Numbering::Ordered, workers, reader, writer)
+    run_report_within(rt, alloc, BoardLimit::Small, workers, reader, writer)
 }
 
-/// The same as `run_report`, of a board that may have as many configurations,
-/// or classes, as the `limit` allows.
+/// The same as `run_report`, of a board within the `limit`.
 pub fn run_report_within<R: Source, W: Sink>(
     rt: &(impl Threads + Wait + Sync),
     alloc: Global,
-    limit: Numbering,
+    limit: BoardLimit,
     workers: u8,
     reader: &mut R,
     writer: &mut W,
@@ -124,7 +122,7 @@ pub fn run_report_within<R: Source, W: Sink>(
 pub fn run_report_with_notice<R: Source, W: Sink, E: Sink>(
     rt: &(impl Threads + Wait + Sync),
     alloc: Global,
-    limit: Numbering,
+    limit: BoardLimit,
     workers: u8,
     reader: &mut R,
     writer: &mut W,
@@ -163,12 +161,12 @@ pub fn run_report_with_notice<R: Source, W: Sink, E: Sink>(
 /// The report of the board whose text is `text`. Its values are found on this thread.
 pub fn report_text_alone(alloc: Global, text: &[u8]) -> Result<String, RunFault>
     ensures report { IfOk result (λ report.
-        IsReportOfText Numbering.Ordered text.now (string_bytes report)) }
+        IsReportOfText BoardLimit.Small text.now (string_bytes report)) }
     ensures fault { IfErr result (HasNoBoard text.now) }
 {
-    let board = board_within(alloc, Numbering::Ordered, text)?;
-    let values = numbered_of(alloc, &board)?;
-    Ok(report_of(alloc, &board, &values)?)
+    let board = small_board(alloc, text)?;
+    let counted = count_alone(alloc, &board)?;
+    Ok(report_of(alloc, &board, &counted)?)
 }
 
 /// The same as `report_text_alone`, by this number of `workers`,
@@ -181,18 +179,17 @@ pub fn report_text(
 ) -> Result<String, RunFault>
     requires workers { InRange 1 MAX_WORKERS workers }
     ensures report { IfOk result (λ report.
-        IsReportOfText Numbering.Ordered text.now (string_bytes report)) }
-    ensures fault { IfErr result (CannotSolve Numbering.Ordered workers text.now) }
+        IsReportOfText BoardLimit.Small text.now (string_bytes report)) }
+    ensures fault { IfErr result (CannotSolve BoardLimit.Small workers text.now) }
 {
-    report_text_within(rt, alloc, Numbering::Ordered, workers, text)
+    report_text_within(rt, alloc, BoardLimit::Small, workers, text)
 }
 
-/// The same as `report_text`, of a board that may have as many configurations,
-/// or classes, as the `limit` allows.
+/// The same as `report_text`, of a board within the `limit`.
 pub fn report_text_within(
     rt: &(impl Threads + Wait + Sync),
     alloc: Global,
-    limit: Numbering,
+    limit: BoardLimit,
     workers: u8,
     text: &[u8],
 ) -> Result<String, RunFault>
@@ -208,7 +205,7 @@ pub fn report_text_within(
 fn report_text_with_notice<E: Sink>(
     rt: &(impl Threads + Wait + Sync),
     alloc: Global,
-    limit: Numbering,
+    limit: BoardLimit,
     workers: u8,
     text: &[u8],
     shows: bool,
@@ -223,22 +220,20 @@ fn report_text_with_notice<E: Sink>(
 {
     let board = board_within(alloc, limit, text)?;
     tell_size(&board, shows, errors);
-    let values = numbered_by(rt, alloc, workers, &board)?;
-    Ok(report_of(alloc, &board, &values)?)
+    let counted = count(rt, alloc, limit, workers, &board)?;
+    Ok(report_of(alloc, &board, &counted)?)
 }
 
-/// The report of `board`, whose values these are.
-fn report_of(alloc: Global, board: &Board, values: &NumberedValues) -> Result<String, AllocError>
-    requires { values.now.board ≡ board.now }
+/// The report of `board`, of which this was counted.
+fn report_of(alloc: Global, board: &Board, counted: &Counted) -> Result<String, AllocError>
+    requires { IsCounted board.now counted.now }
     ensures { IfOk result (λ text. IsReportOf board.now (string_bytes text)) }
 {
-    let start = values.of(board.start());
-    let forever = values.count(Value::Forever);
     let mut text = String::new(alloc);
     write_head(&mut text, board)?;
-    write_start(&mut text, start)?;
-    write_counts(&mut text, values)?;
-    write_end(&mut text, forever)?;
+    write_start(&mut text, counted.start)?;
+    write_counts(&mut text, counted.sizes.finite.as_slice())?;
+    write_end(&mut text, counted.sizes.forever)?;
     Ok(text)
 }
 
@@ -278,23 +273,20 @@ fn write_start(text: &mut String, start: Value) -> Result<(), AllocError>
     text.push_str("\n")
 }
 
-/// Writes a line for each finite value from 0 to the greatest that occurs.
-fn write_counts(text: &mut String, values: &NumberedValues) -> Result<(), AllocError>
-    ensures { OnOk result ((counts : List ℕ) × AreCounts values.now.board counts
-        × (string_bytes text.new ≡ string_bytes text.old ++ count_lines 0 counts)) }
+/// Writes a line for each of the numbers of configurations `counts`, which are those of the values
+/// from 0 on.
+fn write_counts(text: &mut String, counts: &[u64]) -> Result<(), AllocError>
+    ensures { OnOk result (string_bytes text.new ≡ string_bytes text.old
+        ++ count_lines 0 counts.now) }
 {
-    let Some(greatest) = values.greatest_finite() else {
-        return Ok(());
-    };
-    for value in 0..=greatest {
-        let count = values.count(Value::Finite(value));
-        write_count(text, value, count)?;
+    for value in 0..counts.len() {
+        write_count(text, value as u64, counts[value])?;
     }
     Ok(())
 }
 
 /// Writes the line of a value and the number of configurations that have it.
-fn write_count(text: &mut String, value: u32, count: u64) -> Result<(), AllocError>
+fn write_count(text: &mut String, value: u64, count: u64) -> Result<(), AllocError>
     ensures { OnOk result (string_bytes text.new ≡ string_bytes text.old
         ++ count_line value count) }
 {

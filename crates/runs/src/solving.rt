@@ -11,7 +11,7 @@ ghost use Rattle.runs.specs.SolveRun.{CannotSolve, IsSolution, IsSolved};
 ghost use Rattle.runs.specs.Inside.SolveRun.{IsRefused};
 ghost use Rattle.runs.specs.Texts.{HasNoBoard, IsMemory};
 
-use crate::boards::small_board;
+use crate::boards::{BoardLimit, small_board};
 use crate::fault::RunFault;
 use crate::reading::{MAX_BOARD_BYTES, read_text};
 use crate::writing::write_text;
@@ -74,7 +74,7 @@ pub fn run_solve<R: Source, W: Sink>(
     ensures ok { IfOk result (Ran IsSolution MAX_BOARD_BYTES
         (bytes_of R.remaining reader.old reader.new) (bytes_of W.contents writer.old writer.new)) }
     ensures fault { IfErr result (Fails IsSolution
-        (CannotSolve Numbering.Ordered workers) MAX_BOARD_BYTES
+        (CannotSolve BoardLimit.Small workers) MAX_BOARD_BYTES
         (bytes_of R.remaining reader.old reader.new) (bytes_of W.contents writer.old writer.new)) }
     ensures streams { TellsStreams result (R.has_failed reader.new ≡ true)
         (stream_of W.contents W.has_failed writer.old writer.new) }
@@ -115,7 +115,7 @@ pub fn solve_text(
     requires workers { InRange 1 MAX_WORKERS workers }
     ensures ok { IfOk result (λ solved.
         IsSolution text.now solved.value (string_bytes solved.text)) }
-    ensures fault { IfErr result (CannotSolve Numbering.Ordered workers text.now) }
+    ensures fault { IfErr result (CannotSolve BoardLimit.Small workers text.now) }
 {
     if workers == 1 {
         return solve_text_alone(alloc, text);
@@ -169,9 +169,9 @@ fn values_by(
     requires few { configurations board.now ≤ MAX_CONFIGURATIONS }
     requires workers { InRange 1 MAX_WORKERS workers }
     ensures values { IfOk result (λ values. values ≡ board.now) }
-    ensures refused { IfErr result (IsRefused workers board.now) }
+    ensures refused { IfErr result (IsRefused BoardLimit.Small workers board.now) }
 {
-    let values = solve_classes(rt, alloc, board, workers as u32, &NoGate)?;
+    let values = numbered_by(rt, alloc, workers, board)?;
     values_with_tables(alloc, board, values)
 }
 
@@ -200,7 +200,7 @@ fn values_with_tables(
     Ok(Values::new(values, board))
 }
 
-/// The values of a board, by this number of workers. One is this thread, and shares nothing.
+/// The values of a board, by this number of workers, which share the rounds over its graph.
 pub(crate) fn numbered_by(
     rt: &(impl Threads + Wait + Sync),
     alloc: Global,
@@ -210,16 +210,13 @@ pub(crate) fn numbered_by(
     requires few { class_count board.now ≤ MAX_CLASSES }
     requires workers { InRange 1 MAX_WORKERS workers }
     ensures values { IfOk result (λ values. values ≡ numbered board.now Numbering.Classes) }
-    ensures refused { IfErr result (IsRefused workers board.now) }
+    ensures refused { IfErr result (IsRefused BoardLimit.Small workers board.now) }
 {
-    if workers == 1 {
-        return numbered_of(alloc, board);
-    }
     Ok(solve_classes(rt, alloc, board, workers as u32, &NoGate)?)
 }
 
 /// The values of a board, by as many rounds as it takes.
-pub(crate) fn numbered_of(alloc: Global, board: &Board) -> Result<NumberedValues, RunFault>
+fn numbered_of(alloc: Global, board: &Board) -> Result<NumberedValues, RunFault>
     requires { class_count board.now ≤ MAX_CLASSES }
     ensures values { IfOk result (λ values. values ≡ numbered board.now Numbering.Classes) }
     ensures memory { IfErr result IsMemory }

@@ -3,7 +3,6 @@
 ghost use Rattle.std.specs.Prelude.{◌≡◌, ◌≤◌, IfOk, IfErr, string_bytes};
 ghost use Rattle.proof_text.specs.Documents.{IsClassDocument, IsDocument};
 ghost use Rattle.proof_text.specs.ClassProof.{plain_class_proof};
-ghost use Rattle.graphs.specs.Numbered.{IsFewBy};
 ghost use Rattle.proof_text.specs.Proof.{plain_proof};
 ghost use Rattle.positions.specs.Ranks.{configurations};
 ghost use Rattle.runs.specs.Verdicts.{CannotAnswer, IsAnswered, IsChecked, IsClassVerdict};
@@ -17,8 +16,7 @@ use crate::joined::board_length;
 use crate::output::line;
 use board_text::Board;
 use class_documents::{ClassFault, check_classes};
-use graphs::{Numbering, has_few};
-use positions::{MAX_CONFIGURATIONS, Space};
+use positions::{MAX_CONFIGURATIONS, Space, is_small};
 use proof_check::{CheckFault, Shown, check};
 use proof_text::{ClassProof, Proof, parse, parse_classes};
 use std::alloc::Global;
@@ -74,7 +72,7 @@ pub fn check_text(
     if text.starts_with(b"proof 2\n") {
         return check_by_classes(rt, alloc, board, text);
     }
-    if !has_few(board, Numbering::Ordered) {
+    if !is_small(board) {
         return Err(RunFault::TooLarge);
     }
     check_by_ranks(rt, alloc, board, text)
@@ -117,7 +115,7 @@ fn check_by_ranks(
     board: &Board,
     text: &[u8],
 ) -> Result<VerdictLine, RunFault>
-    requires few { IsFewBy Numbering.Ordered board.now }
+    requires few { configurations board.now ≤ MAX_CONFIGURATIONS }
     requires begins { IsByClasses text.now → ⊥ }
     ensures checked { IfOk result (λ answer. IsChecked board.now text.now answer.verdict
         (string_bytes answer.line)) }

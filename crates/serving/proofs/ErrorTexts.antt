@@ -5,7 +5,7 @@ use Rattle.std.specs.Prelude.{Err, Option, Result, ◌⊎◌}
 use Rattle.board_text.specs.LineForms.{with_line_feed}
 use Rattle.board_text.specs.PlainBoard.{PlainBoard}
 use Rattle.command_line.specs.declared.asked.Job.{Job}
-use Rattle.graphs.specs.declared.graph.Numbering.{Numbering}
+use Rattle.runs.specs.declared.boards.BoardLimit.{BoardLimit}
 use Rattle.player.specs.Prompts.{ArePrompts}
 use Rattle.player.specs.Showing.{AreForPerson, HasNoControl, IsMore, shown}
 use Rattle.player.specs.declared.end.PlayEnd.{PlayEnd}
@@ -103,7 +103,7 @@ notice_for_person IsGiven IsMissing shows result told (inr (fault, broke, missin
     subst (AreForPerson shows) (sym none) (nothing_for_person shows)
 
 -- and so is all that is told in a play
-pub told_in_run : (limit : Numbering) (side : Side) (most_bytes : ℕ) (Untouched : Type 0) (board lines written : Bytes)
+pub told_in_run : (limit : BoardLimit) (side : Side) (most_bytes : ℕ) (Untouched : Type 0) (board lines written : Bytes)
     (size choices : Bool) (result : Result PlayEnd RunFault) (told : List ℕ)
     → IsToldInRun limit side most_bytes Untouched board lines written size choices result told
     → AreForPerson (choices || size) told

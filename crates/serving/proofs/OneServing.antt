@@ -58,10 +58,9 @@ use Rattle.serving.specs.Serving.{ServesAnyWords, ServesWords, is_large, is_type
 use Rattle.serving.specs.Servings.{AreKnown, HaveOwnText}
 use Rattle.runs.specs.SolveRun.{CannotSolve, IsSolution}
 use Rattle.runs.specs.Texts.{HasNoneAmong, HasNoProof, IsBoardAmong, IsBoardWithin, IsWrongAmong, IsWrongBoard}
-use Rattle.runs.specs.Texts.{IsWrongProof, IsWrongWithin, OfAnySize}
-use Rattle.graphs.specs.Numbered.{IsFewBy}
-use Rattle.graphs.specs.declared.graph.Numbering.{Numbering}
-use Rattle.graphs.specs.declared.graph.Numbering.TheVariants.{Ordered}
+use Rattle.runs.specs.Texts.{IsWithin, IsWrongProof, IsWrongWithin, OfAnySize}
+use Rattle.runs.specs.declared.boards.BoardLimit.{BoardLimit}
+use Rattle.runs.specs.declared.boards.BoardLimit.TheVariants.{Small}
 use Rattle.runs.specs.Verdicts.{BeginsWithBoard, CannotAnswer, IsAnswered, IsChecked, IsWrongText}
 use Rattle.runs.specs.declared.checking.TheConstants.{MAX_JOINED_BYTES, MAX_PROOF_BYTES}
 use Rattle.runs.specs.declared.reading.TheConstants.{MAX_BOARD_BYTES}
@@ -87,7 +86,7 @@ check_breaks fault = refl
 
 -- ---- the texts of a run
 
-wrong_solving : (limit : Numbering) (workers : ℕ) (text : List ℕ) (fault : RunFault)
+wrong_solving : (limit : BoardLimit) (workers : ℕ) (text : List ℕ) (fault : RunFault)
     → CannotSolve limit workers text fault
     → (fault ≡ Memory) ⊎ (fault ≡ Worker) ⊎ IsWrongWithin limit text fault
 wrong_solving limit workers text Memory h = inl refl
@@ -100,17 +99,17 @@ wrong_solving limit workers text Write h = absurd h
 wrong_solving limit workers text DocumentTooLarge h = absurd h
 wrong_solving limit workers text Limit h = absurd h
 
-wrong_class_solving : (workers : ℕ) (text : List ℕ) (fault : RunFault) → CannotSolveByClasses workers text fault
+wrong_class_solving : (text : List ℕ) (fault : RunFault) → CannotSolveByClasses text fault
     → (fault ≡ Memory) ⊎ (fault ≡ Worker) ⊎ IsUnsolvedByClasses text fault
-wrong_class_solving workers text Memory h = inl refl
-wrong_class_solving workers text Worker h = inr (inl refl)
-wrong_class_solving workers text (Board fault) h = inr (inr h)
-wrong_class_solving workers text TooLarge h = inr (inr h)
-wrong_class_solving workers text DocumentTooLarge h = inr (inr h)
-wrong_class_solving workers text (Proof fault) h = absurd h
-wrong_class_solving workers text Read h = absurd h
-wrong_class_solving workers text Write h = absurd h
-wrong_class_solving workers text Limit h = absurd h
+wrong_class_solving text Memory h = inl refl
+wrong_class_solving text Worker h = absurd h
+wrong_class_solving text (Board fault) h = inr (inr h)
+wrong_class_solving text TooLarge h = inr (inr h)
+wrong_class_solving text DocumentTooLarge h = inr (inr h)
+wrong_class_solving text (Proof fault) h = absurd h
+wrong_class_solving text Read h = absurd h
+wrong_class_solving text Write h = absurd h
+wrong_class_solving text Limit h = absurd h
 
 wrong_board : (IsSmall : PlainBoard → Type 0) (text : List ℕ) (fault : RunFault) → HasNoneAmong IsSmall text fault
     → (fault ≡ Memory) ⊎ IsWrongAmong IsSmall text fault
@@ -522,7 +521,7 @@ module _ (game : Game) (input output : Stream) (bytes taken : List ℕ) (old : i
       go (Err fault) (why, breaks, told) same = play_broken why (same ∙ ap Broken told) breaks
 
 -- the outcome and the transcript for the texts of a board and of a play
-abbrev BoardPlayEnds : Numbering → Side → List ℕ → List ℕ → Outcome → List ℕ → Type 0
+abbrev BoardPlayEnds : BoardLimit → Side → List ℕ → List ℕ → Outcome → List ℕ → Type 0
 BoardPlayEnds limit side lines board_bytes outcome text =
     ((MAX_BOARD_BYTES < length board_bytes) × (outcome ≡ Broken Limit) × (text ≡ []))
     ⊎ ((length board_bytes ≤ MAX_BOARD_BYTES) × (fault : RunFault) × IsWrongWithin limit board_bytes fault ×
@@ -534,7 +533,7 @@ is_game : (side : Side) (board : PlainBoard) → IsBoard board → IsGame (game_
 is_game Labeller board is = is
 is_game Adversary board is = is
 
-one_board_play : (limit : Numbering) (side : Side) (lines b : List ℕ) → IsOne (BoardPlayEnds limit side lines b)
+one_board_play : (limit : BoardLimit) (side : Side) (lines b : List ℕ) → IsOne (BoardPlayEnds limit side lines b)
 one_board_play limit side lines b outcome other text line (inl one) (inl two) = (one.1 ∙ sym two.1, one.2 ∙ sym two.2)
 one_board_play limit side lines b outcome other text line (inl one) (inr (inl two)) =
     absurd (omega (arith, one.0, two.0))
@@ -592,7 +591,7 @@ module _ (large : Bool) (side : Side) (input output : Stream) (lines taken : Lis
     no_play fault same (inl unread) stays =
         let over = unread_is MAX_BOARD_BYTES read bytes fault outcome board_old plain same unread in
         ([], stayed output taken had stays, inl (over.0, over.1, refl))
-    no_play fault same (inr (text, gave, none)) stays = elim (wrong_board (IsFewBy (limit_of large)) text fault none) [
+    no_play fault same (inr (text, gave, none)) stays = elim (wrong_board (IsWithin (limit_of large)) text fault none) [
       | inl memory ↦ absurd (fair.memory (same ∙ ap Broken memory))
       | inr bad ↦
           let all : text ≡ bytes = gave_all read bytes text board_old gave.0 in (
@@ -657,7 +656,7 @@ solving_one text answer other line more is also = (
   (one_solution text answer other line more is also).1,
 )
 
-reporting_one : (limit : Numbering) (text : List ℕ) → (answer other : Unit {0}) (line more : List ℕ)
+reporting_one : (limit : BoardLimit) (text : List ℕ) → (answer other : Unit {0}) (line more : List ℕ)
     → Reports limit text answer line → Reports limit text other more
     → (outcome_of_run (Ok answer) ≡ outcome_of_run (Ok other)) × (line ≡ more)
 reporting_one limit text answer other line more is also = (refl, one_report text limit limit line more is also)
@@ -698,15 +697,15 @@ module _ (at : List ℕ → File) (known : AreKnown at) (input output other_inpu
       → Solves workers large (at path) output outcome → Solves more large (at second) other_output other
       → AreAlike outcome other output other_output
   two_solved workers more false path second same unread unread_too is also =
-      two_solved_as IsSolution (CannotSolve Ordered workers) (CannotSolve Ordered more) IsWrongBoard
-      (wrong_solving Ordered workers) (wrong_solving Ordered more)
+      two_solved_as IsSolution (CannotSolve Small workers) (CannotSolve Small more) IsWrongBoard
+      (wrong_solving Small workers) (wrong_solving Small more)
       (λ bytes. one_end outcome_of_run IsSolution IsWrongBoard MAX_BOARD_BYTES bytes (solving_one bytes)
-      (one_wrong Ordered bytes)
-      (λ answer line fault says wrong. not_wrong Ordered bytes says.0 says.1 fault wrong))
+      (one_wrong Small bytes)
+      (λ answer line fault says wrong. not_wrong Small bytes says.0 says.1 fault wrong))
       path second same unread unread_too is also
   two_solved workers more true path second same unread unread_too is also =
-      two_solved_as IsClassSolution (CannotSolveByClasses workers) (CannotSolveByClasses more) IsUnsolvedByClasses
-      (wrong_class_solving workers) (wrong_class_solving more)
+      two_solved_as IsClassSolution CannotSolveByClasses CannotSolveByClasses IsUnsolvedByClasses
+      wrong_class_solving wrong_class_solving
       (λ bytes. one_end outcome_of_run IsClassSolution IsUnsolvedByClasses MAX_BOARD_BYTES bytes
       (λ answer other line more is also. (refl, (one_class_solution bytes answer other line more is also).1))
       (one_unsolved bytes) (class_solution_or_fault bytes))

@@ -3,8 +3,6 @@ use Rattle.std.specs.Prelude.{◌≡◌, ◌≢◌, ℕ, ◌⊎◌, ◌↔◌, B
 use Rattle.command_line.specs.declared.asked.Job.{Job}
 use Rattle.command_line.specs.declared.asked.Job.TheVariants.{Joined, Check, Nested, Solve, Report}
 use Rattle.command_line.specs.declared.asked.Job.TheVariants.{Play, Climb}
-use Rattle.graphs.specs.declared.graph.Numbering.{Numbering}
-use Rattle.graphs.specs.declared.graph.Numbering.TheVariants.{Ordered, Classes}
 use Rattle.player.specs.Transcript.{PersonClimbs}
 use Rattle.positions.specs.declared.side.Side.{Side}
 use Rattle.positions.specs.declared.value.Value.{Value}
@@ -18,6 +16,8 @@ use Rattle.runs.specs.Report.{Reports}
 use Rattle.runs.specs.Run.{Bytes, Fails, Ran, Stream, Wrote, WrotePrefix}
 use Rattle.runs.specs.SolveRun.{CannotSolve, IsSolution}
 use Rattle.runs.specs.Verdicts.{CannotAnswer, IsAnswered}
+use Rattle.runs.specs.declared.boards.BoardLimit.{BoardLimit}
+use Rattle.runs.specs.declared.boards.BoardLimit.TheVariants.{Small, Large}
 use Rattle.runs.specs.declared.checking.TheConstants.{MAX_JOINED_BYTES, MAX_PROOF_BYTES}
 use Rattle.runs.specs.declared.reading.TheConstants.{MAX_BOARD_BYTES}
 use Rattle.runs.specs.declared.fault.RunFault.{RunFault}
@@ -68,8 +68,8 @@ SolutionOf false = IsSolution
 
 -- the faults of a text that isn't solved so
 abbrev pub CannotSolveAs : Bool → ℕ → List ℕ → RunFault → Type 0
-CannotSolveAs true workers = CannotSolveByClasses workers
-CannotSolveAs false workers = CannotSolve Ordered workers
+CannotSolveAs true workers = CannotSolveByClasses
+CannotSolveAs false workers = CannotSolve Small workers
 
 -- the board was solved by this number of workers
 abbrev pub Solves : ℕ → Bool → File → Stream → Outcome → Type 0
@@ -80,10 +80,10 @@ Solves workers large board output outcome =
     outcome
     × WritesWhole output outcome
 
--- a large board is limited by its classes, any other by its configurations
-abbrev pub limit_of : Bool → Numbering
-limit_of true = Classes
-limit_of false = Ordered
+-- a large board is limited by its gaps, any other by its configurations
+abbrev pub limit_of : Bool → BoardLimit
+limit_of true = Large
+limit_of false = Small
 
 -- the values of the board were counted by this number of workers
 abbrev pub Counts : ℕ → Bool → File → Stream → Outcome → Type 0

@@ -62,7 +62,7 @@ is_typed job = false
 abbrev pub lacks_input : Terminals → Job → Bool
 lacks_input terminals job = terminals.input_closed && is_typed job
 
--- the job asks for the limit of classes
+-- the job asks for the limit of large boards
 abbrev pub is_large : Job → Bool
 is_large (Solve workers large board) = large
 is_large (Report workers large board) = large

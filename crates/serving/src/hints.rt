@@ -20,6 +20,11 @@ const START: &str =
     "line 4 must be `start` and a place for each pebble: a label below V, or `-` (in `board 2`, \
     once at least, and never in `board 1`), with single spaces and none at the end";
 
+/// The form of the first line.
+const VERSION: &str =
+    "line 1 must be `board 1`, or `board 2` if some pebble has no label, and nothing may come \
+    before it";
+
 /// The form of a line of a pair.
 const BEATS: &str = "the line must be `beats X Y`, with labels X and Y below V, or `end`";
 
@@ -35,7 +40,7 @@ pub(crate) fn board_hint(fault: BoardFault, inputs: &Inputs<'_, '_>) -> Parts {
     let board = &inputs.board;
     let line = board.line(fault.line);
     match fault.kind {
-        BoardKind::Version => words(version_hint(inputs)),
+        BoardKind::Version => version_hint(inputs, line),
         BoardKind::Labels => number_hint(
             line,
             "labels",
@@ -58,25 +63,25 @@ pub(crate) fn board_hint(fault: BoardFault, inputs: &Inputs<'_, '_>) -> Parts {
 }
 
 /// The words for a first line that is none of a board's.
-fn version_hint(inputs: &Inputs<'_, '_>) -> &'static str {
+fn version_hint(inputs: &Inputs<'_, '_>, line: Option<&[u8]>) -> Parts {
     let text = inputs.board.text;
     if text.starts_with("proof ".as_bytes()) {
-        return match inputs.given {
-            Given::Apart if inputs.board.name != inputs.other.name => {
-                "it is a strategy document and no board; are the two files exchanged?"
-            }
-            Given::Joined => {
-                "it begins with a strategy document, and the board must come before that"
-            }
-            _ => "it is a strategy document and no board",
-        };
+        return words(document_in_its_place(inputs));
     }
     match first_line_hint(text) {
-        Some(mistake) => mistake,
-        None => {
-            "line 1 must be `board 1`, or `board 2` if some pebble has no label, and nothing may \
-            come before it"
+        Some(mistake) => words(mistake),
+        None => form_hint(line, VERSION),
+    }
+}
+
+/// The words for a document in place of the board.
+fn document_in_its_place(inputs: &Inputs<'_, '_>) -> &'static str {
+    match inputs.given {
+        Given::Apart if inputs.board.name != inputs.other.name => {
+            "it is a strategy document and no board; are the two files exchanged?"
         }
+        Given::Joined => "it begins with a strategy document, and the board must come before that",
+        _ => "it is a strategy document and no board",
     }
 }
 

@@ -27,10 +27,9 @@ pub(crate) enum Given {
 /// The boards that a job takes.
 #[derive(Clone, Copy, PartialEq, Eq)]
 pub(crate) enum Taken {
-    /// Those with few enough configurations; after the word `--large` those with few enough
-    /// classes.
+    /// Those with few enough configurations; after the word `--large` those with few enough gaps.
     SmallUnlessLarge,
-    /// Those with few enough classes.
+    /// Those with few enough gaps.
     Large,
     /// Those with few enough configurations; with a document by classes, all.
     SmallUnlessByClasses,

@@ -21,12 +21,11 @@ use crate::serving::Terminals;
 use crate::watched::Watched;
 use board_text::{MAX_PEBBLES, Sink, Source};
 use command_line::{Job, MAX_WORKERS};
-use graphs::Numbering;
 use nested_cycles::{MAX_BOARD_LEVELS, MAX_LEVELS};
 use player::write_line;
 use positions::{Side, Value};
 use runs::{
-    JoinedRun, MAX_BOARD_BYTES, MAX_PROOF_BYTES, RunFault, Telling, run_check,
+    BoardLimit, JoinedRun, MAX_BOARD_BYTES, MAX_PROOF_BYTES, RunFault, Telling, run_check,
     run_climb_with_prompts, run_keeping_text, run_nested, run_play_with_prompts,
     run_report_with_notice, run_solve, run_solve_by_classes,
 };
@@ -329,13 +328,13 @@ fn solve_as<R: Source, O: Sink, E: Sink>(
 }
 
 /// The limit of a board that is said to be `large`, or isn't.
-fn limit_of(large: bool) -> Numbering
+fn limit_of(large: bool) -> BoardLimit
     ensures { result ≡ limit_of large }
 {
     if large {
-        Numbering::Classes
+        BoardLimit::Large
     } else {
-        Numbering::Ordered
+        BoardLimit::Small
     }
 }
 

@@ -8,7 +8,7 @@ use crate::outcome::Outcome;
 use crate::parts::{Part, Parts, around, two_words, words};
 use crate::proof_hints::{class_refusal_hint, proof_hint, refusal_hint};
 use crate::sizes::Sizes;
-use classes::MAX_CLASSES;
+use gap_values::MAX_GAPS;
 use positions::MAX_CONFIGURATIONS;
 use runs::{MAX_BOARD_BYTES, MAX_JOINED_BYTES, MAX_PROOF_BYTES, RunFault, Verdict};
 
@@ -21,7 +21,7 @@ const _: () = prove!(MAX_JOINED_BYTES == 134_217_728);
 
 const _: () = prove!(MAX_CONFIGURATIONS == 1_048_576);
 
-const _: () = prove!(MAX_CLASSES == 16_777_216);
+const _: () = prove!(MAX_GAPS == 536_870_912);
 
 /// The limits of a board, in words.
 pub(crate) const BOARD_LIMITS: &str = "a board has at most 1048576 bytes";
@@ -194,8 +194,8 @@ fn too_large_hint(taken: Taken, board: &[u8]) -> Parts {
     };
     match taken {
         Taken::SmallUnlessByClasses => without_rows_for_classes(sizes),
-        Taken::SmallUnlessLarge if sizes.has_few_classes() => with_few_classes(sizes),
-        Taken::SmallUnlessLarge | Taken::Large => with_many_classes(sizes),
+        Taken::SmallUnlessLarge if sizes.has_few_gaps() => with_few_gaps(sizes),
+        Taken::SmallUnlessLarge | Taken::Large => with_many_gaps(sizes),
     }
 }
 
@@ -221,25 +221,25 @@ fn without_rows_for_classes(sizes: Sizes) -> Parts {
     )
 }
 
-/// The words for a board with too many configurations, whose classes are few enough.
-fn with_few_classes(sizes: Sizes) -> Parts {
+/// The words for a board with too many configurations, whose gaps are few enough.
+fn with_few_gaps(sizes: Sizes) -> Parts {
     [
         Part::Number(sizes.configurations()),
         Part::Words(" configurations, and the most is 1048576; but its "),
-        Part::Number(sizes.classes()),
-        Part::Words(" classes are few enough for `--large`"),
+        Part::Number(sizes.gaps()),
+        Part::Words(" gaps are few enough for `--large`"),
         Part::Words(ending_hint(sizes)),
         Part::Words(""),
     ]
 }
 
-/// The words for a board with too many classes.
-fn with_many_classes(sizes: Sizes) -> Parts {
+/// The words for a board with too many gaps.
+fn with_many_gaps(sizes: Sizes) -> Parts {
     [
-        Part::Number(sizes.classes()),
+        Part::Number(sizes.gaps()),
         Part::Words(
-            " classes, each the labels held, whichever pebble holds which, and the most is \
-            16777216, with `--large`",
+            " gaps, each the labels of all pebbles but one, whichever pebble holds which, and the \
+            most is 536870912, with `--large`",
         ),
         Part::Words(ending_hint(sizes)),
         Part::Words(""),

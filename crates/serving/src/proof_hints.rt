@@ -31,7 +31,7 @@ const SECTION: &str =
 
 /// The same, of a document by classes.
 const CLASS_SECTION: &str =
-    "the line must be `labeller n` or `adversary n`, as the claim asks for, with n at most
+    "the line must be `labeller n` or `adversary n`, as the claim asks for, with n at most \
     16777216";
 
 /// The sections of each claim.
@@ -41,6 +41,10 @@ const SECTIONS: &str =
 
 /// The mistake of a section that isn't due.
 const NOT_DUE: &str = "the claim asks for no such section here";
+
+/// The form of the first line.
+const VERSION: &str =
+    "line 1 must be `proof 1`, or `proof 2` for rows by classes, and nothing may come before it";
 
 /// The form of a row.
 const ROW: &str =
@@ -52,7 +56,7 @@ pub(crate) fn proof_hint(fault: ProofFault, inputs: &Inputs<'_, '_>) -> Parts {
     let proof = &inputs.other;
     let line = proof.line(fault.line);
     match fault.kind {
-        ProofKind::Version => words(version_hint(inputs)),
+        ProofKind::Version => version_hint(inputs, line),
         ProofKind::Claim => claim_hint(line),
         ProofKind::Section => section_hint(proof, fault.line, line),
         ProofKind::Row => row_hint(inputs, fault.line, line),
@@ -85,20 +89,17 @@ fn is_by_classes(proof: &Origin<'_, '_>) -> bool {
 }
 
 /// The words for a first line that is none of a document's.
-fn version_hint(inputs: &Inputs<'_, '_>) -> &'static str {
+fn version_hint(inputs: &Inputs<'_, '_>, line: Option<&[u8]>) -> Parts {
     let text = inputs.other.text;
     if text.starts_with("board ".as_bytes()) {
-        return board_in_its_place(inputs);
+        return words(board_in_its_place(inputs));
     }
     match first_line_hint(text) {
         Some(_) if text.is_empty() && inputs.given == Given::Joined => {
-            "nothing comes after the board, and a strategy document must"
+            words("nothing comes after the board, and a strategy document must")
         }
-        Some(mistake) => mistake,
-        None => {
-            "line 1 must be `proof 1`, or `proof 2` for rows by classes, and nothing may come \
-            before it"
-        }
+        Some(mistake) => words(mistake),
+        None => form_hint(line, VERSION),
     }
 }
 

@@ -2,7 +2,7 @@
 
 use board_text::line_reader::LineReader;
 use board_text::{MAX_LABELS, MAX_PEBBLES};
-use classes::MAX_CLASSES;
+use gap_values::MAX_GAPS;
 
 /// The numbers in the first three lines of a board.
 #[derive(Clone, Copy)]
@@ -39,16 +39,26 @@ impl Sizes {
 
     /// The number of classes: the ways to choose as many places as there are pebbles, in no order.
     pub(crate) fn classes(self) -> u64 {
+        self.ways(self.pebbles)
+    }
+
+    /// The number of gaps: the ways to choose one place less.
+    pub(crate) fn gaps(self) -> u64 {
+        self.ways(self.pebbles.saturating_sub(1))
+    }
+
+    /// The number of ways to choose this `count` of places, in no order.
+    fn ways(self, count: u32) -> u64 {
         let mut ways: u64 = 1;
-        for pebble in 0..u64::from(self.pebbles) {
-            ways = ways.saturating_mul(self.places().saturating_add(pebble)) / (pebble + 1);
+        for chosen in 0..u64::from(count) {
+            ways = ways.saturating_mul(self.places().saturating_add(chosen)) / (chosen + 1);
         }
         ways
     }
 
-    /// Whether there are no more classes than can be numbered.
-    pub(crate) fn has_few_classes(self) -> bool {
-        self.classes() <= u64::from(MAX_CLASSES)
+    /// Whether there are no more gaps than `--large` takes.
+    pub(crate) fn has_few_gaps(self) -> bool {
+        self.gaps() <= u64::from(MAX_GAPS)
     }
 
     /// Whether the pebbles n need more labels to last for ever, which are 2^n - 1 at least.

@@ -1,10 +1,15 @@
 //! The words that explain wrong use, by the words of the command line.
 
+ghost use Rattle.std.specs.Prelude.{◌<◌, length};
+
 use board_text::line_reader::LineReader;
 use command_line::MAX_WORKERS;
 
 // The words say this limit.
 const _: () = prove!(MAX_WORKERS == 16);
+
+/// The option for workers, with its number in the same word.
+const WORKERS_IS: &str = "--workers=";
 
 /// Why these words, the program's name first, may be wrong, if they show it.
 pub(crate) fn usage_hint(words: &[&str]) -> &'static str {
@@ -16,7 +21,7 @@ pub(crate) fn usage_hint(words: &[&str]) -> &'static str {
         if word == "--" {
             return "";
         }
-        if word == "--workers" && !is_count(words, at + 1) {
+        if lacks_count(words, at) {
             return "`--workers` comes with a number from 1 to 16, as in `--workers 4`; ";
         }
         if is_version(word) {
@@ -38,12 +43,23 @@ fn takes_large(command: &str) -> bool {
     command == "solve" || command == "report" || command == "play"
 }
 
-/// Whether the word at this place is a number of workers.
-fn is_count(words: &[&str], at: usize) -> bool {
-    at < words.len()
-        && LineReader::new(words[at].as_bytes())
-            .number(1, MAX_WORKERS as u32)
-            .is_some()
+/// Whether the word at this place is the option for workers, and no number of them comes with it:
+/// after `=`, or as the next word.
+fn lacks_count(words: &[&str], at: usize) -> bool
+    requires { at < length words.now }
+{
+    let word = words[at];
+    if word.starts_with(WORKERS_IS) {
+        return !is_count(&word.as_bytes()[WORKERS_IS.len()..]);
+    }
+    word == "--workers" && (at + 1 >= words.len() || !is_count(words[at + 1].as_bytes()))
+}
+
+/// Whether these bytes are a number of workers.
+fn is_count(text: &[u8]) -> bool {
+    LineReader::new(text)
+        .number(1, MAX_WORKERS as u32)
+        .is_some()
 }
 
 /// Whether a word can only be a path.
@@ -58,7 +74,7 @@ fn is_version(word: &str) -> bool {
 
 /// Whether a word is an option that no command has.
 fn is_unknown_option(word: &str) -> bool {
-    let is_known = word.starts_with("--workers=")
+    let is_known = word.starts_with(WORKERS_IS)
         || word.starts_with("--side=")
         || word == "--help"
         || word == "-h"

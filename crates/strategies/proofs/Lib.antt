@@ -31,4 +31,5 @@ pub mod AskedRows
 pub mod MadeRows
 pub mod Closure
 pub mod SomeDocument
+pub mod GapMembers
 pub mod Cited

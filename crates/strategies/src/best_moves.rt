@@ -11,6 +11,7 @@ ghost use Rattle.strategies.specs.Inside.MovesAt.{position};
 use crate::configuration::Configuration;
 use crate::gap_best::GapBest;
 use crate::moves_at::MovesAt;
+use crate::moves_here::MovesHere;
 use crate::numbered_moves::NumberedMoves;
 use board_text::Board;
 use positions::{MAX_CONFIGURATIONS, Space, Value};
@@ -71,7 +72,7 @@ impl<'a> BestMoves<'a> {
     pub fn board(&self) -> &'a Board
         ensures { result.now ≡ self.now }
     {
-        self.moves.board()
+        self.moves.board
     }
 
     /// The values of the board.
@@ -106,7 +107,7 @@ impl<'a> BestMoves<'a> {
         requires label { label < self.now.labels }
         ensures { IsTrue result ↔ Legal self.now (configuration_at self.now rank) pebble label }
     {
-        self.at(rank).is_legal(pebble, label)
+        self.space().legal(self.board(), rank, pebble, label)
     }
 
     /// The best answer to a request of `pebble` at the configuration of `rank`, if a label is

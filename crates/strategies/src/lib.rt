@@ -5,10 +5,13 @@ mod best_moves;
 mod configuration;
 mod documents;
 mod gap_best;
+mod gap_moves;
 mod laws;
 mod laws_of_documents;
 mod marks;
+mod moves;
 mod moves_at;
+mod moves_here;
 mod numbered_moves;
 mod reached;
 mod reached_ranks;
@@ -19,10 +22,12 @@ pub use best_moves::{BestMoves, best_answer, best_request};
 pub use configuration::Configuration;
 pub use documents::document;
 pub use gap_best::Best;
+pub use gap_moves::GapMoves;
 pub use laws::{best_answers_last, best_requests_end, one_best_answer, one_best_request};
 pub use laws_of_documents::{
     documents_break_no_rule, documents_claim_what_holds, documents_have_their_form,
     documents_mean_their_value, documents_of_small_boards, documents_show_their_claim,
     each_board_has_a_document, one_document_of_a_board,
 };
+pub use moves::Moves;
 pub use numbered_moves::NumberedMoves;

@@ -9,6 +9,7 @@ ghost use Rattle.strategies.specs.Inside.ReachedRanks.{AreExpanded, IsAnswerOf};
 use crate::best_moves::BestMoves;
 use crate::marks::Marks;
 use crate::moves_at::MovesAt;
+use crate::moves_here::MovesHere;
 use crate::reached::Reached;
 use board_text::Memory;
 use positions::Value;

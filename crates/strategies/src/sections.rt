@@ -10,6 +10,7 @@ ghost use Rattle.strategies.specs.Inside.Side.{adversary_side, labeller_side};
 
 use crate::best_moves::BestMoves;
 use crate::marks::Marks;
+use crate::moves_here::MovesHere;
 use crate::reached::Reached;
 use board_text::{MAX_PEBBLES, Memory};
 use positions::{MAX_CONFIGURATIONS, Turns, Value};

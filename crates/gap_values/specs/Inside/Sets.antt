@@ -50,24 +50,23 @@ abbrev pub open_count : List ℕ → ℕ
 open_count [] = 0
 open_count (word ∷ words) = (if nat_eq word OPEN then 1 else 0) + open_count words
 
--- the open gaps from a number up to another one that are shut have the round for their word now,
--- `closed` of them are such, and all other words are as they were
-pub record ArePassed (board : PlainBoard) (sets : List (List ℕ)) (round from to closed : ℕ)
+-- the gap of a number was passed in the round: if its word was open and the gap is shut, the round
+-- is its word now, and else the word is as it was
+pub record IsPassed (board : PlainBoard) (sets : List (List ℕ)) (round gap old new : ℕ) : Type 0 where
+  pub shut : old ≡ OPEN → new ≡ round → IsShut board sets (class_with (places board) (board.pebbles - 1) gap)
+  pub left_open : new ≡ OPEN → IsShut board sets (class_with (places board) (board.pebbles - 1) gap) → ⊥
+  pub changed : (new ≡ old) ⊎ ((old ≡ OPEN) × (new ≡ round))
+
+-- of words from that of the gap `first` on, those from one index up to another one were passed, and
+-- all others are as they were
+pub record ArePassed (board : PlainBoard) (sets : List (List ℕ)) (round first from to : ℕ)
     (old new : List ℕ)
     : Type 0 where
   pub same_length : length new ≡ length old
-  pub shut : (gap : ℕ) → from ≤ gap → gap < to → slice_index old gap ≡ OPEN
-      → slice_index new gap ≡ round
-      → IsShut board sets (class_with (places board) (board.pebbles - 1) gap)
-  pub left_open : (gap : ℕ) → from ≤ gap → gap < to → slice_index new gap ≡ OPEN
-      → IsShut board sets (class_with (places board) (board.pebbles - 1) gap) → ⊥
-  pub changed : (gap : ℕ) → (slice_index new gap ≡ slice_index old gap)
-      ⊎ ((slice_index old gap ≡ OPEN) × (slice_index new gap ≡ round))
-  pub before : (gap : ℕ) → gap < from → slice_index new gap ≡ slice_index old gap
-  pub behind : (gap : ℕ) → to ≤ gap → slice_index new gap ≡ slice_index old gap
-  pub few : from + closed ≤ to
-  pub counted : closed + open_count new ≡ open_count old
-  pub none : closed ≡ 0 → (gap : ℕ) → slice_index new gap ≡ slice_index old gap
+  pub passed : (index : ℕ) → from ≤ index → index < to
+      → IsPassed board sets round (first + index) (slice_index old index) (slice_index new index)
+  pub before : (index : ℕ) → index < from → slice_index new index ≡ slice_index old index
+  pub behind : (index : ℕ) → to ≤ index → slice_index new index ≡ slice_index old index
 
 -- ---- telling a closed gap to its sets
 

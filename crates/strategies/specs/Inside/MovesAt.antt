@@ -20,3 +20,9 @@ pub record IsStanding (n : Numbered) (held : List ℕ) (standing : Standing) : T
   pub number : standing.number ≡ number_in n held
   pub gaps : (pebble : ℕ) → pebble < n.board.pebbles
       → slice_index standing.gaps pebble ≡ gap_in n held pebble
+
+-- the values are those of the board, and these are the places of one of its configurations
+pub record IsGapStanding (board values : PlainBoard) (held : List ℕ) : Type 0 where
+  pub is_board : IsBoard board
+  pub same_board : values ≡ board
+  pub is_configuration : IsConfiguration board held

@@ -15,7 +15,7 @@ returns-then-not-is_legal c =
       inl (
         iff_false legal c.if-not-is_legal.true,
         ap
-            (λ at. faults.IllegalAnswer at c.args.pebble) c.row_number-at.ensures,
+            (λ at. faults.IllegalAnswer at c.args.pebble) c.requires.at,
       ),
     )
 
@@ -37,5 +37,5 @@ returns c =
     let result = arranged_result board.labels board.pebbles pebble label row.at c.requires.pebble in
     match_then c.turns_fault.result
     (λ serves. record { label = label; answer = answer; legal = legal; serves = serves })
-    (λ fault wrong. (label, answer, inr (legal, wrong.0, rw c.row_number-at.ensures at wrong.1)))
+    (λ fault wrong. (label, answer, inr (legal, wrong.0, rw c.requires.at at wrong.1)))
     (rw (c.pebbles-pebbles.ensures.value, c.after_one.ensures, result) at c.turns_fault.ensures)

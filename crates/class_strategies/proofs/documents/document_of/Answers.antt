@@ -10,19 +10,18 @@ returns-clause-document g c = record {
   claim = c.from.ensures;
   labeller = c.requires.labeller.exactly;
   adversary = asked_rows
-      (g.M.MovesByPlaces.board c.args.moves.now) c.args.value c.args.adversary.items c.requires.adversary;
+      (g.M.Moves.board c.args.moves.now) c.args.value c.args.adversary.items c.requires.adversary;
 }
 
 pub returns-clause-form : goal.returns-clause-form
-returns-clause-form g c = record {
-  is_proof = has_form (g.M.MovesByPlaces.board c.args.moves.now) _ c.requires.start c.requires.few
-      (returns-clause-document g c);
+returns-clause-form g c = λ fits. record {
+  is_proof = has_form (g.M.Moves.board c.args.moves.now) _ c.requires.start (returns-clause-document g c) fits;
   places_padded = λ k d inside. (c.requires.labeller.filled k d inside).0;
   answers_padded = λ k d inside. (c.requires.labeller.filled k d inside).1;
   asked_padded = asked_filled
-      (g.M.MovesByPlaces.board c.args.moves.now) c.args.value c.args.adversary.items c.requires.adversary;
+      (g.M.Moves.board c.args.moves.now) c.args.value c.args.adversary.items c.requires.adversary;
 }
 
 pub returns-clause-rules : goal.returns-clause-rules
-returns-clause-rules g c = breaks_no_rule (g.M.MovesByPlaces.board c.args.moves.now) _ c.requires.start
+returns-clause-rules g c = breaks_no_rule (g.M.Moves.board c.args.moves.now) _ c.requires.start
     (returns-clause-document g c)

@@ -7,7 +7,7 @@ use Rattle.class_strategies.proofs.rows.rows_at.Goals.{in-Some+in_ok-push, in_de
 
 pub loop-number-preserved : goal.loop-number-preserved
 loop-number-preserved g c =
-    let board = g.M.MovesByPlaces.board c.args.moves.now in
+    let board = g.M.Moves.board c.args.moves.now in
     let side = g.R.SectionRow.side board c.args.start in
     let numbers : List ℕ = c.args.numbers.now in
     let index : ℕ = c.loop-number.number-index in

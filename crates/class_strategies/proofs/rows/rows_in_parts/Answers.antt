@@ -10,8 +10,8 @@ some size = omega arith
 
 pub collect-requires-clause-ready : goal.collect-requires-clause-ready
 collect-requires-clause-ready g c = λ κs lives.
-    let stands = MayStandAtClass (g.M.MovesByPlaces.board c.args.moves.now) (g.R.SectionRow.side
-    (g.M.MovesByPlaces.board c.args.moves.now) c.args.start) in
+    let stands = MayStandAtClass (g.M.Moves.board c.args.moves.now) (g.R.SectionRow.side
+    (g.M.Moves.board c.args.moves.now) c.args.start) in
     rw (c.map.ensures.base, c.map.ensures.f, c.par_chunks.ensures.slice, c.par_chunks.ensures.size) (λ k d low x same. (
       subst (All stands) (sym same)
           (parts_too stands (max c.max-size.result 1) c.args.numbers.now (some c.max-size.result) c.requires.numbers k d
@@ -25,8 +25,8 @@ returns g c =
     let chain = made.1 in
     let parts_are = rw (c.map.ensures.base, c.par_chunks.ensures.slice, c.par_chunks.ensures.size) at chain.1 in
     let each = rw c.map.ensures.f at chain.2 in
-    rows_joined (g.M.MovesByPlaces.board c.args.moves.now) (g.R.SectionRow.side
-    (g.M.MovesByPlaces.board c.args.moves.now) c.args.start) (λ part. part.items) (λ v. v.items)
+    rows_joined (g.M.Moves.board c.args.moves.now) (g.R.SectionRow.side
+    (g.M.Moves.board c.args.moves.now) c.args.start) (λ part. part.items) (λ v. v.items)
     c.args.numbers.now (max c.max-size.result 1)
     (some c.max-size.result) chain.0 parts_are made.0 each c.in_ok-rows.rows
     made.2

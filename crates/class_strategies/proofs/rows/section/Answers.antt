@@ -4,14 +4,14 @@ use Rattle.class_strategies.proofs.rows.section.Goals as goal
 
 pub rows_at-requires : goal.rows_at-requires
 rows_at-requires g c =
-    let board = g.M.MovesByPlaces.board c.args.moves.now in
+    let board = g.M.Moves.board c.args.moves.now in
     let side = g.R.SectionRow.side board c.args.start in
     rw c.deref.ensures.value
     (may_stand board side _ _ (c.in_ok-reached.ensures c.args.start) c.in_ok-numbers.ensures)
 
 pub returns : goal.returns
 returns g c =
-    let board = g.M.MovesByPlaces.board c.args.moves.now in
+    let board = g.M.Moves.board c.args.moves.now in
     let side = g.R.SectionRow.side board c.args.start in
     IfOk-weaker c.rows_at.result _ _ (λ rows are. section_is board side _ _ rows.items
     (c.in_ok-reached.ensures c.args.start) c.in_ok-numbers.ensures (rw c.deref.ensures.value at are))

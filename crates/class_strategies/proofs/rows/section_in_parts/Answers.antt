@@ -7,14 +7,14 @@ use Rattle.class_strategies.proofs.rows.section_in_parts.Goals as goal
 
 pub rows_in_parts-requires-clause-numbers : goal.rows_in_parts-requires-clause-numbers
 rows_in_parts-requires-clause-numbers g c = λ κs lives.
-    let board = g.M.MovesByPlaces.board c.args.moves.now in
+    let board = g.M.Moves.board c.args.moves.now in
     let side = g.R.SectionRow.side board c.args.start in
     rw c.deref.ensures.value
     (may_stand board side _ _ (c.in_ok-reached.ensures c.args.start) c.in_ok-numbers.ensures)
 
 pub returns : goal.returns
 returns g c =
-    let board = g.M.MovesByPlaces.board c.args.moves.now in
+    let board = g.M.Moves.board c.args.moves.now in
     let side = g.R.SectionRow.side board c.args.start in
     let made = rw c.deref.ensures.value at c.in_ok-rows_in_parts.ensures in
     let past : length c.deref-part-items.result.now ≤ c.loop-part.part-index = c.loop-part-test.false in

@@ -7,7 +7,7 @@ use Rattle.class_strategies.proofs.steps.add_answers.Goals.{in-Some+in_ok-add, i
 
 pub loop-pebble-preserved : goal.loop-pebble-preserved
 loop-pebble-preserved g c =
-    let b = g.M.MovesByPlaces.board c.args.moves.now in
+    let b = g.M.Moves.board c.args.moves.now in
     let step = IsClassAnswerStep b (class_numbered b c.args.number) in
     let pebble = c.loop-pebble.pebble in
     elim c.match-answer_result.branch [
@@ -20,7 +20,7 @@ loop-pebble-preserved g c =
 
 pub returns : goal.returns
 returns g c =
-    let b = g.M.MovesByPlaces.board c.args.moves.now in
+    let b = g.M.Moves.board c.args.moves.now in
     let end = rw c.board-board.ensures at c.pebbles-pebble-end.ensures.value in
     answers_added b c.args.number c.loop-pebble.pebble c.args.reached.now _
     (omega (arith, end, c.loop-pebble-test.false)) c.loop-pebble.invariant

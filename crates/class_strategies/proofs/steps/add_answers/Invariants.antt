@@ -5,5 +5,5 @@ use Rattle.class_strategies.proofs.steps.add_answers.Given as goal
 
 abbrev pub invariant-loop-pebble : goal.invariant-loop-pebble
 invariant-loop-pebble g l =
-    IsWithAll l.fn.reached (Below (IsClassAnswerStep (g.M.MovesByPlaces.board l.moves) (class_numbered
-    (g.M.MovesByPlaces.board l.moves) l.number)) l.pebble) l.reached
+    IsWithAll l.fn.reached (Below (IsClassAnswerStep (g.M.Moves.board l.moves) (class_numbered
+    (g.M.Moves.board l.moves) l.number)) l.pebble) l.reached

@@ -1,82 +1,72 @@
-use Rattle.std.proofs.Common.{◌≡◌, ◌∙◌, ◌+◌, ◌-◌, ◌<◌, ◌≤◌, ℕ, length, set, suc, sym, ap, subst, arith, rules}
+use Rattle.std.proofs.Common.{◌≡◌, ◌∙◌, ◌+◌, ◌-◌, ◌<◌, ◌≤◌, ℕ, suc, sym, ap, subst, arith, rules}
 use Rattle.board_text.specs.PlainBoard.{places}
 use Rattle.classes.specs.Classes.{put}
-use Rattle.classes.specs.Numbers.{ways, class_with}
+use Rattle.classes.specs.Numbers.{class_with}
 use Rattle.gap_values.specs.Inside.Sets.{ArePassed, IsShut}
-use Rattle.gap_values.proofs.ClosingSteps.{passed-none, passed-kept, passed-shut}
-use Rattle.gap_values.proofs.FamilyMembers.{member-below, member-few, member-with}
+use Rattle.gap_values.proofs.ClosingSteps.{passed-kept, passed-shut}
+use Rattle.gap_values.proofs.FamilyMembers.{member-few, member-with}
 use Rattle.gap_values.proofs.closing.close_family.Goals as goal
-use Rattle.gap_values.proofs.closing.close_family.Goals.{In-loop-least, then-words-gap+then-is_shut, else-words-gap}
-use Rattle.gap_values.proofs.closing.close_family.Goals.{else-words-gap-via-then-words-gap+else-is_shut}
-use Rattle.gap_values.proofs.closing.close_family.Goals.{else-words-gap-via-else-words-gap}
+use Rattle.gap_values.proofs.closing.close_family.Goals.{In-loop-index, then-part-index+then-is_shut, else-part-index}
+use Rattle.gap_values.proofs.closing.close_family.Goals.{else-part-index-via-then-part-index+else-is_shut}
+use Rattle.gap_values.proofs.closing.close_family.Goals.{else-part-index-via-else-part-index}
 
-one : (c : In-loop-least) → suc (c.args.board.now.pebbles - 2) ≡ c.args.board.now.pebbles - 1
-one c = let some = c.requires.some in omega arith
+module _ (c : In-loop-index) where
+  abbrev least : ℕ
+  least = c.args.first + c.loop-index.index - c.args.family.now.start
 
-few : (c : In-loop-least) → c.args.family.now.start + c.loop-least.least ≤ 288136807515649
-few c =
-    member-few c.args.board.now c.requires.family.is_board (c.args.board.now.pebbles - 2) c.args.family.now
-    c.requires.family c.loop-least.least c.loop-least-test.true (omega (arith, one c))
+  one : suc (c.args.board.now.pebbles - 2) ≡ c.args.board.now.pebbles - 1
+  one = let some = c.requires.some in omega arith
 
-low : (c : In-loop-least) → c.args.family.now.start + c.loop-least.least < length c.loop-least.words
-low c =
-    let below = member-below c.args.board.now c.requires.family.is_board (c.args.board.now.pebbles - 2)
-    c.args.family.now c.requires.family c.loop-least.least c.loop-least-test.true in
-    let same = ap (λ n. ways n (places c.args.board.now)) (one c) in
-    omega (arith, below, same, c.requires.words, c.loop-least.invariant.same_length)
+  at-least : c.args.family.now.start + least ≡ c.args.first + c.loop-index.index
+  at-least = omega (arith, c.requires.from, c.loop-index.auto.index)
 
-gap : (c : In-loop-least)
-    → class_with (places c.args.board.now) (c.args.board.now.pebbles - 1)
-    (c.args.family.now.start + c.loop-least.least) ≡ put c.loop-least.least c.args.family.now.held
-gap c =
-    ap (λ n. class_with (places c.args.board.now) n (c.args.family.now.start + c.loop-least.least)) (sym (one c))
-    ∙ member-with c.args.board.now c.requires.family.is_board (c.args.board.now.pebbles - 2) c.args.family.now
-    c.requires.family c.loop-least.least c.loop-least-test.true
+  low : least < c.args.family.now.size
+  low = omega (arith, at-least, c.requires.to, c.loop-index-test.true)
 
-pub overflow_add-gap : goal.overflow_add-gap
-overflow_add-gap c = let most = few (goal.at.overflow_add-gap c).In-loop-least in search (rules, most)
+  gap : class_with (places c.args.board.now) (c.args.board.now.pebbles - 1) (c.args.first + c.loop-index.index)
+      ≡ put least c.args.family.now.held
+  gap =
+      ap (class_with (places c.args.board.now) (c.args.board.now.pebbles - 1)) (sym at-least)
+      ∙ ap (λ n. class_with (places c.args.board.now) n (c.args.family.now.start + least)) (sym one)
+      ∙ member-with c.args.board.now (c.args.board.now.pebbles - 2) c.args.family.now c.requires.family least low
 
-pub loop-least-init : goal.loop-least-init
-loop-least-init c =
-    let same : c.args.family.now.start + 0 ≡ c.args.family.now.start = omega arith in
-    subst (λ n. ArePassed c.args.board.now c.args.sets.now c.args.round c.args.family.now.start n 0 c.args.words.now
-    c.args.words.now) (sym same)
-    (passed-none c.args.board.now c.args.sets.now c.args.round c.requires.round c.args.family.now.start
-    c.args.words.now)
+pub overflow_add-least : goal.overflow_add-least
+overflow_add-least c =
+    let at = (goal.at.overflow_add-least c).In-loop-index in
+    let most = member-few c.args.board.now (c.args.board.now.pebbles - 2) c.args.family.now c.requires.family
+    (least at) (low at) (omega (arith, one at)) in
+    let few : c.args.first + c.loop-index.index ≤ 288136807515649 = omega (arith, most, at-least at) in
+    search (rules, few)
 
-pub offset_bounds-words-gap : goal.offset_bounds-words-gap
-offset_bounds-words-gap c = let most = few (goal.at.offset_bounds-words-gap c).In-loop-least in search (rules, most)
-
-pub bounds-words-gap : goal.bounds-words-gap
-bounds-words-gap c = low (goal.at.bounds-words-gap c).In-loop-least
-
-pub loop-least-preserved : goal.loop-least-preserved
-loop-least-preserved c =
-    let at = (goal.at.loop-least-preserved c).In-loop-least in
+pub loop-index-preserved : goal.loop-index-preserved
+loop-index-preserved c =
+    let at = (goal.at.loop-index-preserved c).In-loop-index in
     let b = c.args.board.now in
-    let f = c.args.family.now in
     let sets = c.args.sets.now in
-    let n : ℕ = f.start + c.loop-least.least in
-    let next : n + 1 ≡ f.start + (c.loop-least.least + 1) = omega arith in
-    elim c.if-words-gap.branch [
-      | then-words-gap+then-is_shut w ↦ rw (w.words-is, w.closed-is)
-          (subst (λ to. ArePassed b sets c.args.round f.start to (c.loop-least.closed + 1) c.args.words.now
-          (set c.loop-least.words n c.args.round)) next
-          (passed-shut b sets c.args.round c.requires.round f.start n c.loop-least.closed c.args.words.now
-          c.loop-least.words (omega arith) (low at) w.if-words-gap.true
-          (subst (IsShut b sets) (sym (gap at)) (w.is_shut.ensures.0 w.if-is_shut.true)) c.loop-least.invariant))
-      | else-words-gap w ↦ rw (w.words-is, w.closed-is)
-          (subst (λ to. ArePassed b sets c.args.round f.start to c.loop-least.closed c.args.words.now
-          c.loop-least.words)
-          next
-          (passed-kept b sets c.args.round c.requires.round f.start n c.loop-least.closed c.args.words.now
-          c.loop-least.words (omega arith)
-          (elim w.else-words-gap.branch [
-            | else-words-gap-via-then-words-gap+else-is_shut v ↦ λ opened shut.
+    let index : ℕ = c.loop-index.index in
+    elim c.if-part-index.branch [
+      | then-part-index+then-is_shut w ↦ rw w.part-is
+          (passed-shut b sets c.args.round c.requires.round c.args.first c.args.from index c.args.part.now
+          c.loop-index.part c.loop-index.auto.index
+          (let long = c.loop-index.invariant.same_length in
+          omega (arith, long, c.loop-index-test.true, c.requires.part)) w.if-part-index.true
+          (subst (IsShut b sets) (sym (gap at)) (w.is_shut.ensures.0 w.if-is_shut.true)) c.loop-index.invariant)
+      | else-part-index w ↦ rw w.part-is
+          (passed-kept b sets c.args.round c.requires.round c.args.first c.args.from index c.args.part.now
+          c.loop-index.part
+          (elim w.else-part-index.branch [
+            | else-part-index-via-then-part-index+else-is_shut v ↦ λ opened shut.
                 let yes = v.is_shut.ensures.1 (subst (IsShut b sets) (gap at) shut) in
                 let no_shut = v.if-is_shut.false in
                 let bad : ⊥ = cc in bad
-            | else-words-gap-via-else-words-gap v ↦ λ opened shut. v.if-words-gap.false opened
+            | else-part-index-via-else-part-index v ↦ λ opened shut. v.if-part-index.false opened
           ])
-          c.loop-least.invariant))
+          c.loop-index.invariant)
     ]
+
+pub returns : goal.returns
+returns c =
+    let all : c.loop-index.index ≡ c.args.to =
+    omega (arith, c.loop-index.auto.index-end, c.loop-index-test.false, c.requires.order) in
+    subst (λ n. ArePassed c.args.board.now c.args.sets.now c.args.round c.args.first c.args.from n c.args.part.now
+    c.loop-index.part) all c.loop-index.invariant

@@ -1,7 +1,5 @@
-use Rattle.std.proofs.Common.{◌+◌}
 use Rattle.gap_values.specs.Inside.Sets.{ArePassed}
 use Rattle.gap_values.proofs.closing.close_family.Given as goal
 
-abbrev pub invariant-loop-least : goal.invariant-loop-least
-invariant-loop-least l =
-    ArePassed l.board l.sets l.round l.family.start (l.family.start + l.least) l.closed l.initial.words l.words
+abbrev pub invariant-loop-index : goal.invariant-loop-index
+invariant-loop-index l = ArePassed l.board l.sets l.round l.first l.from l.index l.initial.part l.part

@@ -1,14 +1,16 @@
-use Rattle.std.proofs.Common.{◌≡◌, ◌∙◌, ◌+◌, ◌-◌, ◌<◌, ◌≤◌, ℕ, suc, get_or, sym, ap, subst, arith, rules}
+use Rattle.std.proofs.Common.{◌≡◌, ◌∙◌, ◌+◌, ◌-◌, ◌<◌, ◌≤◌, ℕ, min, suc, length, sym, ap, subst, arith, rules}
 use Rattle.board_text.specs.PlainBoard.{PlainBoard, places}
 use Rattle.classes.specs.Families.{least_places}
 use Rattle.classes.specs.Numbers.{ways, class_with}
+use Rattle.classes.proofs.Cited.{ways-fit}
 use Rattle.gap_values.specs.Inside.Families.{IsAtFamily}
 use Rattle.gap_values.specs.Inside.Sets.{ArePassed}
 use Rattle.gap_values.proofs.ClosingSteps.{passed-join, passed-none, passed-over}
-use Rattle.gap_values.proofs.FamilyMembers.{family-of, family-size, next-start, size-of, walk-all, walk-of, walk-start}
+use Rattle.gap_values.proofs.FamilyMembers.{next-start, size-of, walk-all, walk-of}
 use Rattle.gap_values.proofs.FamilyMembers.{walk-within, walk-zero}
 use Rattle.gap_values.proofs.closing.close_gaps.Goals as goal
-use Rattle.gap_values.proofs.closing.close_gaps.Goals.{After-family_size-size, then-is_among, else-is_among}
+use Rattle.gap_values.proofs.closing.close_gaps.Goals.{After-family_size-size, After-index_among-to}
+use Rattle.gap_values.proofs.closing.close_gaps.Goals.{then-is_among, else-is_among}
 
 pub loop-number-init : goal.loop-number-init
 loop-number-init c =
@@ -20,13 +22,15 @@ loop-number-init c =
     subst (λ n. IsAtFamily c.args.numbers.now n 0 walk)
     (sym c.families-walk.ensures.count_is) c.families-walk.ensures in
     let start : walk.start ≡ 0 =
-    walk-zero b (b.pebbles - 2) walk c.places.ensures.is_board
+    walk-zero b (b.pebbles - 2) walk
     (walk-of c.args.numbers.now b walk.count (b.pebbles - 2) c.requires.board count 0 walk own) in
+    let none : min (walk.start - c.args.first) (length c.args.part.now) ≡ 0 = omega (arith, start) in
     record {
       walk = own;
       count = count;
-      passed = subst (λ n. ArePassed b c.args.sets.now c.args.round 0 n 0 c.args.words.now c.args.words.now) (sym start)
-          (passed-none b c.args.sets.now c.args.round c.requires.round 0 c.args.words.now);
+      passed =
+          subst (λ n. ArePassed b c.args.sets.now c.args.round c.args.first 0 n c.args.part.now c.args.part.now)
+          (sym none) (passed-none b c.args.sets.now c.args.round c.requires.round c.args.first 0 c.args.part.now);
     }
 
 module _ (c : After-family_size-size) where
@@ -51,82 +55,78 @@ module _ (c : After-family_size-size) where
   one : suc (b.pebbles - 2) ≡ b.pebbles - 1
   one = let some = c.requires.some in omega arith
 
-pub is_among-requires : goal.is_among-requires
-is_among-requires c =
-    let here = (goal.at.is_among-requires c).After-family_size-size in
-    let within = walk-within c.args.board.now (c.args.board.now.pebbles - 2) c.loop-number.number
-    c.family_size-size.result c.loop-number.walk c.places.ensures.is_board (low here) (at here) (size_is here) in
-    let same = ap (λ n. ways n (places c.args.board.now)) (one here) in
-    omega (arith, within, same, c.requires.words, c.loop-number.invariant.passed.same_length)
+  within : c.loop-number.walk.start + c.family_size-size.result ≤ ways (b.pebbles - 1) (places b)
+  within = subst (λ n. c.loop-number.walk.start + c.family_size-size.result ≤ ways n (places b)) one
+      (walk-within b (b.pebbles - 2) c.loop-number.number c.family_size-size.result c.loop-number.walk low at size_is)
 
-pub overflow_add-closed : goal.overflow_add-closed
-overflow_add-closed c =
-    let here = (goal.at.overflow_add-closed c).After-family_size-size in
-    let own = family-of c.args.numbers.now c.args.board.now c.loop-number.walk.count (c.args.board.now.pebbles - 2)
-    c.requires.board c.loop-number.invariant.count c.family-family.result c.family-family.ensures.family in
-    let within = walk-within c.args.board.now (c.args.board.now.pebbles - 2) c.loop-number.number
-    c.family_size-size.result c.loop-number.walk c.places.ensures.is_board (low here) (at here) (size_is here) in
-    let size = family-size c.args.board.now
-    (c.args.board.now.pebbles - 2) c.loop-number.number c.family_size-size.result
-    c.family-family.result own c.family-family.ensures.number (size_is here) in
-    let same = ap (λ n. ways n (places c.args.board.now)) (one here) in
-    let first = c.loop-number.invariant.passed.few in
-    let second = c.close_family-closed.ensures.few in
-    let most : c.loop-number.closed + c.close_family-closed.result ≤ 536870912 =
-    omega (arith, within, size, same, first, second, c.requires.few) in
-    search (rules, most)
+pub overflow_add-start : goal.overflow_add-start
+overflow_add-start c =
+    let here = (goal.at.overflow_add-start c).After-family_size-size in
+    let b = c.args.board.now in
+    let most = ways-fit b (b.pebbles - 1) (places b) c.places.ensures.is_board (omega arith) (omega arith) in
+    let few : c.loop-number.walk.start + c.family_size-size.result ≤ 288136807515649 =
+    omega (arith, within here, most) in
+    search (rules, few)
+
+-- the indexes of the family's gaps in the part
+module _ (c : After-index_among-to) where
+  abbrev count : ℕ
+  count = length c.args.part.now
+
+  from_is : c.index_among-from.result ≡ min (c.loop-number.walk.start - c.args.first) count
+  from_is = c.index_among-from.ensures
+      ∙ ap (min (c.loop-number.walk.start - c.args.first)) c.loop-number.invariant.passed.same_length
+
+  to_is : c.index_among-to.result
+      ≡ min (c.loop-number.walk.start + c.family_size-size.result - c.args.first) count
+  to_is = c.index_among-to.ensures
+      ∙ ap (min (c.loop-number.walk.start + c.family_size-size.result - c.args.first))
+      c.loop-number.invariant.passed.same_length
+
+  order : c.index_among-from.result ≤ c.index_among-to.result
+  order = omega (arith, from_is, to_is)
 
 pub loop-number-preserved : goal.loop-number-preserved
 loop-number-preserved c =
     let here = (goal.at.loop-number-preserved c).After-family_size-size in
+    let ends = (goal.at.loop-number-preserved c).After-index_among-to in
     let b = c.args.board.now in
-    let count : ℕ = b.pebbles - 2 in
+    let sets = c.args.sets.now in
+    let round : ℕ = c.args.round in
+    let first : ℕ = c.args.first in
+    let from : ℕ = c.index_among-from.result in
+    let to : ℕ = c.index_among-to.result in
     let number : ℕ = c.loop-number.number in
-    let size : ℕ = c.family_size-size.result in
     let walk = c.loop-number.walk in
     let new = c.next_family.new.walk in
-    let start : new.start ≡ walk.start + size =
-    next-start b count number size walk c.places.ensures.is_board (low here) (at here) (size_is here) new
-    (walk-of c.args.numbers.now b walk.count count c.requires.board c.loop-number.invariant.count (number + 1) new
-    c.next_family.ensures.walk) in
+    let next = walk-of c.args.numbers.now b walk.count (b.pebbles - 2) c.requires.board c.loop-number.invariant.count
+    (number + 1) new c.next_family.ensures.walk in
+    let start : new.start ≡ walk.start + c.family_size-size.result =
+    next-start b (b.pebbles - 2) number c.family_size-size.result walk (low here) (at here) (size_is here) new next in
+    let end : to ≡ min (new.start - first) (length c.args.part.now) =
+    to_is ends ∙ ap (λ n. min (n - first) (length c.args.part.now)) (sym start) in
+    let was : ArePassed b sets round first 0 from c.args.part.now c.loop-number.part =
+    subst (λ n. ArePassed b sets round first 0 n c.args.part.now c.loop-number.part) (sym (from_is ends))
+    c.loop-number.invariant.passed in
     record {
       walk = subst (λ n. IsAtFamily c.args.numbers.now n (number + 1) new) (sym c.next_family.ensures.count)
           c.next_family.ensures.walk;
       count = c.next_family.ensures.count ∙ c.loop-number.invariant.count;
-      passed = elim c.if-is_among.branch [
-        | then-is_among w ↦
-            let f = w.family-family.result in
-            let own = family-of c.args.numbers.now b walk.count count
-            c.requires.board c.loop-number.invariant.count f w.family-family.ensures.family in
-            let same_start = walk-start b count number size walk c.places.ensures.is_board (low here) (at here)
-            (size_is here) f own w.family-family.ensures.number in
-            let same_size = family-size b count number size f own w.family-family.ensures.number (size_is here) in
-            rw (w.words-is, w.closed-is, start)
-            (passed-join b c.args.sets.now c.args.round c.requires.round 0 walk.start (walk.start + size)
-            c.loop-number.closed w.close_family-closed.result c.args.words.now c.loop-number.words
-            w.close_family-closed.new.words (omega arith) c.loop-number.invariant.passed
-            (subst (λ n. ArePassed b c.args.sets.now c.args.round walk.start (walk.start + n)
-            w.close_family-closed.result c.loop-number.words w.close_family-closed.new.words) same_size
-            (subst (λ n. ArePassed b c.args.sets.now c.args.round n (n + f.size)
-            w.close_family-closed.result c.loop-number.words w.close_family-closed.new.words) same_start
-            w.close_family-closed.ensures)))
-        | else-is_among w ↦
-            let none : c.loop-number.closed + 0 ≡ c.loop-number.closed = omega arith in
-            rw (w.words-is, w.closed-is, start)
-            (subst (λ n. ArePassed b c.args.sets.now c.args.round 0 (walk.start + size) n c.args.words.now
-            c.loop-number.words) none
-            (passed-join b c.args.sets.now c.args.round c.requires.round 0 walk.start (walk.start + size)
-            c.loop-number.closed 0 c.args.words.now c.loop-number.words c.loop-number.words (omega arith)
-            c.loop-number.invariant.passed
-            (passed-over b c.args.sets.now c.args.round c.requires.round walk.start (walk.start + size)
-            c.loop-number.words (omega arith)
-            (λ gap least under opened.
-            let place : walk.start + (gap - walk.start) ≡ gap = omega arith in
-            let yes = c.is_among.ensures.1
-            (gap - walk.start, omega arith, ap (λ n. get_or c.loop-number.words n 0) place ∙ opened) in
-            let no_one = w.if-is_among.false in
-            let bad : ⊥ = cc in bad))))
-      ];
+      passed =
+          subst (λ n. ArePassed b sets round first 0 n c.args.part.now c.if-is_among.part) end
+          (elim c.if-is_among.branch [
+            | then-is_among w ↦ rw w.part-is
+                (passed-join b sets round c.requires.round first 0 from to c.args.part.now c.loop-number.part
+                w.close_family.new.part (omega arith) (order ends) was w.close_family.ensures)
+            | else-is_among w ↦ rw w.part-is
+                (passed-join b sets round c.requires.round first 0 from to c.args.part.now c.loop-number.part
+                c.loop-number.part (omega arith) (order ends) was
+                (passed-over b sets round c.requires.round first from to c.loop-number.part
+                (λ index least under opened.
+                let yes = c.is_among.ensures.1 (index, least, under, opened) in
+                let no_one = w.if-is_among.false in
+                let bad : ⊥ = cc in bad)))
+          ]);
     }
 
 pub returns : goal.returns
@@ -141,5 +141,7 @@ returns c =
     (omega (arith, all, past)) one
     (walk-of c.args.numbers.now b c.loop-number.walk.count (b.pebbles - 2) c.requires.board
     c.loop-number.invariant.count c.loop-number.number c.loop-number.walk c.loop-number.invariant.walk) in
-    subst (λ n. ArePassed b c.args.sets.now c.args.round 0 n c.loop-number.closed c.args.words.now c.loop-number.words)
-    end c.loop-number.invariant.passed
+    let whole : min (c.loop-number.walk.start - c.args.first) (length c.args.part.now) ≡ length c.args.part.now =
+    omega (arith, end, c.requires.part) in
+    subst (λ n. ArePassed b c.args.sets.now c.args.round c.args.first 0 n c.args.part.now c.loop-number.part) whole
+    c.loop-number.invariant.passed

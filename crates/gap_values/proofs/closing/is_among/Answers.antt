@@ -1,14 +1,13 @@
-use Rattle.std.proofs.Common.{arith, below_more, ◌≢◌, ◌+◌, get_or}
+use Rattle.std.proofs.Common.{arith}
 use Rattle.gap_values.proofs.closing.is_among.Goals as goal
 
-pub loop-index-preserved : goal.loop-index-preserved
-loop-index-preserved c =
-    below_more (λ k. get_or c.args.words.now (c.args.start + k) 0 ≢ c.args.word) c.loop-index.index
-    c.loop-index.invariant c.if-words-start.false
-
 pub returns : goal.returns
-returns c = (
-  λ no. (let bad : ⊥ = cc in absurd bad),
-  λ some. absurd (c.loop-index.invariant some.0 (let low = some.1 in let past = c.loop-index-test.false in
-      omega arith) some.2),
-)
+returns c =
+    let past = c.loop-index-test.false in
+    let end = c.loop-index.auto.index-end in (
+      λ yes.
+          let some = c.loop-index.invariant.0 yes in
+          let low = some.2 in (some.0, some.1, omega (arith, low, end, c.requires.order), some.3),
+      λ some.
+          let low = some.2 in c.loop-index.invariant.1 (some.0, some.1, omega (arith, low, past), some.3),
+    )

@@ -11,13 +11,13 @@ loop-index-init c = least-begins c.args.words.now (put c.args.least c.args.famil
 
 inside : (c : In-loop-index) → c.loop-index.index < c.args.numbers.now.pebbles - 1
 inside c =
-    let long = held-long c.args.numbers.now c.requires.family.is_board (c.args.numbers.now.pebbles - 1)
+    let long = held-long c.args.numbers.now (c.args.numbers.now.pebbles - 1)
     c.args.family.now c.requires.family in
     omega (arith, long, ap length c.as_slice-index-end.ensures.value, c.loop-index-test.true)
 
 few : (c : In-loop-index) → get_or c.args.family.now.rests c.loop-index.index 0 + c.args.least ≤ 288136807515649
 few c =
-    rest-few c.args.numbers.now c.requires.family.is_board (c.args.numbers.now.pebbles - 1) c.args.family.now
+    rest-few c.args.numbers.now (c.args.numbers.now.pebbles - 1) c.args.family.now
     c.requires.family c.args.least c.requires.least (omega arith) c.loop-index.index (inside c)
 
 pub overflow_add-word : goal.overflow_add-word
@@ -29,7 +29,7 @@ offset_bounds-words-family c =
 
 pub bounds-words-family : goal.bounds-words-family
 bounds-words-family c =
-    let low = rest-below c.args.numbers.now c.requires.family.is_board (c.args.numbers.now.pebbles - 1)
+    let low = rest-below c.args.numbers.now (c.args.numbers.now.pebbles - 1)
     c.args.family.now c.requires.family c.args.least c.requires.least c.loop-index.index
     (inside (goal.at.bounds-words-family c).In-loop-index) in
     omega (arith, low, c.requires.words)
@@ -41,7 +41,7 @@ loop-index-preserved c =
     let at : ℕ = get_or c.args.family.now.rests c.loop-index.index 0 + c.args.least in
     let word_is : word_without words class c.loop-index.index ≡ get_or words at 0 =
     ap (λ n. get_or words n 0)
-    (others-number c.args.numbers.now c.requires.family.is_board (c.args.numbers.now.pebbles - 1) c.args.family.now
+    (others-number c.args.numbers.now (c.args.numbers.now.pebbles - 1) c.args.family.now
     c.requires.family c.args.least c.requires.least c.loop-index.index
     (inside (goal.at.loop-index-preserved c).In-loop-index)) in
     elim c.if-word-first.branch [
@@ -60,7 +60,7 @@ returns c =
     let words : List ℕ = c.args.words.now in
     let class : List ℕ = put c.args.least c.args.family.now.held in
     let count : ℕ = c.args.numbers.now.pebbles - 1 in
-    let long = held-long c.args.numbers.now c.requires.family.is_board count c.args.family.now c.requires.family in
+    let long = held-long c.args.numbers.now count c.args.family.now c.requires.family in
     let all : c.loop-index.index ≡ count =
     omega (
       arith,
@@ -74,7 +74,7 @@ returns c =
     let last : word_without words class c.loop-index.index ≡ get_or words c.args.family.now.number 0 =
     ap (word_without words class) all
     ∙ ap (λ n. get_or words n 0)
-    (number-last-others c.args.numbers.now c.requires.family.is_board count c.args.family.now c.requires.family
+    (number-last-others c.args.numbers.now count c.args.family.now c.requires.family
     c.args.least c.requires.least) in
     least-all words class c.loop-index.index c.loop-index.first (get_or words c.args.family.now.number 0)
     c.min.result c.args.numbers.now.pebbles c.loop-index.invariant last c.min.ensures (omega arith)

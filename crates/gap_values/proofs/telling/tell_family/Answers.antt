@@ -13,12 +13,12 @@ one c = let some = c.requires.some in omega arith
 
 few : (c : In-loop-least) → c.args.family.now.start + c.loop-least.least ≤ 288136807515649
 few c =
-    member-few c.args.board.now c.requires.family.is_board (c.args.board.now.pebbles - 2) c.args.family.now
+    member-few c.args.board.now (c.args.board.now.pebbles - 2) c.args.family.now
     c.requires.family c.loop-least.least c.loop-least-test.true (omega (arith, one c))
 
 low : (c : In-loop-least) → c.args.family.now.start + c.loop-least.least < length c.args.words.now
 low c =
-    let below = member-below c.args.board.now c.requires.family.is_board (c.args.board.now.pebbles - 2)
+    let below = member-below c.args.board.now (c.args.board.now.pebbles - 2)
     c.args.family.now c.requires.family c.loop-least.least c.loop-least-test.true in
     let same = ap (λ n. ways n (places c.args.board.now)) (one c) in
     omega (arith, below, same, c.requires.words)
@@ -46,10 +46,10 @@ loop-least-preserved c =
           (let gap = put c.loop-least.least f.held in
           let gap_is : IsClass (places b) (b.pebbles - 1) gap =
           subst (λ n. IsClass (places b) n gap) (one at)
-          (member-class b is (b.pebbles - 2) f c.requires.family c.loop-least.least c.loop-least-test.true) in
+          (member-class b (b.pebbles - 2) f c.requires.family c.loop-least.least c.loop-least-test.true) in
           told-gap b is c.requires.some c.args.words.now c.args.round c.requires.round
           (f.start + c.loop-least.least) (b.pebbles - 1) gap c.loop-least.sets w.tell_gap.new.sets gap_is
-          (member-number b is (b.pebbles - 2) f c.requires.family c.loop-least.least c.loop-least-test.true)
+          (member-number b (b.pebbles - 2) f c.requires.family c.loop-least.least c.loop-least-test.true)
           w.if-words-family.true (sym gap_is.size) c.loop-least.invariant w.tell_gap.ensures))
       | else-words-family w ↦ rw w.sets-is
           (subst (λ n. AreToldTo b c.args.words.now c.args.round n c.loop-least.sets) next

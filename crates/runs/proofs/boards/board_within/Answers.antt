@@ -1,6 +1,7 @@
 use Rattle.std.proofs.Common.{rules}
-use Rattle.runs.proofs.BoardLimits.{few_classes}
+use Rattle.runs.proofs.BoardLimits.{few_gaps}
 use Rattle.runs.proofs.boards.board_within.Goals as goal
 
-pub returns-clause-classes : goal.returns-clause-classes
-returns-clause-classes c = few_classes c.args.limit c.in_ok-board.board (search rules)
+pub returns-clause-gaps : goal.returns-clause-gaps
+returns-clause-gaps c =
+    few_gaps c.args.limit c.in_ok-board.board c.in_ok-board.ensures.found.0 (search rules)

@@ -1,6 +1,6 @@
 use Rattle.std.proofs.Common.{[], inl, inr, refl}
 use Rattle.std.proofs.lemmas.Result.{err_from_is_err_and}
-use Rattle.graphs.specs.declared.graph.Numbering.TheVariants.{Classes}
+use Rattle.runs.specs.declared.boards.BoardLimit.TheVariants.{Large}
 use Rattle.player.proofs.Cited.{none_more}
 use Rattle.runs.specs.ClassSolveRun.{CannotSolveByClasses, IsClassSolution}
 use Rattle.runs.specs.Run.{bytes_of}
@@ -14,7 +14,7 @@ returns-in_err-solved-clause-fault g c =
     let p = err_from_is_err_and c.from_residual-in_err-solved.result c.from_residual-in_err-solved.ensures.1 in
     let read = bytes_of g.R.Source.remaining c.args.reader.now c.read_text.new.reader in
     let written = bytes_of g.W.Sink.contents c.args.writer.now c.args.writer.now in
-    rw (p.1, p.2) (nothing_to_write IsClassSolution (CannotSolveByClasses c.args.workers) MAX_BOARD_BYTES read written
+    rw (p.1, p.2) (nothing_to_write IsClassSolution CannotSolveByClasses MAX_BOARD_BYTES read written
     c.in_ok-text.text.items c.in_ok-text.ensures.ok c.in_err-solved.field-0.0
     (rw c.as_slice.ensures.value at c.in_err-solved.ensures.fault))
 
@@ -24,7 +24,7 @@ returns-in_err-write_text-clause-fault g c =
     let read = bytes_of g.R.Source.remaining c.args.reader.now c.read_text.new.reader in
     let written = bytes_of g.W.Sink.contents c.args.writer.now c.write_text.new.writer in
     rw (p.1, p.2, c.in_err-write_text.ensures.fault)
-    (cut_short IsClassSolution (CannotSolveByClasses c.args.workers) MAX_BOARD_BYTES read written
+    (cut_short IsClassSolution CannotSolveByClasses MAX_BOARD_BYTES read written
     c.in_ok-text.text.items c.in_ok-text.ensures.ok c.in_ok-solved.solved.value _
     (rw c.as_slice.ensures.value at c.in_ok-solved.ensures.ok)
     (rw c.deref.ensures at c.in_err-write_text.ensures.prefix))
@@ -54,7 +54,7 @@ returns-in_err-solved-clause-notice g c =
     let read = bytes_of g.R.Source.remaining c.args.reader.now c.read_text.new.reader in
     let told = rw c.as_slice.ensures.value at c.solve_by_classes.ensures.notice in (
       told.0,
-      rw (p.1, p.2) (noticed_before Classes MAX_BOARD_BYTES read c.in_ok-text.text.items c.in_ok-text.ensures.ok
+      rw (p.1, p.2) (noticed_before Large MAX_BOARD_BYTES read c.in_ok-text.text.items c.in_ok-text.ensures.ok
           c.args.shows told.0 c.solve_by_classes.result told.1 c.in_err-solved.field-0.0 c.in_err-solved.was),
       told.2,
     )
@@ -65,7 +65,7 @@ returns-in_err-write_text-clause-notice g c =
     let read = bytes_of g.R.Source.remaining c.args.reader.now c.read_text.new.reader in
     let told = rw c.as_slice.ensures.value at c.solve_by_classes.ensures.notice in (
       told.0,
-      noticed_then Classes MAX_BOARD_BYTES read c.in_ok-text.text.items c.in_ok-text.ensures.ok c.args.shows told.0
+      noticed_then Large MAX_BOARD_BYTES read c.in_ok-text.text.items c.in_ok-text.ensures.ok c.args.shows told.0
           c.solve_by_classes.result told.1 c.in_ok-solved.solved c.in_ok-solved.was _,
       told.2,
     )
@@ -75,7 +75,7 @@ returns-clause-notice g c =
     let read = bytes_of g.R.Source.remaining c.args.reader.now c.read_text.new.reader in
     let told = rw c.as_slice.ensures.value at c.solve_by_classes.ensures.notice in (
       told.0,
-      noticed_then Classes MAX_BOARD_BYTES read c.in_ok-text.text.items c.in_ok-text.ensures.ok c.args.shows told.0
+      noticed_then Large MAX_BOARD_BYTES read c.in_ok-text.text.items c.in_ok-text.ensures.ok c.args.shows told.0
           c.solve_by_classes.result told.1 c.in_ok-solved.solved c.in_ok-solved.was _,
       told.2,
     )

@@ -1,5 +1,6 @@
 use Rattle.runs.proofs.AcceptedDocuments.{not_wrong}
-use Rattle.runs.proofs.BoardLimits.{within_classes}
+use Rattle.runs.specs.declared.boards.BoardLimit.TheVariants.{Small}
+use Rattle.runs.proofs.BoardLimits.{few_gaps}
 use Rattle.runs.proofs.Solutions.{report_exists, report_or_wrong}
 use Rattle.runs.proofs.OneOutcome.{one_report}
 use Rattle.runs.proofs.laws.report_or_fault.Goals as goal
@@ -14,7 +15,7 @@ returns c = record {
     report.0,
     record {
       is_board = report.1.is_board;
-      few = within_classes report.0 report.1.few;
+      few = few_gaps Small report.0 report.1.is_board report.1.few;
       spelled = report.1.spelled;
     },
     report.2,

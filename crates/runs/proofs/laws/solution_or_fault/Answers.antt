@@ -1,4 +1,4 @@
-use Rattle.graphs.specs.declared.graph.Numbering.TheVariants.{Ordered}
+use Rattle.runs.specs.declared.boards.BoardLimit.TheVariants.{Small}
 use Rattle.runs.proofs.AcceptedDocuments.{not_wrong}
 use Rattle.runs.proofs.Solutions.{solution_exists, solution_or_wrong}
 use Rattle.runs.proofs.OneOutcome.{one_solution, one_wrong}
@@ -9,6 +9,6 @@ returns c = record {
   solution = solution_exists;
   one = one_solution;
   either = solution_or_wrong;
-  one_fault = one_wrong Ordered;
-  not_both = λ text value written fault solution. not_wrong Ordered text solution.0 solution.1 fault;
+  one_fault = one_wrong Small;
+  not_both = λ text value written fault solution. not_wrong Small text solution.0 solution.1 fault;
 }

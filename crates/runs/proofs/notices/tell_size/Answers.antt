@@ -1,7 +1,8 @@
-use Rattle.std.proofs.Common.{[], ◌++◌, codes, refl, subst}
+use Rattle.std.proofs.Common.{[], ◌-◌, ◌++◌, codes, refl, subst}
 use Rattle.std.specs.Fmt.{decimal}
 use Rattle.board_text.specs.LineForms.{with_line_feed}
-use Rattle.classes.specs.Numbers.{class_count}
+use Rattle.classes.specs.Numbers.{ways}
+use Rattle.board_text.specs.PlainBoard.{places}
 use Rattle.player.specs.Showing.{IsMore, shown}
 use Rattle.player.proofs.Cited.{none_more, then_more, then_shown}
 use Rattle.runs.proofs.ToldNotices.{large_board, nobody_sees, small_board, three}
@@ -31,10 +32,10 @@ returns g c =
     let e3 = c.write_shown-2.new.errors in
     let e4 = c.write_more.new.writer in
     let first = codes "a large board: its " in
-    let number = decimal (class_count c.args.board.now) in
-    let last = codes " classes are solved, which can take seconds" in
-    let digits = rw c.count_classes.ensures at c.write_digits.ensures.digits in
-    let plain = rw c.count_classes.ensures at c.write_digits.ensures.plain in
+    let number = decimal (ways (c.args.board.now.pebbles - 1) (places c.args.board.now)) in
+    let last = codes " gaps are solved, which can take seconds" in
+    let digits = rw c.count_gaps.ensures at c.write_digits.ensures.digits in
+    let plain = rw c.count_gaps.ensures at c.write_digits.ensures.plain in
     let words = subst (λ l. IsMore known failed e0 e3 (shown l)) (three first number last)
     (then_shown known failed e0 e1 e3 first (number ++ last) refl c.write_shown.ensures
     (then_shown known failed e1 e2 e3 number last plain digits c.write_shown-2.ensures)) in

@@ -2,20 +2,22 @@ use Rattle.std.proofs.Common.{[], ◌++◌, append-nil, inl, inr, refl, sym, ap,
 use Rattle.std.specs.Prelude.{Err}
 use Rattle.runs.proofs.PlayFaults.{lines-told, ok_or_err, same_run_fault, writer-told}
 use Rattle.std.proofs.lemmas.Result.{err_from_is_err_and}
-use Rattle.runs.proofs.BoardLimits.{few_classes}
 use Rattle.player.proofs.Cited.{none_more, then_more}
 use Rattle.runs.specs.Notices.{notice_for}
+use Rattle.runs.proofs.BoardLimits.{few_gaps}
 use Rattle.runs.specs.PlayRun.{run_of_play}
 use Rattle.runs.proofs.playing.run_play_with_prompts.Goals as goal
 
-pub numbered_of-requires : goal.numbered_of-requires
-numbered_of-requires g c = few_classes c.args.limit c.in_ok-board.board c.in_ok-board.ensures.found.2.few
+pub of-requires : goal.of-requires
+of-requires g c =
+    let found = c.in_ok-board.ensures.found.2 in
+    few_gaps c.args.limit c.in_ok-board.board found.is_board found.few
 
 pub returns-clause-ok : goal.returns-clause-ok
 returns-clause-ok g c = (
   c.in_ok-board.board,
   c.in_ok-board.ensures.found,
-  (c.in_ok-play.ensures.ok, c.in_ok-play.ensures.value),
+  (rw c.new-moves.ensures at c.in_ok-play.ensures.ok, rw c.new-moves.ensures at c.in_ok-play.ensures.value),
 )
 
 pub returns-in_err-play-clause-fault : goal.returns-in_err-play-clause-fault
@@ -24,7 +26,7 @@ returns-in_err-play-clause-fault g c =
     rw (p.1, p.2) (inr (
       c.in_ok-board.board,
       c.in_ok-board.ensures.found,
-      (_, c.in_err-play.ensures.fault, refl),
+      (_, rw c.new-moves.ensures at c.in_err-play.ensures.fault, refl),
     ))
 
 pub returns-in_err-play-clause-streams : goal.returns-in_err-play-clause-streams
@@ -50,7 +52,7 @@ pub returns-in_err-play-clause-prompts : goal.returns-in_err-play-clause-prompts
 returns-in_err-play-clause-prompts g c =
     let p = err_from_is_err_and c.from_residual-in_err-play.result c.from_residual-in_err-play.ensures.1 in
     let notice = notice_for c.args.telling.size c.in_ok-board.board in
-    let told = c.play.ensures.prompts in (
+    let told = rw c.new-moves.ensures at c.play.ensures.prompts in (
       notice ++ told.0,
       rw (p.1, p.2) (inr (
         c.in_ok-board.board,
@@ -65,7 +67,7 @@ returns-in_err-play-clause-prompts g c =
 pub returns-clause-prompts : goal.returns-clause-prompts
 returns-clause-prompts g c =
     let notice = notice_for c.args.telling.size c.in_ok-board.board in
-    let told = c.play.ensures.prompts in (
+    let told = rw c.new-moves.ensures at c.play.ensures.prompts in (
       notice ++ told.0,
       inr (
         c.in_ok-board.board,
@@ -95,7 +97,7 @@ returns-in_err-values-clause-prompts g c =
         c.in_ok-board.ensures.found,
         [],
         sym (append-nil notice),
-        inl (ap Err c.in_err-values.ensures.memory, (refl, refl), refl),
+        inl (refl, (refl, refl), refl),
       )),
       c.tell_size.ensures,
     )

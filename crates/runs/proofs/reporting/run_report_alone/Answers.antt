@@ -1,5 +1,5 @@
 use Rattle.std.proofs.lemmas.Result.{err_from_is_err_and}
-use Rattle.graphs.specs.declared.graph.Numbering.TheVariants.{Ordered}
+use Rattle.runs.specs.declared.boards.BoardLimit.TheVariants.{Small}
 use Rattle.runs.specs.Report.{Reports}
 use Rattle.runs.specs.Run.{bytes_of}
 use Rattle.runs.specs.Texts.{HasNoBoard}
@@ -12,7 +12,7 @@ returns-in_err-report-clause-fault g c =
     let p = err_from_is_err_and c.from_residual-in_err-report.result c.from_residual-in_err-report.ensures.1 in
     let read = bytes_of g.R.Source.remaining c.args.reader.now c.read_text.new.reader in
     let written = bytes_of g.W.Sink.contents c.args.writer.now c.args.writer.now in
-    rw (p.1, p.2) (nothing_to_write (Reports Ordered) HasNoBoard MAX_BOARD_BYTES read written
+    rw (p.1, p.2) (nothing_to_write (Reports Small) HasNoBoard MAX_BOARD_BYTES read written
     c.in_ok-text.text.items c.in_ok-text.ensures.ok c.in_err-report.field-0.0
     (rw c.as_slice.ensures.value at c.in_err-report.ensures.fault))
 
@@ -20,7 +20,7 @@ pub returns-clause-fault : goal.returns-clause-fault
 returns-clause-fault g c =
     let read = bytes_of g.R.Source.remaining c.args.reader.now c.read_text.new.reader in
     let written = bytes_of g.W.Sink.contents c.args.writer.now c.write_text.new.writer in
-    cut_short_last (Reports Ordered) HasNoBoard MAX_BOARD_BYTES read written c.in_ok-text.text.items
+    cut_short_last (Reports Small) HasNoBoard MAX_BOARD_BYTES read written c.in_ok-text.text.items
     c.in_ok-text.ensures.ok
     c.write_text.result tt _ (rw c.as_slice.ensures.value at c.in_ok-report.ensures.report)
     (rw c.deref.ensures at c.write_text.ensures.prefix) c.write_text.ensures.fault

@@ -1,5 +1,5 @@
 use Rattle.std.proofs.lemmas.Result.{err_from_is_err_and}
-use Rattle.graphs.specs.declared.graph.Numbering.TheVariants.{Ordered}
+use Rattle.runs.specs.declared.boards.BoardLimit.TheVariants.{Small}
 use Rattle.runs.specs.Run.{bytes_of}
 use Rattle.runs.specs.SolveRun.{CannotSolve, IsSolution}
 use Rattle.runs.specs.declared.reading.TheConstants.{MAX_BOARD_BYTES}
@@ -11,7 +11,7 @@ returns-in_err-solved-clause-fault g c =
     let p = err_from_is_err_and c.from_residual-in_err-solved.result c.from_residual-in_err-solved.ensures.1 in
     let read = bytes_of g.R.Source.remaining c.args.reader.now c.read_text.new.reader in
     let written = bytes_of g.W.Sink.contents c.args.writer.now c.args.writer.now in
-    rw (p.1, p.2) (nothing_to_write IsSolution (CannotSolve Ordered c.args.workers) MAX_BOARD_BYTES read written
+    rw (p.1, p.2) (nothing_to_write IsSolution (CannotSolve Small c.args.workers) MAX_BOARD_BYTES read written
     c.in_ok-text.text.items c.in_ok-text.ensures.ok c.in_err-solved.field-0.0
     (rw c.as_slice.ensures.value at c.in_err-solved.ensures.fault))
 
@@ -21,7 +21,7 @@ returns-in_err-write_text-clause-fault g c =
     let read = bytes_of g.R.Source.remaining c.args.reader.now c.read_text.new.reader in
     let written = bytes_of g.W.Sink.contents c.args.writer.now c.write_text.new.writer in
     rw (p.1, p.2, c.in_err-write_text.ensures.fault)
-    (cut_short IsSolution (CannotSolve Ordered c.args.workers) MAX_BOARD_BYTES read written
+    (cut_short IsSolution (CannotSolve Small c.args.workers) MAX_BOARD_BYTES read written
     c.in_ok-text.text.items c.in_ok-text.ensures.ok c.in_ok-solved.solved.value _
     (rw c.as_slice.ensures.value at c.in_ok-solved.ensures.ok)
     (rw c.deref.ensures at c.in_err-write_text.ensures.prefix))

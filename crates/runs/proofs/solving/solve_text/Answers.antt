@@ -1,11 +1,11 @@
 use Rattle.std.proofs.lemmas.Result.{IfErr-weaker}
-use Rattle.graphs.specs.declared.graph.Numbering.TheVariants.{Ordered}
+use Rattle.runs.specs.declared.boards.BoardLimit.TheVariants.{Small}
 use Rattle.runs.proofs.SolverFaults.{any_worker}
 use Rattle.runs.proofs.solving.solve_text.Goals as goal
 
 pub returns-then-workers-eq1-clause-fault : goal.returns-then-workers-eq1-clause-fault
 returns-then-workers-eq1-clause-fault g c =
-    IfErr-weaker c.solve_text_alone.result _ _ (any_worker Ordered c.args.workers c.args.text.now)
+    IfErr-weaker c.solve_text_alone.result _ _ (any_worker Small c.args.workers c.args.text.now)
     c.solve_text_alone.ensures.fault
 
 pub returns-clause-ok : goal.returns-clause-ok

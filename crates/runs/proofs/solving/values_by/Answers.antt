@@ -1,16 +1,5 @@
-use Rattle.std.proofs.Common.{Err, ap}
-use Rattle.std.proofs.lemmas.Result.{err_from_is_err_and}
 use Rattle.classes.proofs.Cited.{few-of-small}
-use Rattle.runs.proofs.SolverFaults.{refused_some}
 use Rattle.runs.proofs.solving.values_by.Goals as goal
 
-pub returns-in_err-values-clause-refused : goal.returns-in_err-values-clause-refused
-returns-in_err-values-clause-refused g c =
-    let refused = err_from_is_err_and c.from_residual.result c.from_residual.ensures.1 in
-    rw refused.1 (refused_some c.args.workers c.args.board.now c.in_err-values.field-0.0 refused.0 refused.2
-    (λ large. c.in_err-values.ensures.fault large)
-    (λ several. c.in_err-values.ensures.worker (ap Err several))
-    (λ several. c.in_err-values.ensures.enough (ap Err several)))
-
-pub solve_classes-requires-clause-few : goal.solve_classes-requires-clause-few
-solve_classes-requires-clause-few g c = λ lifetimes lives. few-of-small c.args.board.now c.requires.few
+pub numbered_by-requires-clause-few : goal.numbered_by-requires-clause-few
+numbered_by-requires-clause-few g c = λ lifetimes lives. few-of-small c.args.board.now c.requires.few

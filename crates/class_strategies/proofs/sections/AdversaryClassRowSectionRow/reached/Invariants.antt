@@ -6,9 +6,9 @@ use Rattle.class_strategies.proofs.sections.AdversaryClassRowSectionRow.reached.
 
 abbrev pub invariant-loop-number : goal.invariant-loop-number
 invariant-loop-number g l = record {
-  spread : IsSpreadByRequests (g.M.MovesByPlaces.board l.moves) l.index l.reached;
-  expanded : AreExpandedClasses (g.M.MovesByPlaces.board l.moves) l.expanded l.reached;
+  spread : IsSpreadByRequests (g.M.Moves.board l.moves) l.index l.reached;
+  expanded : AreExpandedClasses (g.M.Moves.board l.moves) l.expanded l.reached;
 }
 
 abbrev pub decreases-loop-number : goal.decreases-loop-number
-decreases-loop-number g l = last_number (g.M.MovesByPlaces.board l.moves) - l.index
+decreases-loop-number g l = last_number (g.M.Moves.board l.moves) - l.index

@@ -9,18 +9,18 @@ use Rattle.class_strategies.proofs.sections.LabellerClassRowSectionRow.at.Goals 
 use Rattle.class_strategies.proofs.sections.LabellerClassRowSectionRow.at.Goals.{After-pebbles, in-Some, in_default}
 
 here : (g : Over) (c : After-pebbles g)
-    → take (g.M.MovesByPlaces.board c.args.moves.now).pebbles c.places_at-at.result
-    ≡ class_numbered (g.M.MovesByPlaces.board c.args.moves.now) c.args.number
+    → take (g.M.Moves.board c.args.moves.now).pebbles c.places_at-at.result
+    ≡ class_numbered (g.M.Moves.board c.args.moves.now) c.args.number
 here g c = (rw c.board-board.ensures at c.places_at-at.ensures.places) (class_numbered
-    (g.M.MovesByPlaces.board c.args.moves.now) c.args.number)
+    (g.M.Moves.board c.args.moves.now) c.args.number)
     c.requires.0.is c.requires.0.number_is
 
-size : (g : Over) (c : After-pebbles g) → c.pebbles.result ≡ (g.M.MovesByPlaces.board c.args.moves.now).pebbles
+size : (g : Over) (c : After-pebbles g) → c.pebbles.result ≡ (g.M.Moves.board c.args.moves.now).pebbles
 size g c = rw c.board-board.ensures at c.pebbles.ensures.value
 
 pub loop-pebble-preserved : goal.loop-pebble-preserved
 loop-pebble-preserved g c =
-    let b = g.M.MovesByPlaces.board c.args.moves.now in
+    let b = g.M.Moves.board c.args.moves.now in
     let at = (goal.at.loop-pebble-preserved g c).After-pebbles in
     let pebble : ℕ = c.loop-pebble.pebble in
     let end = rw c.board-board.ensures at c.pebbles-pebble-end.ensures.value in
@@ -41,7 +41,7 @@ loop-pebble-preserved g c =
 
 pub returns : goal.returns
 returns g c =
-    let b = g.M.MovesByPlaces.board c.args.moves.now in
+    let b = g.M.Moves.board c.args.moves.now in
     let at = (goal.at.returns g c).After-pebbles in
     let end = rw c.board-board.ensures at c.pebbles-pebble-end.ensures.value in
     let past : b.pebbles ≤ c.loop-pebble.pebble = omega (arith, end, c.loop-pebble-test.false) in

@@ -3,5 +3,5 @@ use Rattle.class_strategies.specs.Inside.ReachedClasses.{class_numbered}
 use Rattle.class_strategies.proofs.sections.LabellerClassRowSectionRow.at.Given as goal
 
 abbrev pub invariant-loop-pebble : goal.invariant-loop-pebble
-invariant-loop-pebble g l = AreTaken (g.M.MovesByPlaces.board l.moves) (class_numbered
-    (g.M.MovesByPlaces.board l.moves) l.number) l.pebble l.take
+invariant-loop-pebble g l = AreTaken (g.M.Moves.board l.moves) (class_numbered
+    (g.M.Moves.board l.moves) l.number) l.pebble l.take

@@ -15,12 +15,12 @@ use Rattle.class_strategies.proofs.sections.LabellerClassRowSectionRow.reached.G
 use Rattle.class_strategies.proofs.sections.LabellerClassRowSectionRow.reached.Goals.{else-lt}
 
 is_start : (g : Over) (c : After-start g)
-    → IsConfiguration (g.M.MovesByPlaces.board c.args.moves.now) (g.M.MovesByPlaces.board c.args.moves.now).start
+    → IsConfiguration (g.M.Moves.board c.args.moves.now) (g.M.Moves.board c.args.moves.now).start
 is_start g c = rw c.board-board.ensures at c.start.ensures.is_board.start
 
 pub loop-number-init : goal.loop-number-init
 loop-number-init g c =
-    let b = g.M.MovesByPlaces.board c.args.moves.now in
+    let b = g.M.Moves.board c.args.moves.now in
     let is = is_start g (goal.at.loop-number-init g c).After-start in
     let has : HasValue b b.start c.value.result =
     rw (c.start.ensures.value, c.board-board.ensures) at c.value.ensures in
@@ -45,34 +45,34 @@ add_answers-requires g c = spread_found _ _ _ _ _ _ _ c.loop-number.invariant (s
 pub overflow_add-index : goal.overflow_add-index
 overflow_add-index g c =
     let low = place_below
-    (g.M.MovesByPlaces.board c.args.moves.now) _ _ _ c.loop-number.index c.in-Some.number c.loop-number.reached
+    (g.M.Moves.board c.args.moves.now) _ _ _ c.loop-number.index c.in-Some.number c.loop-number.reached
     c.loop-number.invariant c.in-Some.ensures.once (sym c.in-Some.ensures.number) in
     omega (
       arith,
       low,
-      last_few (g.M.MovesByPlaces.board c.args.moves.now)
+      last_few (g.M.Moves.board c.args.moves.now)
           (rw c.board-board.ensures at c.start.ensures.is_board),
     )
 
 pub loop-number-smaller : goal.loop-number-smaller
 loop-number-smaller g c =
-    fewer_left (g.M.MovesByPlaces.board c.args.moves.now) _ _ _ c.loop-number.index c.in-Some.number
+    fewer_left (g.M.Moves.board c.args.moves.now) _ _ _ c.loop-number.index c.in-Some.number
     c.loop-number.reached
     c.loop-number.invariant c.in-Some.ensures.once (sym c.in-Some.ensures.number)
 
 pub loop-number-preserved : goal.loop-number-preserved
 loop-number-preserved g c =
-    spread_more (g.M.MovesByPlaces.board c.args.moves.now) _ _ _ (is_start g
+    spread_more (g.M.Moves.board c.args.moves.now) _ _ _ (is_start g
     (goal.at.loop-number-preserved g c).After-start)
-    (answer_moves (g.M.MovesByPlaces.board c.args.moves.now)) c.loop-number.index c.in-Some.number _ _
+    (answer_moves (g.M.Moves.board c.args.moves.now)) c.loop-number.index c.in-Some.number _ _
     c.loop-number.invariant (sym c.in-Some.ensures.number) c.in_ok-add_answers.ensures
 
 pub returns : goal.returns
 returns g c = λ start.
     let is = is_start g (goal.at.returns g c).After-start in
     record {
-      each = spread_ends (g.M.MovesByPlaces.board c.args.moves.now) _ _ _ is (answer_moves
-          (g.M.MovesByPlaces.board c.args.moves.now)) c.loop-number.index _
+      each = spread_ends (g.M.Moves.board c.args.moves.now) _ _ _ is (answer_moves
+          (g.M.Moves.board c.args.moves.now)) c.loop-number.index _
           c.loop-number.invariant (sym c.in_default.ensures.number);
-      rows = labellers (g.M.MovesByPlaces.board c.args.moves.now) start is;
+      rows = labellers (g.M.Moves.board c.args.moves.now) start is;
     }

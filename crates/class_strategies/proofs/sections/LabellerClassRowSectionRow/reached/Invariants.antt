@@ -4,7 +4,7 @@ use Rattle.class_strategies.proofs.SpreadClasses.{IsSpreadByAnswers}
 use Rattle.class_strategies.proofs.sections.LabellerClassRowSectionRow.reached.Given as goal
 
 abbrev pub invariant-loop-number : goal.invariant-loop-number
-invariant-loop-number g l = IsSpreadByAnswers (g.M.MovesByPlaces.board l.moves) l.index l.reached
+invariant-loop-number g l = IsSpreadByAnswers (g.M.Moves.board l.moves) l.index l.reached
 
 abbrev pub decreases-loop-number : goal.decreases-loop-number
-decreases-loop-number g l = last_number (g.M.MovesByPlaces.board l.moves) - l.index
+decreases-loop-number g l = last_number (g.M.Moves.board l.moves) - l.index

@@ -1,4 +1,4 @@
-use Rattle.std.proofs.Common.{None, Some, inl, inr, ap, ◌∙◌, ◌≤◌, subst, arith}
+use Rattle.std.proofs.Common.{None, Some, inl, inr, ap, sym, ◌∙◌, ◌≤◌, subst, arith}
 use Rattle.board_text.specs.declared.board.TheConstants.{MAX_LABELS}
 use Rattle.player.specs.Transcript.{no_answer_line, stopped_line, PersonAnswers, Going}
 use Rattle.player.specs.Inside.Transcript.{standing_of}
@@ -8,20 +8,34 @@ use Rattle.player.proofs.AnswerLines.{no_legal_number, no_label, stop_asked, say
 use Rattle.player.proofs.AppendedLines.{says_line}
 use Rattle.player.proofs.labeller_side.LabellerSidePlay.reply.Goals as goal
 use Rattle.player.proofs.labeller_side.LabellerSidePlay.reply.Goals.{else-number-labels-via-else-number-labels}
-use Rattle.player.proofs.labeller_side.LabellerSidePlay.reply.Goals.{else-number-labels-via-then-number-labels+else-is_legal}
+use Rattle.player.proofs.labeller_side.LabellerSidePlay.reply.Goals.{else-number-labels-via-then-number-labels+else-contains}
 
-pub is_legal-requires : goal.is_legal-requires
-is_legal-requires c =
-    let of_seat = c.board.ensures ∙ ap (λ s. s.board) c.self.view_is in
-    omega (arith, c.if-number-labels.true, c.from-labels.ensures, c.labels.ensures.value, ap (λ b. b.labels) of_seat)
+pub contains-requires : goal.contains-requires
+contains-requires g c = omega (
+  arith,
+  c.if-number-labels.true,
+  c.from-labels.ensures,
+  c.labels.ensures.value,
+  c.labels.ensures.is_board.labels.1,
+)
 
-pub returns-then-is_legal-clause-said : goal.returns-then-is_legal-clause-said
-returns-then-is_legal-clause-said c =
+pub move_to_label-requires-clause-legal : goal.move_to_label-requires-clause-legal
+move_to_label-requires-clause-legal g c =
+    (c.legal.ensures _ (omega (
+      arith,
+      c.if-number-labels.true,
+      c.from-labels.ensures,
+      c.labels.ensures.value,
+      c.labels.ensures.is_board.labels.1,
+    ))).0 (sym c.contains.ensures ∙ c.if-contains.true)
+
+pub returns-then-contains-clause-said : goal.returns-then-contains-clause-said
+returns-then-contains-clause-said g c =
     says_all c.move_to_label.result _ _ _ _ c.move_to_label.ensures.said
     (λ end said asks line spells. asks line (rw c.in-Number.is at spells).1)
 
 pub returns-else-number-labels-clause-said : goal.returns-else-number-labels-clause-said
-returns-else-number-labels-clause-said c =
+returns-else-number-labels-clause-said g c =
     let seat = c.args.self.now in
     let of_seat = c.board.ensures ∙ ap (λ s. s.board) c.self.view_is in
     says_line c.say_no_answer.result _ _ no_answer_line None
@@ -38,12 +52,18 @@ returns-else-number-labels-clause-said c =
             c.labels.ensures.value,
             ap (λ b. b.labels) of_seat,
           ))
-      | else-number-labels-via-then-number-labels+else-is_legal w ↦
-          inl (λ legal. let impossible = w.if-is_legal.ensures.1 legal in cc)
+      | else-number-labels-via-then-number-labels+else-contains w ↦
+          inl (λ legal. let is = (w.legal.ensures _ (omega (
+            arith,
+            w.if-number-labels.true,
+            c.from-labels.ensures,
+            c.labels.ensures.value,
+            c.labels.ensures.is_board.labels.1,
+          ))).1 legal in let is_not = w.contains.ensures in cc)
     ])))
 
 pub returns-in-Quit-clause-said : goal.returns-in-Quit-clause-said
-returns-in-Quit-clause-said c =
+returns-in-Quit-clause-said g c =
     let seat = c.args.self.now in
     says_line c.end_stopped.result _ _ (stopped_line c.self.inside.requests) (Some (Stopped c.self.inside.requests))
     (λ end said. IsResponseToMeaning (PersonAnswers seat.board) (Going seat.at seat.requests) c.args.meaning said
@@ -51,7 +71,7 @@ returns-in-Quit-clause-said c =
     c.end_stopped.ensures (rw (c.in-Quit.is, ap (λ s. s.requests) c.self.view_is) (stop_asked seat))
 
 pub returns-in-Other-clause-said : goal.returns-in-Other-clause-said
-returns-in-Other-clause-said c =
+returns-in-Other-clause-said g c =
     let seat = c.args.self.now in
     let of_seat = c.board.ensures ∙ ap (λ s. s.board) c.self.view_is in
     says_line c.say_no_answer-in-Other.result _ _ no_answer_line None

@@ -1,0 +1,14 @@
+use Rattle.std.proofs.Common.{ℕ, List, subst, sym}
+use Rattle.gap_values.specs.Sizes.{AreValueCounts}
+use Rattle.gap_values.proofs.ClassCounts.{sizes-all, trimmed}
+use Rattle.gap_values.proofs.sizes.sizes_alone.Goals as goal
+
+pub returns : goal.returns
+returns c =
+    let b = c.args.numbers.now in
+    let sizes = c.in_ok-sizes.sizes in
+    let cut = c.trim.ensures.finite in
+    rw c.trim.ensures.forever (subst (λ (l : List ℕ). AreValueCounts b l sizes.forever) (sym cut.is)
+    (trimmed b sizes.finite.items sizes.forever _
+    (sizes-all b c.args.words.now c.rounds_in-rounds.result sizes c.pebbles.ensures.is_board c.requires
+    c.rounds_in-rounds.ensures c.in_ok-sizes.ensures) cut.within cut.last cut.zeros))

@@ -1,0 +1,7 @@
+use Rattle.std.proofs.Common.{◌*◌, min, length}
+use Rattle.gap_values.specs.Inside.Counts.{AreSizesBetween}
+use Rattle.gap_values.proofs.sizes.sizes_in_parts.Given as goal
+
+abbrev pub invariant-loop-index : goal.invariant-loop-index
+invariant-loop-index g l =
+    AreSizesBetween l.numbers l.words l.rounds 0 (min (l.index * l.size) (length l.words)) l.sizes

@@ -1,0 +1,7 @@
+use Rattle.runs.specs.declared.boards.BoardLimit.TheVariants.{Small}
+use Rattle.runs.proofs.BoardLimits.{few_gaps}
+use Rattle.runs.proofs.reporting.report_text_alone.Goals as goal
+
+pub count_alone-requires : goal.count_alone-requires
+count_alone-requires c =
+    few_gaps Small c.in_ok-board.board c.in_ok-board.ensures.found.is_board c.in_ok-board.ensures.found.few

@@ -1,0 +1,114 @@
+//! Counting the configurations of a board by their values.
+
+ghost use Rattle.std.specs.Prelude.{◌≡◌, ◌-◌, ◌<◌, ◌≤◌, IfOk, IfErr};
+ghost use Rattle.board_text.specs.PlainBoard.{places};
+ghost use Rattle.board_text.specs.Ranges.{InRange};
+ghost use Rattle.classes.specs.Numbers.{ways};
+ghost use Rattle.gap_values.specs.Sizes.{AreValueCounts};
+ghost use Rattle.positions.specs.Ranks.{configurations};
+ghost use Rattle.runs.specs.Inside.Counting.{IsCounted};
+ghost use Rattle.runs.specs.Inside.SolveRun.{IsRefused};
+ghost use Rattle.runs.specs.Texts.{IsWithin};
+ghost use Rattle.runs.specs.declared.boards.BoardLimit.TheVariants.{Small};
+
+use crate::boards::BoardLimit;
+use crate::fault::RunFault;
+use crate::solving::numbered_by;
+use board_text::{Board, Memory};
+use gap_values::{GapValues, MAX_GAPS, Sizes};
+use positions::{MAX_CONFIGURATIONS, Value};
+use round_workers::MAX_WORKERS;
+use solver::NumberedValues;
+use std::alloc::Global;
+use std::sync::Wait;
+use std::thread::Threads;
+
+/// The value of a board's start, and how many configurations have each value.
+#[derive(Drop)]
+pub(crate) struct Counted {
+    pub(crate) start: Value,
+    pub(crate) sizes: Sizes,
+}
+
+/// What is counted of `board`, which is within the `limit`, by this number of `workers`. Several
+/// share the rounds over the graph of a small board; of any other they close the gaps of a round.
+pub(crate) fn count(
+    rt: &(impl Threads + Wait + Sync),
+    alloc: Global,
+    limit: BoardLimit,
+    workers: u8,
+    board: &Board,
+) -> Result<Counted, RunFault>
+    requires within { IsWithin limit board.now }
+    requires gaps { ways (board.now.pebbles - 1) (places board.now) ≤ MAX_GAPS }
+    requires workers { InRange 1 MAX_WORKERS workers }
+    ensures counted { IfOk result (IsCounted board.now) }
+    ensures refused { IfErr result (IsRefused limit workers board.now) }
+{
+    match limit {
+        BoardLimit::Small if workers > 1 => count_by_classes(rt, alloc, workers, board),
+        _ => Ok(count_by_gaps(rt, alloc, workers, board)?),
+    }
+}
+
+/// What is counted of `board` by its gaps, by this number of `workers`.
+fn count_by_gaps(
+    rt: &(impl Threads + Sync),
+    alloc: Global,
+    workers: u8,
+    board: &Board,
+) -> Result<Counted, Memory>
+    requires gaps { ways (board.now.pebbles - 1) (places board.now) ≤ MAX_GAPS }
+    requires workers { 1 ≤ workers }
+    ensures { IfOk result (IsCounted board.now) }
+{
+    let values = GapValues::of_by(rt, alloc, board, workers)?;
+    let start = values.value(board.start());
+    let sizes = values.sizes_by(rt, alloc, workers)?;
+    Ok(Counted { start, sizes })
+}
+
+/// What is counted of `board`, on this thread.
+pub(crate) fn count_alone(alloc: Global, board: &Board) -> Result<Counted, Memory>
+    requires { ways (board.now.pebbles - 1) (places board.now) ≤ MAX_GAPS }
+    ensures { IfOk result (IsCounted board.now) }
+{
+    let values = GapValues::of(alloc, board)?;
+    let start = values.value(board.start());
+    let sizes = values.sizes(alloc)?;
+    Ok(Counted { start, sizes })
+}
+
+/// What is counted of a small `board` by its classes, by this number of `workers`.
+fn count_by_classes(
+    rt: &(impl Threads + Wait + Sync),
+    alloc: Global,
+    workers: u8,
+    board: &Board,
+) -> Result<Counted, RunFault>
+    requires few { configurations board.now ≤ MAX_CONFIGURATIONS }
+    requires workers { InRange 1 MAX_WORKERS workers }
+    ensures counted { IfOk result (IsCounted board.now) }
+    ensures refused { IfErr result (IsRefused BoardLimit.Small workers board.now) }
+{
+    let values = numbered_by(rt, alloc, workers, board)?;
+    let start = values.of(board.start());
+    let sizes = sizes_of(alloc, &values)?;
+    Ok(Counted { start, sizes })
+}
+
+/// How many configurations have each of these `values`.
+fn sizes_of(alloc: Global, values: &NumberedValues) -> Result<Sizes, Memory>
+    ensures { IfOk result
+        (λ sizes. AreValueCounts values.now.board sizes.finite.items sizes.forever) }
+{
+    let forever = values.count(Value::Forever);
+    let mut finite = Vec::new(alloc);
+    let Some(greatest) = values.greatest_finite() else {
+        return Ok(Sizes { finite, forever });
+    };
+    for value in 0..=greatest {
+        finite.push(values.count(Value::Finite(value)))?;
+    }
+    Ok(Sizes { finite, forever })
+}

@@ -1,0 +1,145 @@
+//! The best answers to requests and the best requests, by the values of gaps.
+
+ghost use Rattle.std.specs.Prelude.{◌≡◌, ◌<◌, ◌≤◌, ℕ, length};
+ghost use Rattle.board_text.specs.PlainBoard.{IsConfiguration};
+ghost use Rattle.classes.specs.ClassGaps.{gap_at};
+ghost use Rattle.strategies.specs.Inside.MovesAt.{position};
+
+use crate::configuration::Configuration;
+use crate::gap_best::Best;
+use crate::moves::Moves;
+use crate::moves_here::MovesHere;
+use board_text::{Board, MAX_PEBBLES, Memory};
+use classes::ClassPlaces;
+use gap_values::GapValues;
+use positions::Value;
+use std::alloc::Global;
+use std::marker::Model;
+
+/// The best moves on a board, by the values of its gaps. The board may have more classes than there
+/// are numbers of 32 bits.
+///
+/// Contracts see the board.
+#[derive(Drop)]
+pub struct GapMoves<'a> {
+    board: &'a Board,
+    values: &'a GapValues,
+}
+
+impl<'a> Model for GapMoves<'a> {
+    ghost use Rattle.std.specs.Prelude.{◌≡◌};
+    ghost use Rattle.board_text.specs.PlainBoard.{PlainBoard};
+
+    ghost Value = { PlainBoard };
+
+    ghost view = { λ m. m.board.now };
+
+    ghost invariant = { λ m. m.values.now ≡ m.board.now };
+}
+
+impl<'a> GapMoves<'a> {
+    /// The best moves on `board`, whose values are `values`.
+    pub fn new(board: &'a Board, values: &'a GapValues) -> GapMoves<'a>
+        requires same_board { values.now ≡ board.now }
+        ensures { result ≡ board.now }
+    {
+        GapMoves { board, values }
+    }
+
+    /// The best moves at the configuration `held`.
+    fn at(&self, held: &[u16]) -> GapMovesAt<'_>
+        requires { IsConfiguration self.now held.now }
+        ensures { result ≡ position self.now held.now }
+    {
+        let _ = self.board.pebbles();
+        GapMovesAt {
+            board: self.board,
+            values: self.values,
+            configuration: Configuration::of(held),
+        }
+    }
+}
+
+impl<'a> Moves for GapMoves<'a> {
+    ghost board = { λ moves. moves };
+
+    fn board(&self) -> &Board {
+        self.board
+    }
+
+    /// Nothing is found here: a best answer costs a look at each label.
+    fn listed(&self, _alloc: Global) -> Result<GapMoves<'a>, Memory> {
+        Ok(GapMoves::new(self.board, self.values))
+    }
+
+    fn value(&self, held: &[u16]) -> Value {
+        self.values.value(held)
+    }
+
+    fn answer(&self, held: &[u16], pebble: u8) -> Option<u16> {
+        self.at(held).label(pebble)
+    }
+
+    fn answers(&self, held: &[u16]) -> (Value, [Option<Best>; MAX_PEBBLES]) {
+        let here = self.at(held);
+        (here.value(), here.answers())
+    }
+
+    fn request(&self, held: &[u16]) -> (Value, Option<u8>) {
+        let here = self.at(held);
+        (here.value(), here.request())
+    }
+}
+
+/// The best moves at one configuration. Contracts see the board and the configuration.
+#[derive(Drop)]
+struct GapMovesAt<'a> {
+    board: &'a Board,
+    values: &'a GapValues,
+    configuration: Configuration,
+}
+
+impl<'a> Model for GapMovesAt<'a> {
+    ghost use Rattle.strategies.specs.Inside.MovesAt.{HeldPosition, position, IsGapStanding};
+
+    ghost Value = { HeldPosition };
+
+    ghost view = { λ s. position s.board.now s.configuration };
+
+    ghost invariant = { λ s. IsGapStanding s.board.now s.values.now s.configuration };
+}
+
+impl MovesHere for GapMovesAt<'_> {
+    ghost position = { λ here. here };
+
+    fn pebbles(&self) -> u8 {
+        self.configuration.pebbles()
+    }
+
+    fn value(&self) -> Value {
+        self.values.value(self.configuration.as_slice())
+    }
+
+    fn answer(&self, pebble: u8) -> Option<Best> {
+        let gap = others_of(self.configuration.as_slice(), pebble);
+        let label = self.values.best_answer(self.board, gap.as_slice())?;
+        let result = self.configuration.with(pebble, label);
+        let value = self.values.value(result.as_slice());
+        Some(Best { label, value })
+    }
+}
+
+/// The places of all pebbles but `pebble` at the configuration `held`, greatest first.
+fn others_of(held: &[u16], pebble: u8) -> ClassPlaces
+    requires pebble { pebble < length held.now }
+    requires few { length held.now ≤ MAX_PEBBLES }
+    ensures { result ≡ gap_at held.now pebble }
+{
+    let mut gap = ClassPlaces::none();
+    for index in (0..held.len()).rev() {
+        if index != pebble as usize {
+            gap.put(held[index]);
+        }
+    }
+    gap
+}
