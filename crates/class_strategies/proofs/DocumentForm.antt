@@ -88,7 +88,8 @@ always_asked : (value : Value) → asks_labeller (claim_of value) ≡ true
 always_asked (Finite number) = refl
 always_asked Forever = refl
 
-asked_or_none : (value : Value) (rows : List RequestRow) → ((row : RequestRow) → Contains rows row → AsksAdversary value)
+asked_or_none : (value : Value) (rows : List RequestRow) → ((row : RequestRow) → Contains rows row → AsksAdversary
+    value)
     → (asks_adversary (claim_of value) ≡ true) ⊎ (rows ≡ [])
 asked_or_none (Finite number) rows asks = inl refl
 asked_or_none Forever rows asks = inr (empty rows asks)

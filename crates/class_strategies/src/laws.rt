@@ -48,8 +48,8 @@ pub fn one_class_document_of_a_board()
         → IsClassDocumentOf board second → first ≡ second }
 {}
 
-/// A finite value of a configuration is less than the number of gaps of its board: of classes of all
-/// pebbles but one.
+/// A finite value of a configuration is less than the number of gaps of its board: of classes of
+/// all pebbles but one.
 pub fn finite_values_are_less_than_the_number_of_gaps()
     ensures { (board : PlainBoard) → (configuration : List ℕ) → (number : ℕ)
         → IsConfiguration board configuration → HasValue board configuration (Finite number)

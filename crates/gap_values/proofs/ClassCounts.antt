@@ -3,7 +3,8 @@ use Rattle.std.proofs.Common.{◌≡◌, ◌≢◌, ℕ, suc, ◌+◌, ◌-◌, 
 use Rattle.std.proofs.Common.{map, take, sym, ap, ◌∙◌, subst, inl, inr, arith, eq-eqb, ne_eqb, eqb-true}
 use Rattle.std.specs.List.{range_with_len}
 use Rattle.std.proofs.lemmas.Bool.{cases_lt, cases_eq}
-use Rattle.std.proofs.lemmas.List.{length-set, get_or-set_same, get_or-set_other, get_or-take, get_or_past, length-take-le}
+use Rattle.std.proofs.lemmas.List.{length-set, get_or-set_same, get_or-set_other, get_or-take, get_or_past}
+use Rattle.std.proofs.lemmas.List.{length-take-le}
 use Rattle.std.proofs.lemmas.List.Elements.{Contains-get_or}
 use Rattle.std.proofs.lemmas.List.FromFn.{get_or-map-range_with_len, length-map-range_with_len}
 use Rattle.std.specs.List.{remove}
@@ -23,7 +24,9 @@ use Rattle.classes.proofs.Cited.{orders, orders-weigh, weight-orders}
 use Rattle.classes.proofs.Cited.{sum-zero, sum-suc, sum-same}
 use Rattle.gap_values.specs.declared.families.Family.{Family}
 use Rattle.gap_values.specs.declared.sizes.Sizes.{Sizes}
-use Rattle.gap_values.specs.Inside.Counts.{AreCounted, AreSizesBetween, IsAboveRounds, IsCounted, IsTrimmed, counted, word_at}
+use Rattle.gap_values.specs.Inside.Counts.{AreCounted, AreSizesBetween, IsAboveRounds, IsCountBetween, IsTrimmed}
+use Rattle.gap_values.specs.Inside.Counts.{counted}
+use Rattle.gap_values.specs.Inside.Counts.{word_at}
 use Rattle.gap_values.specs.Inside.Families.{IsFamilyOf}
 use Rattle.gap_values.specs.Sizes.{HasValueCount, AreValueCounts}
 use Rattle.gap_values.proofs.FamilyMembers.{edge-begins, edge-is, edge-within, member-class, member-with, some-lists}
@@ -48,15 +51,16 @@ word-of-member b words f least word family low word_is =
     ∙ member-with b (b.pebbles - 1) f family least low)
     ∙ sym word_is
 
-pub counting-begins : (board : PlainBoard) (words : List ℕ) (wanted from : ℕ) → IsCounted board words wanted from from 0
+pub counting-begins : (board : PlainBoard) (words : List ℕ) (wanted from : ℕ)
+    → IsCountBetween board words wanted from from 0
 counting-begins board words wanted from = record { is = λ weight are. omega arith; few = omega arith }
 
 -- a class of the wanted word
 pub counting-more : (board : PlainBoard) (words : List ℕ) (wanted from number count weight : ℕ)
-    → IsCounted board words wanted from number count
+    → IsCountBetween board words wanted from number count
     → word_at board words number ≡ wanted
     → HasWeight (places board) board.pebbles number weight → weight ≤ 720
-    → IsCounted board words wanted from (number + 1) (count + weight)
+    → IsCountBetween board words wanted from (number + 1) (count + weight)
 counting-more board words wanted from number count own was same has few =
     let next : number + 1 ≡ suc number = omega arith in
     record {
@@ -75,9 +79,9 @@ counting-more board words wanted from number count own was same has few =
 
 -- a class of another word
 pub counting-same : (board : PlainBoard) (words : List ℕ) (wanted from number count : ℕ)
-    → IsCounted board words wanted from number count
+    → IsCountBetween board words wanted from number count
     → word_at board words number ≢ wanted
-    → IsCounted board words wanted from (number + 1) count
+    → IsCountBetween board words wanted from (number + 1) count
 counting-same board words wanted from number count was differ =
     let next : number + 1 ≡ suc number = omega arith in
     record {
@@ -94,8 +98,8 @@ counting-same board words wanted from number count was differ =
 
 -- the classes up to a number, and those from there on
 pub counting-joined : (board : PlainBoard) (words : List ℕ) (wanted from middle to first second : ℕ)
-    → IsCounted board words wanted from middle first → IsCounted board words wanted middle to second
-    → IsCounted board words wanted from to (first + second)
+    → IsCountBetween board words wanted from middle first → IsCountBetween board words wanted middle to second
+    → IsCountBetween board words wanted from to (first + second)
 counting-joined board words wanted from middle to first second one two = record {
   is = λ weight are.
       let before : first + counted board words weight wanted from ≡ counted board words weight wanted middle =
@@ -139,7 +143,7 @@ class-value board words number rounds low =
 
 pub counted-all : (board : PlainBoard) (words : List ℕ) (wanted count : ℕ) → AreRounds board words
     → wanted ≤ 4294967295
-    → IsCounted board words wanted 0 (ways board.pebbles (places board)) count
+    → IsCountBetween board words wanted 0 (ways board.pebbles (places board)) count
     → HasValueCount board (round_of_word wanted) count
 counted-all board words wanted count rounds few was =
     let many : ℕ = ways board.pebbles (places board) in
@@ -200,16 +204,18 @@ finite-more board words rounds from number word weight new finite forever low to
       size = length-set finite word new ∙ size;
       each = λ value inside. elim (cases_eq value word) [
         | inl equal ↦
-            subst (λ v. IsCounted board words v from (number + 1) (get_or (set finite word new) v 0)) (sym equal)
-            (subst (IsCounted board words word from (number + 1))
+            subst (λ v. IsCountBetween board words v from (number + 1) (get_or (set finite word new) v 0)) (sym equal)
+            (subst (IsCountBetween board words word from (number + 1))
             (sym (get_or-set_same finite word new 0 (omega arith) ∙ new_is))
             (counting-more board words word from number (get_or finite word 0) weight (was.each word low) same has few))
         | inr differ ↦
-            subst (IsCounted board words value from (number + 1)) (sym (get_or-set_other finite word value new 0 differ))
+            subst (IsCountBetween board words value from (number + 1))
+            (sym (get_or-set_other finite word value new 0 differ))
             (counting-same board words value from number (get_or finite value 0) (was.each value inside)
             (λ equal. differ (sym equal ∙ same)))
       ];
-      unending = counting-same board words 4294967295 from number forever was.unending (λ equal. omega (arith, same, equal));
+      unending = counting-same board words 4294967295 from number forever was.unending
+          (λ equal. omega (arith, same, equal));
     }
 
 -- the families up to a number, and those from there on
@@ -224,7 +230,7 @@ sizes-joined board words rounds from middle to one two sum first second before b
     record {
       size = size ∙ many;
       each = λ value low.
-          subst (IsCounted board words value from to) (sym (each value (omega arith)))
+          subst (IsCountBetween board words value from to) (sym (each value (omega arith)))
           (counting-joined board words value from middle to (get_or one value 0) (get_or two value 0)
           (before.each value low) (behind.each value low));
       unending = counting-joined board words 4294967295 from middle to first second before.unending behind.unending;
@@ -394,7 +400,8 @@ trimmed board finite forever values counts within last zeros =
             let inside = counts.inside some.0 some.2 in
             elim (cases_lt some.0 values) [
               | inl low ↦ omega arith
-              | inr past ↦ absurd (occurs-counted board some.0 (get_or finite some.0 0) (counts.each some.0 inside) some.2
+              | inr past ↦ absurd (occurs-counted board some.0 (get_or finite some.0 0)
+                  (counts.each some.0 inside) some.2
                   (zeros some.0 past inside))
             ],
       );

@@ -9,7 +9,8 @@ use Rattle.player.specs.Inside.Prompts.{IsToldHere, IsToldAtEnd, greeting_if}
 use Rattle.player.specs.Inside.LineInput.{GivesNoLine, Unread}
 use Rattle.player.specs.Inside.Steps.{FailsToWrite}
 use Rattle.player.specs.Play.{BreaksOff, Ends, GoesOnOrEnds, HasEnded}
-use Rattle.player.specs.Prompts.{ArePrompts, AreToldResponses, BringsAndTells, EndsBefore, HasValueIn, IsPlayedAndTold, IsToldAt}
+use Rattle.player.specs.Prompts.{ArePrompts, AreToldResponses, BringsAndTells, EndsBefore, HasValueIn, IsPlayedAndTold}
+use Rattle.player.specs.Prompts.{IsToldAt}
 use Rattle.player.specs.Prompts.{IsToldIn, IsToldLast, NearlyTells, TellsBefore, greeting_of, left_words, shown_line}
 use Rattle.player.specs.Prompts.{start_of, start_words}
 use Rattle.player.specs.Showing.{AreForPerson, HasNoControl}

@@ -1,5 +1,6 @@
--- What a person at a terminal is told in a play: a greeting, before each line how many more requests
--- can be answered and what can be typed, and at the end whether the play could have gone on.
+-- What a person at a terminal is told in a play: a greeting, before each line how many more
+-- requests can be answered and what can be typed, and at the end whether the play could have gone
+-- on.
 use Rattle.std.specs.Prelude.{◌≡◌, ℕ, ◌<◌, ◌-◌, ◌==◌, ◌↔◌, ◌⊎◌, if◌then◌else◌, List, [], ◌∷◌, ◌++◌}
 use Rattle.std.specs.Prelude.{AllPairs, Bool, Contains, IfErr, IfOk, Option, Result, codes, false}
 use Rattle.std.specs.Prelude.{replicate, true}
@@ -133,8 +134,8 @@ EndsBefore (Stuck requests) value = IsLess (Finite requests) value
 EndsBefore (Stopped requests) value = IsLess (Finite requests) value
 EndsBefore NoStrategy value = ⊥
 
--- that the play could have gone on, if fewer requests were answered than the value of its start has;
--- else nothing
+-- that the play could have gone on, if fewer requests were answered than the value of its start
+-- has; else nothing
 abbrev pub IsToldOfStart : Value → PlayEnd → List ℕ → Type 0
 IsToldOfStart value end told = (EndsBefore end value × (told ≡ shown_line (start_words value)))
     ⊎ ((EndsBefore end value → ⊥) × (told ≡ []))
@@ -185,4 +186,5 @@ pub record IsToldIn (Tells : List ℕ → List (List ℕ) → List ℕ → Stand
 -- the same of a play from its opening on
 abbrev pub ArePrompts : Bool → Game → Option (List ℕ) → Option (List ℕ) → Option (List ℕ)
     → Option (List ℕ) → Result PlayEnd PlayFault → List ℕ → Type 0
-ArePrompts shows game = IsToldIn (IsPlayedAndTold shows game) (IsPlayed game) (IsToldLast shows game)
+ArePrompts shows game =
+    IsToldIn (IsPlayedAndTold shows game) (IsPlayed game) (IsToldLast shows game)

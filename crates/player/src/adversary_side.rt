@@ -111,7 +111,11 @@ impl<'a, M: Moves> Model for AdversarySide<'a, M> {
 
     ghost Value = { PlayState };
 
-    ghost view = { λ s. record { board = M.board s.moves.now; at = s.configuration; requests = s.requests } };
+    ghost view = { λ s. record {
+      board = M.board s.moves.now;
+      at = s.configuration;
+      requests = s.requests;
+    } };
 
     ghost invariant = { λ s. IsConfiguration (M.board s.moves.now) s.configuration };
 }

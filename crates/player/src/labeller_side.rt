@@ -69,9 +69,9 @@ pub fn play_labeller_side<R: Source, W: Sink>(
 }
 
 /// Plays as `play_labeller_side` does on the board of `moves`, and if `shows` says so, prompts the
-/// person by lines on `errors`: a greeting, before each line the value and the labels that are legal
-/// for the pebble that is asked for, and at the end that the play could have gone on, if fewer
-/// requests were answered than the value of the start has.
+/// person by lines on `errors`: a greeting, before each line the value and the labels that are
+/// legal for the pebble that is asked for, and at the end that the play could have gone on, if
+/// fewer requests were answered than the value of the start has.
 ///
 /// If `errors` fails, or has failed before, nothing more is written there, and the play goes on.
 pub fn play_labeller_with_prompts<M: Moves, R: Source, W: Sink, E: Sink>(
@@ -193,7 +193,11 @@ impl<'a, M: Moves> Model for LabellerSide<'a, M> {
 
     ghost Value = { PlayState };
 
-    ghost view = { λ s. record { board = M.board s.moves.now; at = s.configuration; requests = s.requests } };
+    ghost view = { λ s. record {
+      board = M.board s.moves.now;
+      at = s.configuration;
+      requests = s.requests;
+    } };
 
     ghost invariant = { λ s. IsPlayState (M.board s.moves.now) s.configuration s.asked };
 }

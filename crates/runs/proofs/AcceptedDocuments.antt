@@ -22,7 +22,7 @@ use Rattle.runs.specs.Verdicts.{IsChecked, IsProofOf, IsVerdict, IsVerdictOf, te
 use Rattle.runs.specs.Run.{Bytes, Ran}
 use Rattle.runs.specs.SolveRun.{IsSolution, IsSolved}
 use Rattle.runs.specs.Texts.{HasNoBoard, HasNoProof, IsBoardAmong, IsBoardWithin, IsByClasses, IsMemory, IsSmallBoard}
-use Rattle.runs.specs.Texts.{IsWithin}
+use Rattle.runs.specs.Texts.{IsWithinLimit}
 use Rattle.runs.specs.declared.boards.BoardLimit.{BoardLimit}
 use Rattle.runs.specs.declared.boards.BoardLimit.TheVariants.{Small}
 use Rattle.runs.specs.Texts.{IsWrongAmong, IsWrongWithin, OfAnySize}
@@ -82,7 +82,7 @@ not_wrong_among IsSmall text board small Limit wrong = wrong
 pub not_wrong : (limit : BoardLimit) (text : List ℕ) (board : PlainBoard) → IsBoardWithin limit text board
     → (fault : RunFault)
     → IsWrongWithin limit text fault → ⊥
-not_wrong limit = not_wrong_among (IsWithin limit)
+not_wrong limit = not_wrong_among (IsWithinLimit limit)
 
 module _ (text written : List ℕ) (value : Value) (solution : IsSolution text value written) where
   -- the text is that of one board
@@ -145,7 +145,7 @@ as_small : (text : List ℕ) (one other : PlainBoard) → IsSmallBoard text one 
     → IsSmallBoard text other
 as_small text one other small is =
     let same : one ≡ other = one_board one other small.is_board is.is_board (sym small.spelled ∙ is.spelled) in
-    record { is_board = is.is_board; few = subst (IsWithin Small) same small.few; spelled = is.spelled }
+    record { is_board = is.is_board; few = subst (IsWithinLimit Small) same small.few; spelled = is.spelled }
 
 pub runs_agree : (limit board_limit proof_limit : ℕ) (bytes text : List ℕ)
     (solve_left board_left proof_left : Option (List ℕ)) (written : Bytes) (value : Value) (verdict : Verdict)

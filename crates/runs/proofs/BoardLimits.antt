@@ -9,12 +9,12 @@ use Rattle.classes.specs.Numbers.{class_count, ways}
 use Rattle.classes.specs.declared.counting.TheConstants.{MAX_CLASSES}
 use Rattle.classes.proofs.Cited.{few-of-small, ways-within}
 use Rattle.gap_values.specs.declared.rounds.TheConstants.{MAX_GAPS}
-use Rattle.runs.specs.Texts.{IsWithin}
+use Rattle.runs.specs.Texts.{IsWithinLimit}
 use Rattle.runs.specs.declared.boards.BoardLimit.{BoardLimit}
 use Rattle.runs.specs.declared.boards.BoardLimit.TheVariants.{Small, Large}
 
 -- a board has few enough gaps within either limit
-pub few_gaps : (limit : BoardLimit) (board : PlainBoard) → IsBoard board → IsWithin limit board
+pub few_gaps : (limit : BoardLimit) (board : PlainBoard) → IsBoard board → IsWithinLimit limit board
     → ways (board.pebbles - 1) (places board) ≤ MAX_GAPS
 few_gaps Small board is few =
     let classes : class_count board ≤ MAX_CLASSES = few-of-small board few in
@@ -25,7 +25,7 @@ few_gaps Small board is few =
 few_gaps Large board is few = few
 
 pub within_or_beyond : (limit : BoardLimit) (board : PlainBoard)
-    → IsWithin limit board ⊎ (IsWithin limit board → ⊥)
+    → IsWithinLimit limit board ⊎ (IsWithinLimit limit board → ⊥)
 within_or_beyond Small board = elim (cases_lt MAX_CONFIGURATIONS (configurations board)) [
   | inl many ↦ inr (λ few. omega (arith, many, few))
   | inr few ↦ inl few

@@ -164,7 +164,8 @@ module _ (board : PlainBoard) (report : Report) (is : IsReport board report) whe
   count_is : (value : Value) (count : ℕ)
       → ((other : Value) (rank : ℕ) → rank < configurations board → HasValue board (configuration_at board rank) other
       → class_of other ≡ class_of value → other ≡ value)
-      → HasValueCount board value count → count ≡ count_below (configurations board) (λ rank. class rank == class_of value)
+      → HasValueCount board value count → count ≡ count_below (configurations board) (λ rank. class rank == class_of
+      value)
   count_is value count apart has =
       same_size (λ rank. (rank < configurations board) × HasValue board (configuration_at board rank) value) count
       (count_below (configurations board) (λ rank. class rank == class_of value)) has

@@ -16,7 +16,7 @@ use Rattle.gap_values.specs.Sizes.{AreValueCounts, HasValueCount}
 use Rattle.strategies.proofs.Cited.{one_document}
 use Rattle.runs.specs.Report.{Report, IsReport, IsReportOf, report_text_alone, IsReportOfText}
 use Rattle.runs.specs.SolveRun.{IsSolution, IsSolved}
-use Rattle.runs.specs.Texts.{IsBoardWithin, IsWithin, IsWrongAmong, IsWrongWithin}
+use Rattle.runs.specs.Texts.{IsBoardWithin, IsWithinLimit, IsWrongAmong, IsWrongWithin}
 use Rattle.runs.specs.declared.boards.BoardLimit.{BoardLimit}
 use Rattle.runs.specs.declared.boards.BoardLimit.TheVariants.{Small}
 use Rattle.runs.specs.declared.fault.RunFault.{RunFault}
@@ -135,4 +135,4 @@ module _ (IsSmall : PlainBoard → Type 0) (text : List ℕ) where
 
 pub one_wrong : (limit : BoardLimit) (text : List ℕ) (fault other : RunFault) → IsWrongWithin limit text fault
     → IsWrongWithin limit text other → fault ≡ other
-one_wrong limit = one_wrong_among (IsWithin limit)
+one_wrong limit = one_wrong_among (IsWithinLimit limit)

@@ -6,7 +6,7 @@ use Rattle.std.proofs.Math.Seq.{take-suc}
 use Rattle.board_text.specs.PlainBoard.{PlainBoard}
 use Rattle.positions.specs.declared.value.Value.{Value}
 use Rattle.runs.specs.Report.{IsReportOf, head_lines, start_value_line, count_line, count_lines, end_lines}
-use Rattle.runs.specs.Inside.Counting.{IsCounted}
+use Rattle.runs.specs.Inside.Counting.{IsBoardCounted}
 use Rattle.runs.specs.declared.counting.Counted.{Counted}
 
 lines_push : (value : ℕ) (counts : List ℕ) (count : ℕ)
@@ -42,7 +42,7 @@ lines_more counts value before text more inside written more_is =
 pub whole_report : (board : PlainBoard) (counted : Counted) (empty head begun lines whole : List ℕ)
     → empty ≡ [] → head ≡ empty ++ head_lines board → begun ≡ head ++ start_value_line counted.start
     → lines ≡ begun ++ count_lines 0 counted.sizes.finite.items → whole ≡ lines ++ end_lines counted.sizes.forever
-    → IsCounted board counted → IsReportOf board whole
+    → IsBoardCounted board counted → IsReportOf board whole
 whole_report board counted empty head begun lines whole none first second third last is =
     let counts : List ℕ = counted.sizes.finite.items in
     record {

@@ -1,5 +1,6 @@
 -- When the notice of a large board is told.
-use Rattle.std.proofs.Common.{◌≡◌, ◌-◌, ◌<◌, ◌≤◌, Bool, List, ℕ, [], ◌++◌, ap, append_assoc, codes, false, inl, inr, le-ltb}
+use Rattle.std.proofs.Common.{◌≡◌, ◌-◌, ◌<◌, ◌≤◌, Bool, List, ℕ, [], ◌++◌, ap, append_assoc, codes, false, inl, inr}
+use Rattle.std.proofs.Common.{le-ltb}
 use Rattle.std.proofs.Common.{lt-ltb}
 use Rattle.std.proofs.Common.{refl, subst, sym, true}
 use Rattle.std.proofs.lemmas.Bool.{cases_lt}

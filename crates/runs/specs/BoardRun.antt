@@ -2,7 +2,7 @@
 use Rattle.std.specs.Prelude.{ℕ, ◌⊎◌, List}
 use Rattle.board_text.specs.PlainBoard.{PlainBoard}
 use Rattle.runs.specs.Run.{Bytes, Gave, IsUnread}
-use Rattle.runs.specs.Texts.{HasNoneAmong, IsBoardAmong, IsWithin}
+use Rattle.runs.specs.Texts.{HasNoneAmong, IsBoardAmong, IsWithinLimit}
 use Rattle.runs.specs.declared.boards.BoardLimit.{BoardLimit}
 use Rattle.runs.specs.declared.fault.RunFault.{RunFault}
 
@@ -20,10 +20,10 @@ GaveNoneAmong IsSmall most_bytes read fault =
 
 -- the same of boards within a limit
 abbrev pub GaveBoard : BoardLimit → ℕ → Bytes → PlainBoard → Type 0
-GaveBoard limit = GaveBoardAmong (IsWithin limit)
+GaveBoard limit = GaveBoardAmong (IsWithinLimit limit)
 
 abbrev pub GaveNoBoard : BoardLimit → ℕ → Bytes → RunFault → Type 0
-GaveNoBoard limit = GaveNoneAmong (IsWithin limit)
+GaveNoBoard limit = GaveNoneAmong (IsWithinLimit limit)
 
 -- a board that is small enough was read, and this was done with it
 abbrev pub RanOn : (PlainBoard → Type 0) → ℕ → Bytes → (PlainBoard → Type 0) → Type 0

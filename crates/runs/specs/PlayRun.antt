@@ -13,7 +13,7 @@ use Rattle.runs.specs.BoardRun.{FailsOn, GaveBoard, GaveNoBoard, RanOn}
 use Rattle.runs.specs.Faults.{fault_of_play}
 use Rattle.runs.specs.Notices.{notice_for}
 use Rattle.runs.specs.Run.{Bytes}
-use Rattle.runs.specs.Texts.{IsWithin}
+use Rattle.runs.specs.Texts.{IsWithinLimit}
 use Rattle.runs.specs.declared.boards.BoardLimit.{BoardLimit}
 use Rattle.runs.specs.declared.fault.RunFault.{RunFault}
 use Rattle.runs.specs.declared.fault.RunFault.TheVariants.{Memory}
@@ -37,12 +37,13 @@ IsBrokenOff game lines written fault =
 -- a board within the limit was read, and the play on it is over
 abbrev pub RanPlay : BoardLimit → Side → ℕ → Bytes → Bytes → Bytes → PlayEnd → Type 0
 RanPlay limit side most_bytes board lines written end =
-    RanOn (IsWithin limit) most_bytes board (λ b. IsOver (game_played side b) lines written end)
+    RanOn (IsWithinLimit limit) most_bytes board (λ b. IsOver (game_played side b) lines written
+    end)
 
 -- the faults of a play: there is no board, and nothing else is touched; or the play was broken off
 abbrev pub PlayFails : BoardLimit → Side → ℕ → Type 0 → Bytes → Bytes → Bytes → RunFault → Type 0
 PlayFails limit side most_bytes IsUntouched board lines written fault =
-    FailsOn (IsWithin limit) most_bytes board IsUntouched
+    FailsOn (IsWithinLimit limit) most_bytes board IsUntouched
     (λ b. IsBrokenOff (game_played side b) lines written) fault
 
 -- the end of a play as that of a run

@@ -28,8 +28,8 @@ IsSolution text value written =
     (board : PlainBoard) × IsSmallBoard text board × IsSolved board value written
 
 -- the faults of a text that isn't solved: out of memory; or it is a small board's, and a thread
--- wasn't started, which several workers alone can have, and with enough classes alone; or it isn't a
--- board's within the limit
+-- wasn't started, which several workers alone can have, and with enough classes alone; or it isn't
+-- a board's within the limit
 abbrev pub CannotSolve : BoardLimit → ℕ → List ℕ → RunFault → Type 0
 CannotSolve limit workers text Memory = Unit {0}
 CannotSolve limit workers text Worker =

@@ -43,13 +43,13 @@ abbrev pub OfAnySize : PlainBoard → Type 0
 OfAnySize board = Unit {0}
 
 -- the board has few enough configurations, or few enough gaps: classes of all pebbles but one
-abbrev pub IsWithin : BoardLimit → PlainBoard → Type 0
-IsWithin Small board = configurations board ≤ MAX_CONFIGURATIONS
-IsWithin Large board = ways (board.pebbles - 1) (places board) ≤ MAX_GAPS
+abbrev pub IsWithinLimit : BoardLimit → PlainBoard → Type 0
+IsWithinLimit Small board = configurations board ≤ MAX_CONFIGURATIONS
+IsWithinLimit Large board = ways (board.pebbles - 1) (places board) ≤ MAX_GAPS
 
 -- the text is this board's, which is within the limit
 abbrev pub IsBoardWithin : BoardLimit → List ℕ → PlainBoard → Type 0
-IsBoardWithin limit = IsBoardAmong (IsWithin limit)
+IsBoardWithin limit = IsBoardAmong (IsWithinLimit limit)
 
 -- the same, with few enough configurations
 abbrev pub IsSmallBoard : List ℕ → PlainBoard → Type 0
@@ -57,7 +57,7 @@ IsSmallBoard = IsBoardWithin Small
 
 -- the fault of a text that is no such board's
 abbrev pub IsWrongWithin : BoardLimit → List ℕ → RunFault → Type 0
-IsWrongWithin limit = IsWrongAmong (IsWithin limit)
+IsWrongWithin limit = IsWrongAmong (IsWithinLimit limit)
 
 -- of a text that is no small board's
 abbrev pub IsWrongBoard : List ℕ → RunFault → Type 0
@@ -65,7 +65,7 @@ IsWrongBoard = IsWrongWithin Small
 
 -- the fault of a text that is no board's within the limit, or out of memory
 abbrev pub HasNoneWithin : BoardLimit → List ℕ → RunFault → Type 0
-HasNoneWithin limit = HasNoneAmong (IsWithin limit)
+HasNoneWithin limit = HasNoneAmong (IsWithinLimit limit)
 
 -- of a text that is no small board's
 abbrev pub HasNoBoard : List ℕ → RunFault → Type 0
@@ -82,10 +82,10 @@ IsByClasses text = take 8 text ≡ codes "proof 2\n"
 abbrev pub IsWrongProof : PlainBoard → List ℕ → RunFault → Type 0
 IsWrongProof board text (Proof fault) =
     ((IsByClasses text × HasClassTextFault board text fault.line fault.kind)
-    ⊎ ((IsByClasses text → ⊥) × IsWithin Small board
+    ⊎ ((IsByClasses text → ⊥) × IsWithinLimit Small board
     × proof_faults.HasProofFault board text fault.line fault.kind))
     × (fault.kind ≢ proof_kinds.Memory)
-IsWrongProof board text TooLarge = (IsByClasses text → ⊥) × (IsWithin Small board → ⊥)
+IsWrongProof board text TooLarge = (IsByClasses text → ⊥) × (IsWithinLimit Small board → ⊥)
 IsWrongProof board text fault = ⊥
 
 -- the fault of a text that is no document's, or out of memory

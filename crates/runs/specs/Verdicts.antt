@@ -18,7 +18,7 @@ use Rattle.proof_check.specs.CheckFaults.{IsCheckFault}
 use Rattle.proof_check.specs.declared.fault.CheckFault.TheVariants as check_faults
 use Rattle.runs.specs.Joined.{IsBoardLength}
 use Rattle.runs.specs.Output.{line_of}
-use Rattle.runs.specs.Texts.{IsWithin, IsWrongProof}
+use Rattle.runs.specs.Texts.{IsWithinLimit, IsWrongProof}
 use Rattle.runs.specs.declared.boards.BoardLimit.TheVariants.{Small}
 use Rattle.runs.specs.declared.verdicts.Verdict.{Verdict}
 use Rattle.runs.specs.declared.verdicts.Verdict.TheVariants.{Accepted, Refused, RefusedByClasses}
@@ -49,7 +49,7 @@ IsClassVerdict board proof (RefusedByClasses fault) = IsFirstClassFault board pr
 
 -- a document of the kind for the board, which has few configurations if each has a row
 abbrev pub IsProofOf : Numbering → PlainBoard → PlainProof → Type 0
-IsProofOf Ordered board proof = IsWithin Small board × IsProof board proof
+IsProofOf Ordered board proof = IsWithinLimit Small board × IsProof board proof
 IsProofOf Classes board proof = IsClassProof board proof
 
 abbrev pub text_of_proof : Numbering → PlainBoard → PlainProof → List ℕ

@@ -5,7 +5,7 @@ ghost use Rattle.board_text.specs.PlainBoard.{places};
 ghost use Rattle.classes.specs.Numbers.{ways};
 ghost use Rattle.positions.specs.Ranks.{configurations};
 ghost use Rattle.runs.specs.Texts.{HasNoBoard, HasNoneAmong, HasNoneWithin, IsBoardAmong};
-ghost use Rattle.runs.specs.Texts.{IsBoardWithin, IsSmallBoard, IsWithin, OfAnySize};
+ghost use Rattle.runs.specs.Texts.{IsBoardWithin, IsSmallBoard, IsWithinLimit, OfAnySize};
 
 use crate::fault::RunFault;
 use board_text::{Board, parse};
@@ -25,7 +25,7 @@ pub enum BoardLimit {
 impl BoardLimit {
     /// Whether `board` is within the limit.
     fn allows(self, board: &Board) -> bool
-        ensures { IsTrue result ↔ IsWithin self board.now }
+        ensures { IsTrue result ↔ IsWithinLimit self board.now }
     {
         match self {
             BoardLimit::Small => is_small(board),

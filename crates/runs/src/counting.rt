@@ -6,9 +6,9 @@ ghost use Rattle.board_text.specs.Ranges.{InRange};
 ghost use Rattle.classes.specs.Numbers.{ways};
 ghost use Rattle.gap_values.specs.Sizes.{AreValueCounts};
 ghost use Rattle.positions.specs.Ranks.{configurations};
-ghost use Rattle.runs.specs.Inside.Counting.{IsCounted};
+ghost use Rattle.runs.specs.Inside.Counting.{IsBoardCounted};
 ghost use Rattle.runs.specs.Inside.SolveRun.{IsRefused};
-ghost use Rattle.runs.specs.Texts.{IsWithin};
+ghost use Rattle.runs.specs.Texts.{IsWithinLimit};
 ghost use Rattle.runs.specs.declared.boards.BoardLimit.TheVariants.{Small};
 
 use crate::boards::BoardLimit;
@@ -39,10 +39,10 @@ pub(crate) fn count(
     workers: u8,
     board: &Board,
 ) -> Result<Counted, RunFault>
-    requires within { IsWithin limit board.now }
+    requires within { IsWithinLimit limit board.now }
     requires gaps { ways (board.now.pebbles - 1) (places board.now) ≤ MAX_GAPS }
     requires workers { InRange 1 MAX_WORKERS workers }
-    ensures counted { IfOk result (IsCounted board.now) }
+    ensures counted { IfOk result (IsBoardCounted board.now) }
     ensures refused { IfErr result (IsRefused limit workers board.now) }
 {
     match limit {
@@ -60,7 +60,7 @@ fn count_by_gaps(
 ) -> Result<Counted, Memory>
     requires gaps { ways (board.now.pebbles - 1) (places board.now) ≤ MAX_GAPS }
     requires workers { 1 ≤ workers }
-    ensures { IfOk result (IsCounted board.now) }
+    ensures { IfOk result (IsBoardCounted board.now) }
 {
     let values = GapValues::of_by(rt, alloc, board, workers)?;
     let start = values.value(board.start());
@@ -71,7 +71,7 @@ fn count_by_gaps(
 /// What is counted of `board`, on this thread.
 pub(crate) fn count_alone(alloc: Global, board: &Board) -> Result<Counted, Memory>
     requires { ways (board.now.pebbles - 1) (places board.now) ≤ MAX_GAPS }
-    ensures { IfOk result (IsCounted board.now) }
+    ensures { IfOk result (IsBoardCounted board.now) }
 {
     let values = GapValues::of(alloc, board)?;
     let start = values.value(board.start());
@@ -88,7 +88,7 @@ fn count_by_classes(
 ) -> Result<Counted, RunFault>
     requires few { configurations board.now ≤ MAX_CONFIGURATIONS }
     requires workers { InRange 1 MAX_WORKERS workers }
-    ensures counted { IfOk result (IsCounted board.now) }
+    ensures counted { IfOk result (IsBoardCounted board.now) }
     ensures refused { IfErr result (IsRefused BoardLimit.Small workers board.now) }
 {
     let values = numbered_by(rt, alloc, workers, board)?;

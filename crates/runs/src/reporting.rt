@@ -7,7 +7,7 @@ ghost use Rattle.player.specs.Showing.{IsMore};
 ghost use Rattle.positions.specs.Ranks.{configurations};
 ghost use Rattle.runs.specs.BoardRun.{GaveBoard, GaveNoBoard};
 ghost use Rattle.runs.specs.Notices.{IsNoticed};
-ghost use Rattle.runs.specs.Inside.Counting.{IsCounted};
+ghost use Rattle.runs.specs.Inside.Counting.{IsBoardCounted};
 ghost use Rattle.runs.specs.Report.{IsReportOf, IsReportOfText, Reports};
 ghost use Rattle.runs.specs.Report.{count_line, count_lines, end_lines, head_lines};
 ghost use Rattle.runs.specs.Report.{size_line, start_value_line};
@@ -226,7 +226,7 @@ fn report_text_with_notice<E: Sink>(
 
 /// The report of `board`, of which this was counted.
 fn report_of(alloc: Global, board: &Board, counted: &Counted) -> Result<String, AllocError>
-    requires { IsCounted board.now counted.now }
+    requires { IsBoardCounted board.now counted.now }
     ensures { IfOk result (λ text. IsReportOf board.now (string_bytes text)) }
 {
     let mut text = String::new(alloc);

@@ -58,7 +58,7 @@ use Rattle.serving.specs.Serving.{ServesAnyWords, ServesWords, is_large, is_type
 use Rattle.serving.specs.Servings.{AreKnown, HaveOwnText}
 use Rattle.runs.specs.SolveRun.{CannotSolve, IsSolution}
 use Rattle.runs.specs.Texts.{HasNoneAmong, HasNoProof, IsBoardAmong, IsBoardWithin, IsWrongAmong, IsWrongBoard}
-use Rattle.runs.specs.Texts.{IsWithin, IsWrongProof, IsWrongWithin, OfAnySize}
+use Rattle.runs.specs.Texts.{IsWithinLimit, IsWrongProof, IsWrongWithin, OfAnySize}
 use Rattle.runs.specs.declared.boards.BoardLimit.{BoardLimit}
 use Rattle.runs.specs.declared.boards.BoardLimit.TheVariants.{Small}
 use Rattle.runs.specs.Verdicts.{BeginsWithBoard, CannotAnswer, IsAnswered, IsChecked, IsWrongText}
@@ -591,22 +591,23 @@ module _ (large : Bool) (side : Side) (input output : Stream) (lines taken : Lis
     no_play fault same (inl unread) stays =
         let over = unread_is MAX_BOARD_BYTES read bytes fault outcome board_old plain same unread in
         ([], stayed output taken had stays, inl (over.0, over.1, refl))
-    no_play fault same (inr (text, gave, none)) stays = elim (wrong_board (IsWithin (limit_of large)) text fault none) [
-      | inl memory ↦ absurd (fair.memory (same ∙ ap Broken memory))
-      | inr bad ↦
-          let all : text ≡ bytes = gave_all read bytes text board_old gave.0 in (
-            [],
-            stayed output taken had stays,
-            inr (inl (
-              subst (λ t. length t ≤ MAX_BOARD_BYTES) all gave.1,
-              fault,
-              subst
-                  (λ t. IsWrongWithin (limit_of large) t fault) all bad,
-              same,
-              refl,
-            )),
-          )
-    ]
+    no_play fault same (inr (text, gave, none)) stays = elim (wrong_board (IsWithinLimit (limit_of large)) text fault
+        none) [
+          | inl memory ↦ absurd (fair.memory (same ∙ ap Broken memory))
+          | inr bad ↦
+              let all : text ≡ bytes = gave_all read bytes text board_old gave.0 in (
+                [],
+                stayed output taken had stays,
+                inr (inl (
+                  subst (λ t. length t ≤ MAX_BOARD_BYTES) all gave.1,
+                  fault,
+                  subst
+                      (λ t. IsWrongWithin (limit_of large) t fault) all bad,
+                  same,
+                  refl,
+                )),
+              )
+        ]
 
     played : EndsAs outcome_of_run (RanPlay (limit_of large) side MAX_BOARD_BYTES read input.bytes output.bytes)
         (PlayFails (limit_of large) side MAX_BOARD_BYTES (input.IsKept × output.IsKept) read input.bytes output.bytes)

@@ -1,5 +1,6 @@
 -- Configurations counted by the words of their classes.
-use Rattle.std.specs.Prelude.{◌≡◌, ◌≢◌, ℕ, ◌+◌, ◌-◌, ◌*◌, ◌<◌, ◌≤◌, nat_eq, if◌then◌else◌, List, length, slice_index, take}
+use Rattle.std.specs.Prelude.{◌≡◌, ◌≢◌, ℕ, ◌+◌, ◌-◌, ◌*◌, ◌<◌, ◌≤◌, nat_eq, if◌then◌else◌, List}
+use Rattle.std.specs.Prelude.{length, slice_index, take}
 use Rattle.board_text.specs.PlainBoard.{PlainBoard, places}
 use Rattle.classes.specs.Numbers.{class_with}
 use Rattle.classes.specs.Sums.{sum_below}
@@ -22,15 +23,18 @@ word_at board words number =
 
 -- how many configurations each class has
 abbrev pub AreWeightsAt : PlainBoard → (ℕ → ℕ) → Type 0
-AreWeightsAt board weight = (number : ℕ) → HasWeight (places board) board.pebbles number (weight number)
+AreWeightsAt board weight =
+    (number : ℕ) → HasWeight (places board) board.pebbles number (weight number)
 
 -- the weights of the classes before a number whose word is the wanted one
 abbrev pub counted : PlainBoard → List ℕ → (ℕ → ℕ) → ℕ → ℕ → ℕ
 counted board words weight wanted bound =
-    sum_below bound (λ number. if nat_eq (word_at board words number) wanted then weight number else 0)
+    sum_below bound
+    (λ number. if nat_eq (word_at board words number) wanted then weight number else 0)
 
 -- so many configurations have a class from a number up to another one whose word is the wanted one
-pub record IsCounted (board : PlainBoard) (words : List ℕ) (wanted from to count : ℕ) : Type 0 where
+pub record IsCountBetween (board : PlainBoard) (words : List ℕ) (wanted from to count : ℕ)
+    : Type 0 where
   pub is : (weight : ℕ → ℕ) → AreWeightsAt board weight
       → count + counted board words weight wanted from ≡ counted board words weight wanted to
   pub few : count + 720 * from ≤ 720 * to
@@ -40,13 +44,15 @@ pub record AreCounted (board : PlainBoard) (words : List ℕ) (rounds from to : 
     (finite : List ℕ) (forever : ℕ)
     : Type 0 where
   pub size : length finite ≡ rounds
-  pub each : (value : ℕ) → value < rounds → IsCounted board words value from to (slice_index finite value)
-  pub unending : IsCounted board words OPEN from to forever
+  pub each : (value : ℕ) → value < rounds
+      → IsCountBetween board words value from to (slice_index finite value)
+  pub unending : IsCountBetween board words OPEN from to forever
 
 -- the same of the classes of the families from a number up to another one
 abbrev pub AreSizesBetween : PlainBoard → List ℕ → ℕ → ℕ → ℕ → Sizes → Type 0
 AreSizesBetween board words rounds from to sizes =
-    (low high : ℕ) → IsEdge board (board.pebbles - 1) from low → IsEdge board (board.pebbles - 1) to high
+    (low high : ℕ) → IsEdge board (board.pebbles - 1) from low
+    → IsEdge board (board.pebbles - 1) to high
     → AreCounted board words rounds low high sizes.finite.items sizes.forever
 
 -- a list, and the same without the zeros at its end

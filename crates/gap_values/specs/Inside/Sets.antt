@@ -52,9 +52,12 @@ open_count (word ∷ words) = (if nat_eq word OPEN then 1 else 0) + open_count w
 
 -- the gap of a number was passed in the round: if its word was open and the gap is shut, the round
 -- is its word now, and else the word is as it was
-pub record IsPassed (board : PlainBoard) (sets : List (List ℕ)) (round gap old new : ℕ) : Type 0 where
-  pub shut : old ≡ OPEN → new ≡ round → IsShut board sets (class_with (places board) (board.pebbles - 1) gap)
-  pub left_open : new ≡ OPEN → IsShut board sets (class_with (places board) (board.pebbles - 1) gap) → ⊥
+pub record IsPassed (board : PlainBoard) (sets : List (List ℕ)) (round gap old new : ℕ)
+    : Type 0 where
+  pub shut : old ≡ OPEN → new ≡ round
+      → IsShut board sets (class_with (places board) (board.pebbles - 1) gap)
+  pub left_open : new ≡ OPEN
+      → IsShut board sets (class_with (places board) (board.pebbles - 1) gap) → ⊥
   pub changed : (new ≡ old) ⊎ ((old ≡ OPEN) × (new ≡ round))
 
 -- of words from that of the gap `first` on, those from one index up to another one were passed, and

@@ -49,7 +49,8 @@ module _ (g : Over) (c : After-close-words g) where
   low : c.loop-words.round < 4294967295
   low = let few = c.loop-words.invariant.few in omega (arith, few, c.requires.few)
 
-  passed : ArePassed c.args.board.now c.loop-words.sets.items c.loop-words.round 0 0 (gap_count c.args.board.now) old new
+  passed : ArePassed c.args.board.now c.loop-words.sets.items c.loop-words.round 0 0 (gap_count c.args.board.now) old
+      new
   passed =
       subst (λ (l : List (List ℕ)). ArePassed c.args.board.now l c.loop-words.round 0 0 (gap_count c.args.board.now)
       old new) c.deref.ensures.value (c.requires.closed _ _ _ _ c.close-words.ensures)

@@ -3,7 +3,7 @@ use Rattle.std.proofs.Common.{rules}
 use Rattle.std.proofs.lemmas.List.{get_or_read, length-replicate, get_or-replicate}
 use Rattle.board_text.specs.PlainBoard.{PlainBoard, places}
 use Rattle.classes.specs.Numbers.{ways}
-use Rattle.gap_values.specs.Inside.Counts.{AreCounted, IsCounted}
+use Rattle.gap_values.specs.Inside.Counts.{AreCounted, IsCountBetween}
 use Rattle.gap_values.specs.Inside.Families.{IsAtFamily, IsEdge, IsFamilyOf}
 use Rattle.gap_values.proofs.ClassCounts.{counting-begins, forever-more, finite-more, member-word-low, word-of-member}
 use Rattle.gap_values.proofs.FamilyMembers.{edge-is, edge-of, edge-only, edge-start, member-few, next-start, own-size}
@@ -28,7 +28,7 @@ loop-number-init c =
           subst (λ n. AreCounted b c.args.words.now rounds low n c.in_ok-finite.finite.items 0) start (record {
             size = ap length zeros ∙ length-replicate {A = ℕ} rounds 0;
             each = λ value inside.
-                subst (IsCounted b c.args.words.now value low low)
+                subst (IsCountBetween b c.args.words.now value low low)
                 (sym (ap (λ l. get_or l value 0) zeros ∙ get_or-replicate {A = ℕ} rounds value 0 0 inside))
                 (counting-begins b c.args.words.now value low);
             unending = counting-begins b c.args.words.now 4294967295 low;
@@ -36,7 +36,8 @@ loop-number-init c =
     }
 
 -- where the part begins
-first : (c : After-family-family) → (low : ℕ) × IsEdge c.args.numbers.now (c.args.numbers.now.pebbles - 1) c.args.from low
+first : (c : After-family-family) → (low : ℕ) × IsEdge c.args.numbers.now (c.args.numbers.now.pebbles - 1) c.args.from
+    low
 first c = edge-is c.args.numbers.now (c.args.numbers.now.pebbles - 1) c.args.from
 
 family : (c : After-family-family)

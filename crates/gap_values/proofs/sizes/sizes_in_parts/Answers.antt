@@ -1,4 +1,5 @@
-use Rattle.std.proofs.Common.{◌≡◌, ◌∙◌, ◌+◌, ◌*◌, ◌-◌, ◌<◌, ◌≤◌, ◌/◌, ◌%◌, ℕ, List, Ok, IfOk, get_or, min, length, sym, subst, arith, rules}
+use Rattle.std.proofs.Common.{◌≡◌, ◌∙◌, ◌+◌, ◌*◌, ◌-◌, ◌<◌, ◌≤◌, ◌/◌, ◌%◌, ℕ, List, Ok, IfOk, get_or, min, length, sym}
+use Rattle.std.proofs.Common.{subst, arith, rules}
 use Rattle.std.proofs.lemmas.Grind.{div_ceil_times}
 use Rattle.std.specs.declared.result.Result.{Result}
 use Rattle.board_text.specs.PlainBoard.{PlainBoard}
@@ -18,7 +19,8 @@ chunk-ends total size index long is within some =
     let next : (index + 1) * size ≡ index * size + size = grind arith in
     (omega (arith, within), omega (arith, is, within, some, next))
 
-part-between : (b : PlainBoard) (words : List ℕ) (rounds index size long : ℕ) (read : Result Sizes Memory) (part : Sizes)
+part-between : (b : PlainBoard) (words : List ℕ) (rounds index size long : ℕ) (read : Result Sizes Memory) (part :
+    Sizes)
     → read ≡ Ok part → long ≡ min size (length words - index * size) → index * size + long ≤ length words → 0 < long
     → IfOk read (AreSizesBetween b words rounds (index * size) (index * size + long))
     → AreSizesBetween b words rounds (min (index * size) (length words)) (min ((index + 1) * size) (length words)) part

@@ -11,7 +11,8 @@ use Rattle.gap_values.proofs.TellingSteps.{told-over}
 use Rattle.gap_values.proofs.FamilyMembers.{family-of, family-size, next-start, size-of, walk-all, walk-of, walk-start}
 use Rattle.gap_values.proofs.FamilyMembers.{walk-within, walk-zero}
 use Rattle.gap_values.proofs.telling.tell_round.Goals as goal
-use Rattle.gap_values.proofs.telling.tell_round.Goals.{After-family_size-size, After-loop-number, then-is_among, else-is_among}
+use Rattle.gap_values.proofs.telling.tell_round.Goals.{After-family_size-size, After-loop-number, then-is_among}
+use Rattle.gap_values.proofs.telling.tell_round.Goals.{else-is_among}
 
 pub loop-number-init : goal.loop-number-init
 loop-number-init c =

@@ -17,7 +17,8 @@ returns-in_default-clause-fault g c =
     let value = some_value (g.M.Moves.board c.args.moves.now) (g.M.Moves.board c.args.moves.now).start is_board.start in
     let opening = has_opening (g.M.Moves.board c.args.moves.now) value.0 value.1 in
     unopened (IsPlayed (PersonAnswers (g.M.Moves.board c.args.moves.now))) opening.said opening.to
-    (alone c.args.shows (PersonAnswers (g.M.Moves.board c.args.moves.now)) opening.said opening.to opening.opens) _ _ _ (Keeps-same _)
+    (alone c.args.shows (PersonAnswers (g.M.Moves.board c.args.moves.now)) opening.said opening.to opening.opens) _ _ _
+    (Keeps-same _)
 
 pub returns-in_err-flush-clause-fault : goal.returns-in_err-flush-clause-fault
 returns-in_err-flush-clause-fault g c =
@@ -72,16 +73,19 @@ returns-clause-ok g c =
     let text = opening.1 ∙ ap (λ l. l ++ opening.0) c.new-text.ensures.bytes in
     let written = subst (Appends _ _) text c.in_ok-flush.ensures.written in
     over_at_once (IsPlayed (PersonAnswers (g.M.Moves.board c.args.moves.now))) opening.0 opening.2.0
-    (alone c.args.shows (PersonAnswers (g.M.Moves.board c.args.moves.now)) opening.0 opening.2.0 begins) _ _ _ c.in-Ends.end opening.2.2
+    (alone c.args.shows (PersonAnswers (g.M.Moves.board c.args.moves.now)) opening.0 opening.2.0 begins) _ _ _
+    c.in-Ends.end opening.2.2
     written
 
 pub returns-in-Asks-clause-value : goal.returns-in-Asks-clause-value
 returns-in-Asks-clause-value g c =
-    IfOk-weaker c.play_on.result _ _ (λ end. keeps_to_value (PersonAnswers (g.M.Moves.board c.args.moves.now)) _ _ _ _ end)
+    IfOk-weaker c.play_on.result _ _ (λ end. keeps_to_value (PersonAnswers (g.M.Moves.board c.args.moves.now)) _ _ _ _
+    end)
     (returns-in-Asks-clause-ok g c)
 
 pub returns-clause-value : goal.returns-clause-value
-returns-clause-value g c = keeps_to_value (PersonAnswers (g.M.Moves.board c.args.moves.now)) _ _ _ _ c.in-Ends.end (returns-clause-ok g c)
+returns-clause-value g c = keeps_to_value (PersonAnswers (g.M.Moves.board c.args.moves.now)) _ _ _ _ c.in-Ends.end
+    (returns-clause-ok g c)
 
 pub returns-in-Asks-clause-prompts : goal.returns-in-Asks-clause-prompts
 returns-in-Asks-clause-prompts g c =
@@ -121,7 +125,8 @@ returns-in_default-clause-prompts g c =
     let value = some_value (g.M.Moves.board c.args.moves.now) (g.M.Moves.board c.args.moves.now).start is_board.start in
     let opening = has_opening (g.M.Moves.board c.args.moves.now) value.0 value.1 in (
       [],
-      untold c.args.shows (PersonAnswers (g.M.Moves.board c.args.moves.now)) opening.said opening.to opening.opens _ _ _ (Keeps-same _),
+      untold c.args.shows (PersonAnswers (g.M.Moves.board c.args.moves.now)) opening.said opening.to opening.opens _ _ _
+          (Keeps-same _),
       none_more g.E.Sink.contents g.E.Sink.has_failed c.args.errors.now,
     )
 
@@ -134,6 +139,7 @@ returns-in_err-flush-clause-prompts g c =
     let front = subst (AppendsPrefix _ _) text c.in_err-flush.ensures.front in (
       [],
       rw (p.1, p.2, c.in_err-flush.ensures.fault.0)
-          (untold_opening c.args.shows (PersonAnswers (g.M.Moves.board c.args.moves.now)) opening.0 opening.2.0 begins _ _ _ front),
+          (untold_opening c.args.shows (PersonAnswers (g.M.Moves.board c.args.moves.now)) opening.0 opening.2.0 begins _
+          _ _ front),
       none_more g.E.Sink.contents g.E.Sink.has_failed c.args.errors.now,
     )

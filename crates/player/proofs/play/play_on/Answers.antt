@@ -113,7 +113,8 @@ loop-preserved g c =
       told = i.told ++ prompt.0;
       tells = goes_on_told game _ 0 c.args.shows i.told prompt.0 i.said next.line i.text wrote.0 _ _ _ _ i.tells replies
           (subst (λ h. IsToldHere c.args.shows h (g.P.Play.at c.answer_line.new.play) prompt.0) same prompt.1);
-      more = then_more g.E.Sink.contents g.E.Sink.has_failed c.args.errors.now c.loop.errors c.prompt-in-loop.new.errors i.told
+      more = then_more g.E.Sink.contents g.E.Sink.has_failed c.args.errors.now c.loop.errors c.prompt-in-loop.new.errors
+          i.told
           prompt.0 i.more prompt.2;
     }
 
@@ -172,7 +173,8 @@ returns-in_default-clause-told g c =
         );
         fault = tt;
       },
-      then_more g.E.Sink.contents g.E.Sink.has_failed c.args.errors.now c.loop.errors c.tell_last.new.errors i.told last.0
+      then_more g.E.Sink.contents g.E.Sink.has_failed c.args.errors.now c.loop.errors c.tell_last.new.errors i.told
+          last.0
           i.more last.2,
     )
 
@@ -242,7 +244,8 @@ returns-in-Some-2-clause-told g c =
         );
         fault = tt;
       },
-      then_more g.E.Sink.contents g.E.Sink.has_failed c.args.errors.now c.loop.errors c.tell_last-in-Some-2.new.errors i.told
+      then_more g.E.Sink.contents g.E.Sink.has_failed c.args.errors.now c.loop.errors c.tell_last-in-Some-2.new.errors
+          i.told
           last.0 i.more last.2,
     )
 

@@ -8,7 +8,8 @@ loop-pebble-preserved g c =
     let pebbles = c.pebbles-pebble-end.ensures in
     let low : c.loop-pebble.pebble < MAX_PEBBLES =
     omega (arith, pebbles.value, pebbles.is_board.pebbles.1, c.loop-pebble-test.true) in
-    found_more (g.Self.MovesHere.position c.args.self.now).board (g.Self.MovesHere.position c.args.self.now).held c.loop-pebble.pebble c.answer.result c.loop-pebble.answers low
+    found_more (g.Self.MovesHere.position c.args.self.now).board (g.Self.MovesHere.position c.args.self.now).held
+    c.loop-pebble.pebble c.answer.result c.loop-pebble.answers low
     c.loop-pebble.invariant c.answer.ensures
 
 pub returns : goal.returns

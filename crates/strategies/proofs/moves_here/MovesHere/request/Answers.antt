@@ -14,7 +14,8 @@ returns-then-leads_below g c =
 
 pub loop-pebble-preserved : goal.loop-pebble-preserved
 loop-pebble-preserved g c =
-    none_lowers (g.Self.MovesHere.position c.args.self.now).board (g.Self.MovesHere.position c.args.self.now).held c.loop-pebble.pebble c.value-value.result c.answer.result
+    none_lowers (g.Self.MovesHere.position c.args.self.now).board (g.Self.MovesHere.position c.args.self.now).held
+    c.loop-pebble.pebble c.value-value.result c.answer.result
     (c.value-value.ensures) c.loop-pebble.invariant c.answer.ensures
     (λ below. let same = c.if-leads_below.ensures.1 below in absurd cc)
 
@@ -26,5 +27,6 @@ returns g c =
     record {
       best = λ other lowers. c.loop-pebble.invariant other (omega (arith, all, lowers.is_pebble)) lowers;
       none =
-          no_request b (g.Self.MovesHere.position c.args.self.now).held c.loop-pebble.pebble pebbles.is_configuration all c.loop-pebble.invariant;
+          no_request b (g.Self.MovesHere.position c.args.self.now).held c.loop-pebble.pebble pebbles.is_configuration
+          all c.loop-pebble.invariant;
     }
