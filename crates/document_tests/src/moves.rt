@@ -81,8 +81,8 @@ fn best_in_an_order_without_ranks(rt: HostRuntime) {
     let listed = once_more(Memory, || unlisted.listed(rt.alloc()));
     assert_moves_in_an_order(&rt, &unlisted);
     assert_moves_in_an_order(&rt, &listed.expect(&rt, "a list"));
-    let values = once_more(Memory, || gap_values_of(rt.alloc(), &board));
-    let values = values.expect(&rt, "memory").expect(&rt, "few gaps");
+    let values = gap_values_of(rt.alloc(), &board).expect(&rt, "memory");
+    let values = values.expect(&rt, "few gaps");
     assert_moves_in_an_order(&rt, &GapMoves::new(&board, &values));
 }
 
@@ -111,8 +111,8 @@ fn best_at_places_without_a_label(rt: HostRuntime) {
     let board = board_of(&rt, rt.alloc(), CYCLE_WITHOUT_LABELS);
     let values = numbered_values_of(rt.alloc(), &board).expect(&rt, "values");
     assert_moves_without_labels(&rt, &NumberedMoves::new(&board, &values));
-    let values = once_more(Memory, || gap_values_of(rt.alloc(), &board));
-    let values = values.expect(&rt, "memory").expect(&rt, "few gaps");
+    let values = gap_values_of(rt.alloc(), &board).expect(&rt, "memory");
+    let values = values.expect(&rt, "few gaps");
     assert_moves_without_labels(&rt, &GapMoves::new(&board, &values));
 }
 
