@@ -44,14 +44,17 @@ fn best_at<M: Moves>(moves: &M, held: [u16; 3]) -> Option<Best> {
     })
 }
 
-/// The values of a board by its gaps, if these are few.
+/// The values of a board by its gaps, if these are few, asked for once more if memory was refused.
 fn gap_values_of(alloc: Global, board: &Board) -> Result<Option<GapValues>, Memory>
     ensures { IfOk result (λ values. MatchOption values (Unit {0}) (λ v. v ≡ board.now)) }
 {
     if !has_few_gaps(board) {
         return Ok(None);
     }
-    Ok(Some(GapValues::of(alloc, board)?))
+    match GapValues::of(alloc, board) {
+        Ok(values) => Ok(Some(values)),
+        Err(Memory) => Ok(Some(GapValues::of(alloc, board)?)),
+    }
 }
 
 /// Asserts the best moves at a configuration of three pebbles.
