@@ -1,12 +1,14 @@
-//! Two plain mirrors of `pebbles`: the same answers by arrays alone, for `solve`, `report` and
-//! `check` of boards whose places all hold labels. One numbers configurations by ranks, the other
-//! by classes. README.md says what they are for.
+//! Three plain mirrors of `pebbles`: the same answers by arrays alone, for boards whose places all
+//! hold labels. Two answer `solve`, `report` and `check`, and number configurations by ranks or by
+//! classes; one answers `report` by the gaps of classes. README.md says what they are for.
 
 mod board;
 mod check;
 mod class_document;
 mod classes;
 mod document;
+mod gaps;
+mod levels;
 mod lists;
 mod measure;
 mod numbering;
@@ -53,8 +55,8 @@ fn contents(path: Option<&String>) -> Vec<u8> {
     std::fs::read(path).unwrap_or_else(|error| refuse(&format!("{path}: {error}")))
 }
 
-const USAGE: &str = "ranks COMMAND, classes COMMAND or measure PROGRAM; COMMAND is solve BOARD, \
-                     solve-large BOARD, report BOARD or check BOARD PROOF";
+const USAGE: &str = "ranks COMMAND, classes COMMAND, gaps report BOARD or measure PROGRAM; COMMAND \
+                     is solve BOARD, solve-large BOARD, report BOARD or check BOARD PROOF";
 
 /// The output of a command by one numbering.
 fn output<N: Numbering>(words: &[String]) -> Vec<u8> {
@@ -83,6 +85,7 @@ fn main() {
     let output = match (word(1), word(2)) {
         ("ranks", _) => output::<Ranks>(&words[2..]),
         ("classes", _) => output::<Classes>(&words[2..]),
+        ("gaps", "report") => gaps::report(&Board::read(&contents(words.get(3)))),
         ("measure", program) if !program.is_empty() => measure::measure(&words[2..]).into_bytes(),
         _ => refuse(USAGE),
     };
