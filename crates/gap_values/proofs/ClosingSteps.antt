@@ -1,5 +1,5 @@
 -- The open gaps of a round that are shut are closed, family by family.
-use Rattle.std.proofs.Common.{◌≡◌, ◌≢◌, ℕ, zero, suc, ◌+◌, ◌-◌, ◌<◌, ◌≤◌, ◌⊎◌, ◌↔◌, true, cond, nat_eq, List, [], ◌∷◌}
+use Rattle.std.proofs.Common.{◌≡◌, ◌≢◌, ℕ, zero, suc, ◌+◌, ◌-◌, ◌<◌, ◌≤◌, ◌⊎◌, ◌↔◌, Bool, true, cond, nat_eq, List, [], ◌∷◌}
 use Rattle.std.proofs.Common.{length}
 use Rattle.std.proofs.Common.{get_or, set, sym, ap, ◌∙◌, subst, inl, inr, arith, refl, eq-eqb, ne_eqb, below_more}
 use Rattle.std.specs.List.{remove}
@@ -15,7 +15,7 @@ use Rattle.classes.specs.Numbers.{class_number, class_with}
 use Rattle.classes.proofs.Cited.{all-put, of-all-put}
 use Rattle.gap_values.specs.declared.families.Family.{Family}
 use Rattle.gap_values.specs.Inside.Families.{IsFamilyOf}
-use Rattle.gap_values.specs.Inside.Sets.{HasLabel, AreLeft, IsShut, IsPassed, ArePassed, open_count}
+use Rattle.gap_values.specs.Inside.Sets.{HasLabel, IsInOthers, AreLeft, IsShut, IsPassed, ArePassed, open_count}
 use Rattle.gap_values.proofs.FamilyMembers.{member-long, others-number, number-last-others}
 
 -- ---- the answers that are in no set yet
@@ -26,10 +26,71 @@ InLists sets f v end label =
     HasLabel sets f.number label
     ⊎ ((index : ℕ) × (index < end) × HasLabel sets (get_or f.rests index 0 + v) label)
 
-in-more : (sets : List (List ℕ)) (f : Family) (v end label : ℕ) → InLists sets f v end label
-    → InLists sets f v (end + 1) label
-in-more sets f v end label (inl own) = inl own
-in-more sets f v end label (inr some) = let low : some.0 < end = some.1 in inr (some.0, omega arith, some.2)
+-- a test holds of some number below a bound, or of none
+found-below : (test : ℕ → Bool) (bound : ℕ)
+    → ((n : ℕ) × (n < bound) × (test n ≡ true)) ⊎ ((n : ℕ) × (n < bound) × (test n ≡ true) → ⊥)
+found-below test zero = inr (λ some. let none : some.0 < 0 = some.1 in omega arith)
+found-below test (suc bound) = elim (found-below test bound) [
+  | inl some ↦ let low : some.0 < bound = some.1 in inl (some.0, omega arith, some.2)
+  | inr none ↦ elim (cases_Bool (test bound)) [
+    | inl last ↦ inl (bound, omega arith, last)
+    | inr free ↦ inr (λ some. elim (cases_eq some.0 bound) [
+      | inl here ↦ both_ways (test bound) free (ap test (sym here) ∙ some.2)
+      | inr before ↦ let under : some.0 < suc bound = some.1 in none (some.0, omega (arith, before), some.2)
+    ])
+  ]
+]
+
+in-others-or-not : (sets : List (List ℕ)) (f : Family) (v label : ℕ)
+    → IsInOthers sets f v label ⊎ (IsInOthers sets f v label → ⊥)
+in-others-or-not sets f v label =
+    found-below (λ index. has_bit (get_or sets (get_or f.rests index 0 + v) []) label) (length f.held)
+
+-- ---- the labels that are in no set of the lists before an index
+
+abbrev pub AreLeftBefore : List (List ℕ) → Family → ℕ → List ℕ → ℕ → List ℕ → Type 0
+AreLeftBefore sets f v common end left = (x : ℕ) → x < MAX_LABELS → (has_bit left x ≡ true)
+    ↔ ((has_bit common x ≡ true)
+    × ((index : ℕ) → index < end → HasLabel sets (get_or f.rests index 0 + v) x → ⊥))
+
+pub before-begins : (sets : List (List ℕ)) (f : Family) (v : ℕ) (common : List ℕ)
+    → AreLeftBefore sets f v common 0 common
+before-begins sets f v common x low = (
+  λ has. (has, λ index none. absurd (omega arith)),
+  λ both. both.0,
+)
+
+pub before-next : (sets : List (List ℕ)) (f : Family) (v : ℕ) (common left part new : List ℕ) (end : ℕ)
+    → AreLeftBefore sets f v common end left
+    → ((x : ℕ) → x < MAX_LABELS → (has_bit new x ≡ true)
+    ↔ ((has_bit left x ≡ true) × (has_bit part x ≡ true → ⊥)))
+    → part ≡ get_or sets (get_or f.rests end 0 + v) [] → AreLeftBefore sets f v common (end + 1) new
+before-next sets f v common left part new end was new_are part_is x low = (
+  λ has.
+      let both = (new_are x low).0 has in
+      let before = (was x low).0 both.0 in (
+        before.0,
+        below_more (λ index. HasLabel sets (get_or f.rests index 0 + v) x → ⊥) end before.1
+            (λ in_part. both.1 (ap (λ s. has_bit s x) part_is ∙ in_part)),
+      ),
+  λ both. (new_are x low).1 (
+    (was x low).1 (both.0, λ index under. both.1 index (omega arith)),
+    λ in_part. both.1 end (omega arith) (ap (λ s. has_bit s x) (sym part_is) ∙ in_part),
+  ),
+)
+
+pub before-all : (sets : List (List ℕ)) (f : Family) (v : ℕ) (common left : List ℕ) (end : ℕ) → end ≡ length f.held
+    → AreLeftBefore sets f v common end left
+    → (x : ℕ) → x < MAX_LABELS → (has_bit left x ≡ true)
+    ↔ ((has_bit common x ≡ true) × (IsInOthers sets f v x → ⊥))
+before-all sets f v common left end all was x low = (
+  λ has.
+      let both = (was x low).0 has in (
+        both.0,
+        λ some. let inside : some.0 < length f.held = some.1 in both.1 some.0 (omega arith) some.2,
+      ),
+  λ both. (was x low).1 (both.0, λ index under in_part. both.1 (index, omega arith, in_part)),
+)
 
 module _ (b : PlainBoard) (is : IsBoard b) (sets : List (List ℕ)) where
   small : (label : ℕ) → label < b.labels → label < MAX_LABELS
@@ -84,35 +145,31 @@ module _ (b : PlainBoard) (is : IsBoard b) (sets : List (List ℕ)) where
           ];
     }
 
-    pub left-more : (live part new : List ℕ) (index : ℕ) → AreLeft b sets (put v f.held) (InLists sets f v index) live
-        → ((x : ℕ) → x < MAX_LABELS → (has_bit new x ≡ true)
-        ↔ ((has_bit live x ≡ true) × (has_bit part x ≡ true → ⊥)))
-        → part ≡ get_or sets (get_or f.rests index 0 + v) []
-        → AreLeft b sets (put v f.held) (InLists sets f v (index + 1)) new
-    left-more live part new index left new_are part_is = record {
+    pub left-all : (live left : List ℕ) → AreLeft b sets (put v f.held) (InLists sets f v 0) live
+        → ((x : ℕ) → x < MAX_LABELS → (has_bit left x ≡ true)
+        ↔ ((has_bit live x ≡ true) × (IsInOthers sets f v x → ⊥)))
+        → AreLeft b sets (put v f.held) (InLists sets f v (length f.held)) left
+    left-all live left begun left_are = record {
       answers = λ x low has.
-          let both = (new_are x low).0 has in
-          let was = left.answers x low both.0 in (
+          let both = (left_are x low).0 has in
+          let was = begun.answers x low both.0 in (
             was.0,
             λ in_lists. elim in_lists [
               | inl own ↦ was.1 (inl own)
-              | inr some ↦ elim (cases_eq some.0 index) [
-                | inl here ↦ both.1 (ap (λ s. has_bit s x) part_is
-                    ∙ ap (λ n. has_bit (get_or sets (get_or f.rests n 0 + v) []) x) (sym here) ∙ some.2)
-                | inr before ↦
-                    let under : some.0 < index + 1 = some.1 in
-                    was.1 (inr (some.0, omega (arith, before), some.2))
-              ]
+              | inr some ↦ both.1 some
             ],
           );
       all = λ x answer.
           let low = small x answer.is_label in
-          elim (left.all x answer) [
-            | inl has ↦ elim (cases_Bool (has_bit part x)) [
-              | inl held ↦ inr (inr (index, omega arith, ap (λ s. has_bit s x) (sym part_is) ∙ held))
-              | inr free ↦ inl ((new_are x low).1 (has, λ held. both_ways (has_bit part x) free held))
+          elim (begun.all x answer) [
+            | inl has ↦ elim (in-others-or-not sets f v x) [
+              | inl some ↦ inr (inr some)
+              | inr none ↦ inl ((left_are x low).1 (has, none))
             ]
-            | inr some ↦ inr (in-more sets f v index x some)
+            | inr own ↦ elim own [
+              | inl in_own ↦ inr (inl in_own)
+              | inr some ↦ let none : some.0 < 0 = some.1 in absurd (omega arith)
+            ]
           ];
     }
 

@@ -12,3 +12,5 @@ mod RoundSteps
 mod BestAnswers
 mod Weighing
 mod ClassCounts
+mod UnclosedLabels
+mod GapCounts

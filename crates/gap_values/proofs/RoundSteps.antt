@@ -11,7 +11,8 @@ use Rattle.board_text.specs.declared.board.TheConstants.{MAX_LABELS}
 use Rattle.classes.specs.Classes.{IsClass}
 use Rattle.classes.specs.ClassGaps.{gap_at, member_with}
 use Rattle.classes.specs.Numbers.{ways, class_number, class_with}
-use Rattle.classes.proofs.Cited.{is-below, put-none, ways-zero, with-is, with-number}
+use Rattle.board_text.proofs.Cited.{label_is_place}
+use Rattle.classes.proofs.Cited.{is-below, put-is, put-none, ways-zero, with-is, with-number}
 use Rattle.gap_values.specs.GapTables.{IsClosedBefore, ClosesBy}
 use Rattle.gap_values.specs.Inside.Sets.{TellClosed, IsShut, IsPassed, ArePassed, AreToldTo, open_count}
 use Rattle.gap_values.specs.Inside.Words.{round_of_word, gap_table, AreGapWords, AreRounds}
@@ -248,6 +249,40 @@ module _ (board : PlainBoard) (is_board : IsBoard board) (some : 2 ≤ board.peb
     words_are = new-words;
     few = (let few = at.few in let fewer = some-closed some_told in omega arith);
     tell = tell;
+  }
+
+  -- what closed in the first round stays closed in it
+  pub first-kept : (first : List (List ℕ)) → 1 ≤ round → TellClosed board old 1 first → TellClosed board new 1 first
+  first-kept first some_round tell = record {
+    many = tell.many;
+    each = λ list list_is label label_low.
+        let n : ℕ = class_number (member_with list label) in (
+          λ has. (agree n 1 some_round).0 ((tell.each list list_is label label_low).0 has),
+          λ before. (tell.each list list_is label label_low).1 ((agree n 1 some_round).1 before),
+        );
+  }
+
+  -- what closed by this round is all that is closed
+  pub all-told : (told : List (List ℕ)) → TellClosed board new (round + 1) told → TellClosed board new 4294967295 told
+  all-told told tell = record {
+    many = tell.many;
+    each = λ list list_is label label_low.
+        let n : ℕ = class_number (member_with list label) in
+        let more : suc (board.pebbles - 2) ≡ board.pebbles - 1 = omega arith in
+        let gap_is : IsClass (places board) (board.pebbles - 1) (member_with list label) =
+        subst (λ k. IsClass (places board) k (member_with list label)) more
+        (put-is (places board) (board.pebbles - 2) label list list_is (label_is_place board label label_low)) in
+        let n_low : n < gap_count board = is-below (places board) (board.pebbles - 1) (member_with list label) gap_is in (
+          λ has.
+              let is = before-to (get_or new n 0) (round + 1) ((tell.each list list_is label label_low).0 has) in
+              before-from (get_or new n 0) 4294967295 is.1 is.1,
+          λ before.
+              let is = before-to (get_or new n 0) 4294967295 before in
+              (tell.each list list_is label label_low).1 (elim (new-words n n_low) [
+                | inl less ↦ before-from (get_or new n 0) (round + 1) less is.1
+                | inr none ↦ absurd (omega (arith, none, is.1))
+              ]),
+        );
   }
 
   -- no gap closed: the words are a table of gaps

@@ -8,6 +8,7 @@ mod counting;
 mod examples;
 mod families;
 mod gap_numbers;
+mod gap_sizes;
 mod laws;
 mod rounds;
 mod sizes;

@@ -3,8 +3,8 @@
 ghost use Rattle.std.specs.Prelude.{◌≡◌, ◌-◌, ◌<◌, ◌≤◌, IfOk};
 ghost use Rattle.board_text.specs.PlainBoard.{places};
 ghost use Rattle.classes.specs.Numbers.{ways};
-ghost use Rattle.gap_values.specs.Inside.Sets.{ArePassed, AreSets};
-ghost use Rattle.gap_values.specs.Inside.Words.{AreGapWords, AreRounds};
+ghost use Rattle.gap_values.specs.Inside.Sets.{AreGapRounds, ArePassed, AreSets};
+ghost use Rattle.gap_values.specs.Inside.Words.{AreGapWords};
 
 use crate::closing::OPEN;
 use crate::gap_numbers::GapNumbers;
@@ -13,17 +13,28 @@ use board_text::{Board, Memory};
 use positions::LabelSet;
 use std::alloc::Global;
 
+/// The rounds in which the gaps of a board close.
+#[derive(Drop)]
+pub(crate) struct GapRounds {
+    /// The round of each gap, at its number, or `OPEN`.
+    pub(crate) words: Vec<u32>,
+    /// For each list of all places but two, the labels with which it is a gap of round 0.
+    pub(crate) first: Vec<LabelSet>,
+    /// For each list of all places but two, the labels with which it is a gap of any round.
+    pub(crate) closed: Vec<LabelSet>,
+}
+
 /// The largest number of gaps of a board whose values are found.
 pub const MAX_GAPS: u32 = 536_870_912;
 
-/// The round in which each gap closes, at its number, or `OPEN`. In each round `close` closes the
-/// gaps that are shut. The error is that memory ran out.
+/// The rounds in which the gaps of `board` close. In each `close` closes the gaps that are shut. The
+/// error is that memory ran out.
 pub(crate) fn rounds_of_gaps<F: Fn(&[LabelSet], u32, Vec<u32>) -> Vec<u32>>(
     alloc: Global,
     board: &Board,
     numbers: &GapNumbers,
     close: F,
-) -> Result<Vec<u32>, Memory>
+) -> Result<GapRounds, Memory>
     requires board { numbers.now ≡ board.now }
     requires few { ways (board.now.pebbles - 1) (places board.now) ≤ MAX_GAPS }
     requires closes { 2 ≤ board.now.pebbles → (sets : _) → (round : _) → (words : _)
@@ -33,20 +44,33 @@ pub(crate) fn rounds_of_gaps<F: Fn(&[LabelSet], u32, Vec<u32>) -> Vec<u32>>(
         → F.post close sets round words new
         → ArePassed board.now sets.now round 0 0
         (ways (board.now.pebbles - 1) (places board.now)) words.items new.items }
-    ensures { IfOk result (λ words. AreRounds board.now words.items) }
+    ensures { IfOk result (AreGapRounds board.now) }
 {
     let mut words = vec![in alloc; OPEN; numbers.gaps() as usize]?;
     if board.pebbles() == 1 {
         // The one gap has no places, so that each label is an answer, whose result has that gap.
-        return Ok(words);
+        return Ok(GapRounds {
+            words,
+            first: Vec::new(alloc),
+            closed: Vec::new(alloc),
+        });
     }
     let lists = numbers.ways(board.pebbles() - 2, board.places());
-    let mut sets = vec![in alloc; LabelSet::below(0); lists as usize]?;
+    let mut first = Vec::with_capacity(alloc, lists as usize)?;
+    let mut closed = vec![in alloc; LabelSet::below(0); lists as usize]?;
     let mut round = 0;
     loop {
-        words = close(&sets, round, words);
-        if !tell_round(board, numbers, &words, round, &mut sets) {
-            return Ok(words);
+        words = close(&closed, round, words);
+        let goes_on = tell_round(board, numbers, &words, round, &mut closed);
+        if round == 0 {
+            first.extend_from_slice(&closed)?;
+        }
+        if !goes_on {
+            return Ok(GapRounds {
+                words,
+                first,
+                closed,
+            });
         }
         round += 1;
     }

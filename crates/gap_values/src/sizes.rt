@@ -5,18 +5,27 @@ ghost use Rattle.classes.specs.ClassGaps.{member_with};
 ghost use Rattle.gap_values.specs.Sizes.{AreValueCounts};
 ghost use Rattle.gap_values.specs.Inside.Counts.{IsAboveRounds, AreSizesBetween, IsTrimmed};
 ghost use Rattle.gap_values.specs.Inside.Families.{IsFamilyOf};
-ghost use Rattle.gap_values.specs.Inside.Words.{least_word, AreGapWords, AreRounds};
+ghost use Rattle.gap_values.specs.Inside.Sets.{AreGapRounds};
+ghost use Rattle.gap_values.specs.Inside.Words.{least_word, AreGapWords};
 
 use crate::closing::OPEN;
 use crate::families::Family;
 use crate::gap_numbers::GapNumbers;
-use crate::weight::family_weights;
-use board_text::Memory;
+use crate::gap_sizes::{count_each, count_gap};
+use crate::rounds::GapRounds;
+use crate::weight::{family_weights, gap_weights};
+use board_text::{MAX_LABELS, Memory};
+use positions::LabelSet;
 use std::alloc::Global;
 use std::thread::{Threads, map_chunks};
 
 /// The least of the words of the gaps of the class of `family` with the least place `least`.
-fn first_of_member(numbers: &GapNumbers, words: &[u32], family: &Family, least: u16) -> u32
+pub(crate) fn first_of_member(
+    numbers: &GapNumbers,
+    words: &[u32],
+    family: &Family,
+    least: u16,
+) -> u32
     requires words { AreGapWords numbers.now words.now }
     requires family { IsFamilyOf numbers.now (numbers.now.pebbles - 1) family.now }
     requires least { least < family.now.size }
@@ -48,16 +57,16 @@ pub(crate) fn sizes_of(
     rt: &(impl Threads + Sync),
     alloc: Global,
     numbers: &GapNumbers,
-    words: &[u32],
+    rounds: &GapRounds,
     workers: u8,
 ) -> Result<Sizes, Memory>
-    requires words { AreRounds numbers.now words.now }
+    requires rounds { AreGapRounds numbers.now rounds.now }
     requires workers { 1 ≤ workers }
     ensures { IfOk result (λ sizes. AreValueCounts numbers.now sizes.finite.items sizes.forever) }
 {
     let _ = numbers.pebbles();
-    let rounds = rounds_in(words);
-    let mut sizes = sizes_in_parts(rt, alloc, numbers, words, rounds, workers)?;
+    let bound = rounds_in(&rounds.words);
+    let mut sizes = sizes_in_parts(rt, alloc, numbers, rounds, bound, workers)?;
     sizes.trim();
     Ok(sizes)
 }
@@ -66,14 +75,14 @@ pub(crate) fn sizes_of(
 pub(crate) fn sizes_alone(
     alloc: Global,
     numbers: &GapNumbers,
-    words: &[u32],
+    rounds: &GapRounds,
 ) -> Result<Sizes, Memory>
-    requires { AreRounds numbers.now words.now }
+    requires { AreGapRounds numbers.now rounds.now }
     ensures { IfOk result (λ sizes. AreValueCounts numbers.now sizes.finite.items sizes.forever) }
 {
     let _ = numbers.pebbles();
-    let rounds = rounds_in(words);
-    let mut sizes = sizes_between(alloc, numbers, words, rounds, 0, words.len() as u64)?;
+    let bound = rounds_in(&rounds.words);
+    let mut sizes = sizes_between(alloc, numbers, rounds, bound, 0, rounds.words.len() as u64)?;
     sizes.trim();
     Ok(sizes)
 }
@@ -84,18 +93,20 @@ fn sizes_in_parts(
     rt: &(impl Threads + Sync),
     alloc: Global,
     numbers: &GapNumbers,
-    words: &[u32],
-    rounds: u32,
+    rounds: &GapRounds,
+    bound: u32,
     workers: u8,
 ) -> Result<Sizes, Memory>
-    requires words { AreGapWords numbers.now words.now }
-    requires rounds { IsAboveRounds words.now rounds }
+    requires rounds { AreGapRounds numbers.now rounds.now }
+    requires bound { IsAboveRounds rounds.now.words.items bound }
     requires workers { 1 ≤ workers }
-    ensures { IfOk result (AreSizesBetween numbers.now words.now rounds 0 (length words.now)) }
+    ensures { IfOk result (AreSizesBetween numbers.now rounds.now.words.items bound
+        0 (length rounds.now.words.items)) }
 {
     let _ = numbers.pebbles();
+    let words = &rounds.words;
     if workers == 1 {
-        return sizes_between(alloc, numbers, words, rounds, 0, words.len() as u64);
+        return sizes_between(alloc, numbers, rounds, bound, 0, words.len() as u64);
     }
     let size = words.len().div_ceil(workers as usize).max(1);
     let parts = map_chunks(
@@ -104,23 +115,23 @@ fn sizes_in_parts(
         words,
         size,
         &move |first: usize, part: &[u32]| -> Result<Sizes, Memory>
-            requires words { AreGapWords numbers.now words.now }
-            requires rounds { IsAboveRounds words.now rounds }
-            requires part { first + length part.now ≤ length words.now }
-            ensures { IfOk result (AreSizesBetween numbers.entry.now words.entry.now rounds first
-                (first + length part.now)) }
+            requires rounds { AreGapRounds numbers.now rounds.now }
+            requires bound { IsAboveRounds rounds.now.words.items bound }
+            requires part { first + length part.now ≤ length rounds.now.words.items }
+            ensures { IfOk result (AreSizesBetween numbers.entry.now
+                rounds.entry.now.words.items bound first (first + length part.now)) }
         {
             sizes_between(
                 alloc,
                 numbers,
-                words,
                 rounds,
+                bound,
                 first as u64,
                 (first + part.len()) as u64,
             )
         },
     )?;
-    let mut sizes = sizes_between(alloc, numbers, words, rounds, 0, 0)?;
+    let mut sizes = sizes_between(alloc, numbers, rounds, bound, 0, 0)?;
     for index in 0..parts.len() {
         match &parts[index] {
             Ok(part) => sizes.add(part),
@@ -130,41 +141,97 @@ fn sizes_in_parts(
     Ok(sizes)
 }
 
-/// The numbers of configurations of all values, of the classes of the families from the number
-/// `from` up to the number `to` alone, in one pass. The error is that memory ran out.
+/// The numbers of configurations of all values, of the classes of the gaps from the number `from`
+/// up to the number `to` alone. A class is one of the gap that leaves its least place out. The
+/// error is that memory ran out.
 fn sizes_between(
     alloc: Global,
     numbers: &GapNumbers,
-    words: &[u32],
-    rounds: u32,
+    rounds: &GapRounds,
+    bound: u32,
     from: u64,
     to: u64,
 ) -> Result<Sizes, Memory>
-    requires words { AreGapWords numbers.now words.now }
-    requires rounds { IsAboveRounds words.now rounds }
+    requires rounds { AreGapRounds numbers.now rounds.now }
+    requires bound { IsAboveRounds rounds.now.words.items bound }
     requires order { from ≤ to }
-    requires to { to ≤ length words.now }
-    ensures { IfOk result (AreSizesBetween numbers.now words.now rounds from to) }
+    requires to { to ≤ length rounds.now.words.items }
+    ensures { IfOk result (AreSizesBetween numbers.now rounds.now.words.items bound from to) }
 {
-    let fewer = numbers.pebbles() - 1;
-    let mut finite = vec![in alloc; 0u64; rounds as usize]?;
-    let mut forever: u64 = 0;
-    let mut walk = numbers.families_from(fewer, from);
-    for number in from..to {
-        let family = numbers.family(&walk, number);
-        numbers.next_family(&mut walk, number);
-        let weights = family_weights(numbers, &family);
-        for least in 0..family.size {
-            let word = first_of_member(numbers, words, &family, least);
-            let more = weights.of(least, family.size);
-            if word == OPEN {
-                forever += more;
-            } else {
-                finite[word as usize] += more;
-            }
-        }
+    let finite = vec![in alloc; 0u64; bound as usize]?;
+    let mut sizes = Sizes { finite, forever: 0 };
+    if numbers.pebbles() == 1 {
+        count_lone(numbers, rounds, from, to, &mut sizes);
+        return Ok(sizes);
     }
-    Ok(Sizes { finite, forever })
+    let fewer = numbers.pebbles() - 2;
+    let mut walk = numbers.families(fewer);
+    for number in 0..numbers.ways(fewer, numbers.places()) {
+        let start = walk.start;
+        let size = numbers.family_size(&walk, number) as u64;
+        let low = from.max(start);
+        let high = to.min(start + size);
+        if low < high {
+            let family = numbers.family(&walk, number);
+            count_gaps_of(numbers, rounds, &family, low, high, &mut sizes);
+        }
+        numbers.next_family(&mut walk, number);
+    }
+    Ok(sizes)
+}
+
+/// Adds the classes of the gap of a board of one pebble, if its number is from `from` up to `to`.
+fn count_lone(numbers: &GapNumbers, rounds: &GapRounds, from: u64, to: u64, sizes: &mut Sizes)
+    requires one { numbers.now.pebbles ≡ 1 }
+    requires rounds { AreGapRounds numbers.now rounds.now }
+    requires above { IsAboveRounds rounds.now.words.items (length sizes.old.finite.items) }
+    requires order { from ≤ to }
+    requires to { to ≤ length rounds.now.words.items }
+    requires none { AreSizesBetween numbers.now rounds.now.words.items
+        (length sizes.old.finite.items) from from sizes.old }
+    ensures { AreSizesBetween numbers.now rounds.now.words.items (length sizes.old.finite.items)
+        from to sizes.new }
+{
+    if from < to {
+        let family = numbers.family(&numbers.families(0), 0);
+        let weights = family_weights(&family);
+        count_each(numbers, &rounds.words, &family, &weights, sizes);
+    }
+}
+
+/// Adds the classes of the gaps of `family` from the number `low` up to the number `high`.
+fn count_gaps_of(
+    numbers: &GapNumbers,
+    rounds: &GapRounds,
+    family: &Family,
+    low: u64,
+    high: u64,
+    sizes: &mut Sizes,
+)
+    requires some { 2 ≤ numbers.now.pebbles }
+    requires rounds { AreGapRounds numbers.now rounds.now }
+    requires above { IsAboveRounds rounds.now.words.items (length sizes.old.finite.items) }
+    requires family { IsFamilyOf numbers.now (numbers.now.pebbles - 2) family.now }
+    requires low { family.now.start ≤ low }
+    requires order { low < high }
+    requires high { high ≤ family.now.start + family.now.size }
+    requires counted { (from : ℕ) × AreSizesBetween numbers.now rounds.now.words.items
+        (length sizes.old.finite.items) from low sizes.old }
+    ensures { (from : ℕ) → AreSizesBetween numbers.now rounds.now.words.items
+        (length sizes.old.finite.items) from low sizes.old
+        → AreSizesBetween numbers.now rounds.now.words.items
+        (length sizes.old.finite.items) from high sizes.new }
+{
+    let weights = gap_weights(family);
+    let mut upto = LabelSet::below((low - family.start) as u16);
+    for number in low..high {
+        let least = (number - family.start) as u16;
+        if (least as usize) < MAX_LABELS {
+            upto = upto.with(least);
+        }
+        let own = weights.of(least, family.size);
+        count_gap(numbers, rounds, family, least, upto, own, sizes);
+    }
 }
 
 impl Sizes {

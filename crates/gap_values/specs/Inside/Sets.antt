@@ -12,11 +12,18 @@ use Rattle.classes.specs.ClassGaps.{member_with}
 use Rattle.classes.specs.Numbers.{ways, class_number, class_with}
 use Rattle.gap_values.specs.GapTables.{IsClosedBefore}
 use Rattle.gap_values.specs.declared.closing.TheConstants.{OPEN}
-use Rattle.gap_values.specs.Inside.Words.{gap_table}
+use Rattle.gap_values.specs.declared.families.Family.{Family}
+use Rattle.gap_values.specs.declared.rounds.GapRounds.{GapRounds}
+use Rattle.gap_values.specs.Inside.Words.{gap_table, AreRounds}
 
 -- the label is in the set of the list of this number
 abbrev pub HasLabel : List (List ℕ) → ℕ → ℕ → Type 0
 HasLabel sets list label = has_bit (slice_index_or sets list []) label ≡ true
+
+-- the label is in the set of the list that leaves one of the places held out, and has the least
+abbrev pub IsInOthers : List (List ℕ) → Family → ℕ → ℕ → Type 0
+IsInOthers sets family least label = (index : ℕ) × (index < length family.held)
+    × HasLabel sets (slice_index family.rests index + least) label
 
 -- a set for each list of all places but two
 abbrev pub AreSets : PlainBoard → List (List ℕ) → Type 0
@@ -71,6 +78,14 @@ pub record ArePassed (board : PlainBoard) (sets : List (List ℕ)) (round first 
   pub before : (index : ℕ) → index < from → slice_index new index ≡ slice_index old index
   pub behind : (index : ℕ) → to ≤ index → slice_index new index ≡ slice_index old index
 
+-- the set has the labels up to this place
+abbrev pub AreLabelsUpTo : ℕ → List ℕ → Type 0
+AreLabelsUpTo place set = (x : ℕ) → x < MAX_LABELS → (has_bit set x ≡ true) ↔ (x ≤ place)
+
+-- no label of the set is above this place
+abbrev pub AreAtMost : ℕ → List ℕ → Type 0
+AreAtMost place set = (x : ℕ) → x < MAX_LABELS → has_bit set x ≡ true → x ≤ place
+
 -- ---- telling a closed gap to its sets
 
 -- the label of a place was added to the set of a list, if the place holds one
@@ -110,3 +125,12 @@ pub record AreToldTo (board : PlainBoard) (words : List ℕ) (round end : ℕ) (
       → (label : ℕ) → label < board.labels
       → slice_index words (class_number (member_with list label)) ≡ round
       → class_number (member_with list label) < end → HasLabel sets (class_number list) label
+
+-- ---- the rounds of a board
+
+-- the words are those of a table of gaps, and the sets have the labels with which their lists are
+-- gaps that close in the first round, and that close at all. A board of one pebble has no lists
+pub record AreGapRounds (board : PlainBoard) (rounds : GapRounds) : Type 0 where
+  pub words : AreRounds board rounds.words.items
+  pub first : 2 ≤ board.pebbles → TellClosed board rounds.words.items 1 rounds.first.items
+  pub closed : 2 ≤ board.pebbles → TellClosed board rounds.words.items OPEN rounds.closed.items

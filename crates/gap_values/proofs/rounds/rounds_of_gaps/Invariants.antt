@@ -1,9 +1,14 @@
-use Rattle.gap_values.specs.Inside.Sets.{open_count}
+use Rattle.std.proofs.Common.{◌≡◌, ◌≤◌, []}
+use Rattle.gap_values.specs.Inside.Sets.{TellClosed, open_count}
 use Rattle.gap_values.proofs.RoundSteps.{IsAtRound}
 use Rattle.gap_values.proofs.rounds.rounds_of_gaps.Given as goal
 
-abbrev pub invariant-loop-words : goal.invariant-loop-words
-invariant-loop-words g l = IsAtRound l.board l.round l.words.items l.sets.items
+abbrev pub invariant-loop-round : goal.invariant-loop-round
+invariant-loop-round g l = record {
+  at : IsAtRound l.board l.round l.words.items l.closed.items;
+  none : l.round ≡ 0 → l.first.items ≡ [];
+  first : 1 ≤ l.round → TellClosed l.board l.words.items 1 l.first.items;
+}
 
-abbrev pub decreases-loop-words : goal.decreases-loop-words
-decreases-loop-words g l = open_count l.words.items
+abbrev pub decreases-loop-round : goal.decreases-loop-round
+decreases-loop-round g l = open_count l.words.items

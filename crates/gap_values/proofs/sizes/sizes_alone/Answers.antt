@@ -1,5 +1,6 @@
-use Rattle.std.proofs.Common.{ℕ, List, subst, sym}
+use Rattle.std.proofs.Common.{◌∙◌, ℕ, List, ap, length, subst, sym}
 use Rattle.gap_values.specs.Sizes.{AreValueCounts}
+use Rattle.gap_values.specs.Inside.Counts.{AreSizesBetween, IsAboveRounds}
 use Rattle.gap_values.proofs.ClassCounts.{sizes-all, trimmed}
 use Rattle.gap_values.proofs.sizes.sizes_alone.Goals as goal
 
@@ -10,5 +11,7 @@ returns c =
     let cut = c.trim.ensures.finite in
     rw c.trim.ensures.forever (subst (λ (l : List ℕ). AreValueCounts b l sizes.forever) (sym cut.is)
     (trimmed b sizes.finite.items sizes.forever _
-    (sizes-all b c.args.words.now c.rounds_in-rounds.result sizes c.pebbles.ensures.is_board c.requires
-    c.rounds_in-rounds.ensures c.in_ok-sizes.ensures) cut.within cut.last cut.zeros))
+    (sizes-all b c.args.rounds.now.words.items c.rounds_in-bound.result sizes c.pebbles.ensures.is_board c.requires.words
+    (subst (λ (l : List ℕ). IsAboveRounds l c.rounds_in-bound.result) c.deref.ensures.value c.rounds_in-bound.ensures)
+    (subst (λ n. AreSizesBetween b c.args.rounds.now.words.items c.rounds_in-bound.result 0 n sizes)
+    (c.len.ensures ∙ sym c.deref.ensures.len ∙ ap length c.deref.ensures.value) c.in_ok-sizes.ensures)) cut.within cut.last cut.zeros))

@@ -1,193 +1,206 @@
-use Rattle.std.proofs.Common.{◌≡◌, ◌∙◌, ◌+◌, ◌-◌, ◌<◌, ◌≤◌, ℕ, List, length, get_or, set, ap, sym, subst, arith}
+use Rattle.std.proofs.Common.{◌≡◌, ◌∙◌, ◌+◌, ◌-◌, ◌<◌, ◌≤◌, ℕ, List, length, get_or, max, min, suc, ap, sym, subst, arith}
 use Rattle.std.proofs.Common.{rules}
-use Rattle.std.proofs.lemmas.List.{get_or_read, length-replicate, get_or-replicate}
+use Rattle.std.proofs.lemmas.List.{length-replicate, get_or-replicate}
 use Rattle.board_text.specs.PlainBoard.{PlainBoard, places}
-use Rattle.classes.specs.Numbers.{ways}
-use Rattle.gap_values.specs.Inside.Counts.{AreCounted, IsCountBetween}
-use Rattle.gap_values.specs.Inside.Families.{IsAtFamily, IsEdge, IsFamilyOf}
-use Rattle.gap_values.proofs.ClassCounts.{counting-begins, forever-more, finite-more, member-word-low, word-of-member}
-use Rattle.gap_values.proofs.FamilyMembers.{edge-is, edge-of, edge-only, edge-start, member-few, next-start, own-size}
-use Rattle.gap_values.proofs.Weighing.{weighs-at}
+use Rattle.classes.specs.Families.{least_places}
+use Rattle.classes.specs.Numbers.{ways, class_with}
+use Rattle.classes.proofs.Cited.{ways-fit}
+use Rattle.gap_values.specs.Inside.Counts.{AreCounted, AreSizesBetween, IsAboveRounds, IsCountBetween}
+use Rattle.gap_values.specs.Inside.Families.{IsAtFamily, IsFamilyOf}
+use Rattle.gap_values.proofs.ClassCounts.{counting-begins, sizes-few}
+use Rattle.gap_values.proofs.FamilyMembers.{edge-only, family-size, next-start, walk-all, walk-start, walk-within}
+use Rattle.gap_values.proofs.FamilyMembers.{walk-zero}
 use Rattle.gap_values.proofs.sizes.sizes_between.Goals as goal
-use Rattle.gap_values.proofs.sizes.sizes_between.Goals.{then-word, else-word, After-family-family}
+use Rattle.gap_values.proofs.sizes.sizes_between.Goals.{After-pebbles-fewer, After-family_size-size, After-min-high}
+use Rattle.gap_values.proofs.sizes.sizes_between.Goals.{In_ok-finite, In-loop-number, then-low-high, else-low-high}
+
+-- nothing is counted at first
+none-counted : (c : In_ok-finite) → AreSizesBetween c.args.numbers.now c.args.rounds.now.words.items c.args.bound
+    c.args.from c.args.from (record { finite = c.in_ok-finite.finite; forever = 0 })
+none-counted c = λ low high begin end.
+    let b : PlainBoard = c.args.numbers.now in
+    let words : List ℕ = c.args.rounds.now.words.items in
+    let zeros = c.in_ok-finite.ensures.items_if_clones_equal (λ y e. e) in
+    let bound : ℕ = c.args.bound in
+    subst (λ n. AreCounted b words bound low n c.in_ok-finite.finite.items 0)
+    (edge-only b (b.pebbles - 1) c.args.from low high begin end)
+    (record {
+      size = ap length zeros ∙ length-replicate {A = ℕ} bound 0;
+      each = λ value inside.
+          subst (IsCountBetween b words value low low)
+          (sym (ap (λ l. get_or l value 0) zeros ∙ get_or-replicate {A = ℕ} bound value 0 0 inside))
+          (counting-begins b words value low);
+      unending = counting-begins b words 4294967295 low;
+    })
+
+some : (c : After-pebbles-fewer) → 2 ≤ c.args.numbers.now.pebbles
+some c = let least = c.pebbles.ensures.is_board.pebbles.0 in
+    omega (arith, least, c.if-pebbles-eq1.false, c.pebbles.ensures.value)
 
 pub loop-number-init : goal.loop-number-init
 loop-number-init c =
-    let b = c.args.numbers.now in
-    let walk = c.families_from-walk.result in
-    let at : IsAtFamily b (b.pebbles - 1) c.args.from walk =
-    subst (λ n. IsAtFamily b (n - 1) c.args.from walk) c.pebbles-fewer.ensures.value c.families_from-walk.ensures in
-    let zeros = c.in_ok-finite.ensures.items_if_clones_equal (λ y e. e) in
-    let rounds : ℕ = c.args.rounds in
+    let b : PlainBoard = c.args.numbers.now in
+    let at : IsAtFamily b (b.pebbles - 2) 0 c.families-walk.result =
+    subst (λ n. IsAtFamily b (n - 2) 0 c.families-walk.result) c.pebbles-fewer.ensures.value c.families-walk.ensures in
+    let start : c.families-walk.result.start ≡ 0 = walk-zero b (b.pebbles - 2) c.families-walk.result at in
+    let begun : c.args.from ≡ max c.args.from (min c.families-walk.result.start c.args.to) = omega (arith, start) in
+    let none = none-counted (goal.at.loop-number-init c).In_ok-finite in
     record {
-      walk = subst (λ n. IsAtFamily b n c.args.from walk) (sym at.count_is) at;
+      walk = subst (λ n. IsAtFamily b n 0 c.families-walk.result) (sym at.count_is) at;
       count = at.count_is;
-      counted = λ low edge.
-          let start : low ≡ walk.start = edge-only b (b.pebbles - 1) c.args.from low walk.start edge
-          (edge-of b (b.pebbles - 1) c.args.from walk at) in
-          subst (λ n. AreCounted b c.args.words.now rounds low n c.in_ok-finite.finite.items 0) start (record {
-            size = ap length zeros ∙ length-replicate {A = ℕ} rounds 0;
-            each = λ value inside.
-                subst (IsCountBetween b c.args.words.now value low low)
-                (sym (ap (λ l. get_or l value 0) zeros ∙ get_or-replicate {A = ℕ} rounds value 0 0 inside))
-                (counting-begins b c.args.words.now value low);
-            unending = counting-begins b c.args.words.now 4294967295 low;
-          });
+      counted =
+          subst (λ n. AreSizesBetween b c.args.rounds.now.words.items c.args.bound c.args.from n
+          (record { finite = c.in_ok-finite.finite; forever = 0 })) begun none;
     }
 
--- where the part begins
-first : (c : After-family-family) → (low : ℕ) × IsEdge c.args.numbers.now (c.args.numbers.now.pebbles - 1) c.args.from
-    low
-first c = edge-is c.args.numbers.now (c.args.numbers.now.pebbles - 1) c.args.from
+module _ (c : After-family_size-size) where
+  abbrev b : PlainBoard
+  b = c.args.numbers.now
 
-family : (c : After-family-family)
-    → IsFamilyOf c.args.numbers.now (c.args.numbers.now.pebbles - 1) c.family-family.result
-family c =
+  at : IsAtFamily b (b.pebbles - 2) c.loop-number.number c.loop-number.walk
+  at = subst (λ n. IsAtFamily b n c.loop-number.number c.loop-number.walk) c.loop-number.invariant.count
+      c.loop-number.invariant.walk
+
+  low : c.loop-number.number < ways (b.pebbles - 2) (places b)
+  low =
+      let all = c.ways-number-end.ensures.value ∙ ap (λ n. ways (n - 2) c.places.result) c.pebbles-fewer.ensures.value
+      ∙ ap (ways (b.pebbles - 2)) c.places.ensures.value in
+      omega (arith, all, c.loop-number-test.true)
+
+  size_is : c.family_size-size.result
+      ≡ least_places (places b) (class_with (places b) (b.pebbles - 2) c.loop-number.number)
+  size_is = c.family_size-size.ensures
+      ∙ ap (λ n. least_places (places b) (class_with (places b) n c.loop-number.number)) c.loop-number.invariant.count
+
+  module _ (some : 2 ≤ b.pebbles) where
+    one : suc (b.pebbles - 2) ≡ b.pebbles - 1
+    one = omega (arith, some)
+
+    within : c.loop-number.walk.start + c.family_size-size.result ≤ ways (b.pebbles - 1) (places b)
+    within = subst (λ n. c.loop-number.walk.start + c.family_size-size.result ≤ ways n (places b)) one
+        (walk-within b (b.pebbles - 2) c.loop-number.number c.family_size-size.result c.loop-number.walk low at size_is)
+
+pub overflow_add-start : goal.overflow_add-start
+overflow_add-start c =
+    let here = goal.at.overflow_add-start c in
+    let b = c.args.numbers.now in
+    let inside = within here.After-family_size-size (some here.After-pebbles-fewer) in
+    let most = ways-fit b (b.pebbles - 1) (places b) c.places.ensures.is_board (omega arith) (omega arith) in
+    let few : c.loop-number.walk.start + c.family_size-size.result ≤ 288136807515649 =
+    omega (arith, inside, most) in
+    search (rules, few)
+
+-- there are counts for all rounds
+long : (c : In-loop-number) → length c.loop-number.sizes.finite.items ≡ c.args.bound
+long c = (sizes-few c.args.numbers.now c.args.rounds.now.words.items c.args.bound c.args.from
+    (max c.args.from (min c.loop-number.walk.start c.args.to)) c.loop-number.sizes
+    c.loop-number.invariant.walk.is_board c.loop-number.invariant.counted).size
+
+pub count_gaps_of-requires-clause-above : goal.count_gaps_of-requires-clause-above
+count_gaps_of-requires-clause-above c =
+    subst (IsAboveRounds c.args.rounds.now.words.items)
+    (sym (long (goal.at.count_gaps_of-requires-clause-above c).In-loop-number)) c.requires.bound
+
+pub count_gaps_of-requires-clause-family : goal.count_gaps_of-requires-clause-family
+count_gaps_of-requires-clause-family c =
     subst (λ n. IsFamilyOf c.args.numbers.now n c.family-family.result) c.loop-number.invariant.count
     c.family-family.ensures.family
 
-start : (c : After-family-family) → c.family-family.result.start ≡ c.loop-number.walk.start
-start c =
-    edge-start c.args.numbers.now c.loop-number.walk.count c.loop-number.number c.loop-number.walk.start
-    c.family-family.result c.family-family.ensures.family c.family-family.ensures.number
-    (edge-of c.args.numbers.now c.loop-number.walk.count c.loop-number.number c.loop-number.walk
-    c.loop-number.invariant.walk)
+pub count_gaps_of-requires-clause-low : goal.count_gaps_of-requires-clause-low
+count_gaps_of-requires-clause-low c =
+    let here = (goal.at.count_gaps_of-requires-clause-low c).After-family_size-size in
+    let b = c.args.numbers.now in
+    let start = walk-start b (b.pebbles - 2) c.loop-number.number c.family_size-size.result c.loop-number.walk (low here)
+    (at here) (size_is here) c.family-family.result
+    (subst (λ n. IsFamilyOf b n c.family-family.result) c.loop-number.invariant.count c.family-family.ensures.family)
+    c.family-family.ensures.number in
+    omega (arith, start, c.max-low.ensures)
 
-pub loop-least-init : goal.loop-least-init
-loop-least-init c = λ low edge.
-    let here = start (goal.at.loop-least-init c).After-family-family in
-    let none : c.loop-number.walk.start ≡ c.family-family.result.start + 0 = omega (arith, here) in
-    subst (λ n. AreCounted c.args.numbers.now c.args.words.now c.args.rounds low n c.loop-number.finite.items
-    c.loop-number.forever) none
-    (c.loop-number.invariant.counted low edge)
+pub count_gaps_of-requires-clause-high : goal.count_gaps_of-requires-clause-high
+count_gaps_of-requires-clause-high c =
+    let here = (goal.at.count_gaps_of-requires-clause-high c).After-family_size-size in
+    let b = c.args.numbers.now in
+    let family = subst (λ n. IsFamilyOf b n c.family-family.result) c.loop-number.invariant.count
+    c.family-family.ensures.family in
+    let start = walk-start b (b.pebbles - 2) c.loop-number.number c.family_size-size.result c.loop-number.walk (low here)
+    (at here) (size_is here) c.family-family.result family c.family-family.ensures.number in
+    let size = family-size b (b.pebbles - 2) c.loop-number.number c.family_size-size.result c.family-family.result family
+    c.family-family.ensures.number (size_is here) in
+    omega (arith, start, size, c.min-high.ensures)
 
-pub overflow_add-forever : goal.overflow_add-forever
-overflow_add-forever c =
-    let weighs = weighs-at c.args.numbers.now c.family-family.result c.family_weights-weights.result
-    c.loop-least.least c.of-more.result c.family_weights-weights.ensures c.loop-least-test.true c.of-more.ensures.before
-    c.of-more.ensures.last in
-    let own = family (goal.at.overflow_add-forever c).After-family-family in
-    let some = c.pebbles-fewer.ensures.is_board.pebbles.0 in
-    let number = member-few c.args.numbers.now (c.args.numbers.now.pebbles - 1)
-    c.family-family.result own c.loop-least.least c.loop-least-test.true (omega arith) in
-    let low = first (goal.at.overflow_add-forever c).After-family-family in
-    let few = (c.loop-least.invariant low.0 low.1).unending.few in
-    let sum : c.loop-least.forever + c.of-more.result ≤ 207458501411267280 + 720 =
-    omega (arith, few, number, weighs.1) in
-    search (rules, sum)
+-- where the count is before the part of a family, and after it
+module _ (c : After-min-high) (long : length c.loop-number.sizes.finite.items ≡ c.args.bound) where
+  before : c.max-low.result < c.min-high.result
+      → max c.args.from (min c.loop-number.walk.start c.args.to) ≡ c.max-low.result
+  before less = omega (arith, less, c.max-low.ensures, c.min-high.ensures)
 
-pub index_mut-requires : goal.index_mut-requires
-index_mut-requires c =
-    let less = member-word-low c.args.numbers.now c.args.words.now
-    c.family-family.result c.loop-least.least c.first_of_member-word.result c.args.rounds
-    (family (goal.at.index_mut-requires c).After-family-family) c.loop-least-test.true c.requires.words
-    c.requires.rounds.above c.first_of_member-word.ensures c.if-word.false in
-    let low = first (goal.at.index_mut-requires c).After-family-family in
-    omega (arith, less, (c.loop-least.invariant low.0 low.1).size)
+  behind : (next : ℕ) → next ≡ c.loop-number.walk.start + c.family_size-size.result → c.max-low.result < c.min-high.result
+      → c.min-high.result ≡ max c.args.from (min next c.args.to)
+  behind next next_is less = omega (arith, less, next_is, c.max-low.ensures, c.min-high.ensures)
 
-pub overflow_add-index_mut : goal.overflow_add-index_mut
-overflow_add-index_mut c =
-    let own = family (goal.at.overflow_add-index_mut c).After-family-family in
-    let less = member-word-low c.args.numbers.now c.args.words.now
-    c.family-family.result c.loop-least.least c.first_of_member-word.result c.args.rounds
-    own c.loop-least-test.true c.requires.words
-    c.requires.rounds.above c.first_of_member-word.ensures c.if-word.false in
-    let low = first (goal.at.overflow_add-index_mut c).After-family-family in
-    let size : length c.loop-least.finite.items ≡ c.args.rounds = (c.loop-least.invariant low.0 low.1).size in
-    let read : c.index_mut.result.now ≡ get_or c.loop-least.finite.items c.first_of_member-word.result 0 =
-    get_or_read c.loop-least.finite.items c.first_of_member-word.result c.index_mut.result.now (omega (
-      arith,
-      less,
-      size,
-    ))
-    c.index_mut.ensures.value 0 in
-    let weighs = weighs-at c.args.numbers.now c.family-family.result c.family_weights-weights.result
-    c.loop-least.least c.of-more.result c.family_weights-weights.ensures c.loop-least-test.true c.of-more.ensures.before
-    c.of-more.ensures.last in
-    let some = c.pebbles-fewer.ensures.is_board.pebbles.0 in
-    let number = member-few c.args.numbers.now (c.args.numbers.now.pebbles - 1)
-    c.family-family.result own c.loop-least.least c.loop-least-test.true (omega arith) in
-    let few = ((c.loop-least.invariant low.0 low.1).each c.first_of_member-word.result less).few in
-    let sum : c.index_mut.result.now + c.of-more.result ≤ 207458501411267280 + 720 =
-    omega (arith, few, read, weighs.1, number) in
-    search (rules, sum)
+  same : (next : ℕ) → next ≡ c.loop-number.walk.start + c.family_size-size.result → c.min-high.result ≤ c.max-low.result
+      → max c.args.from (min c.loop-number.walk.start c.args.to) ≡ max c.args.from (min next c.args.to)
+  same next next_is past = omega (arith, past, next_is, c.max-low.ensures, c.min-high.ensures)
 
-pub loop-least-preserved : goal.loop-least-preserved
-loop-least-preserved c = λ low edge.
-    let b : PlainBoard = c.args.numbers.now in
-    let words : List ℕ = c.args.words.now in
-    let f = c.family-family.result in
-    let own = family (goal.at.loop-least-preserved c).After-family-family in
-    let number : ℕ = f.start + c.loop-least.least in
-    let next : number + 1 ≡ f.start + (c.loop-least.least + 1) = omega arith in
-    let is = word-of-member b words f c.loop-least.least c.first_of_member-word.result
-    own
-    c.loop-least-test.true c.first_of_member-word.ensures in
-    let weighs = weighs-at b f c.family_weights-weights.result c.loop-least.least c.of-more.result
-    c.family_weights-weights.ensures c.loop-least-test.true c.of-more.ensures.before c.of-more.ensures.last in
-    elim c.if-word.branch [
-      | then-word w ↦ rw (w.finite-is, w.forever-is)
-          (subst (λ n. AreCounted b words c.args.rounds low n c.loop-least.finite.items
-          (c.loop-least.forever + c.of-more.result)) next
-          (forever-more b words c.args.rounds low number c.of-more.result c.loop-least.finite.items
-          c.loop-least.forever c.requires.rounds.few (c.loop-least.invariant low edge) (is ∙ w.if-word.true) weighs.0
-          weighs.1))
-      | else-word w ↦
-          let less = member-word-low b words f c.loop-least.least
-          c.first_of_member-word.result c.args.rounds own c.loop-least-test.true c.requires.words
-          c.requires.rounds.above c.first_of_member-word.ensures w.if-word.false in
-          let size : length c.loop-least.finite.items ≡ c.args.rounds = (c.loop-least.invariant low edge).size in
-          let read : w.index_mut.result.now ≡ get_or c.loop-least.finite.items c.first_of_member-word.result 0 =
-          get_or_read c.loop-least.finite.items c.first_of_member-word.result w.index_mut.result.now
-          (omega (arith, less, size)) w.index_mut.ensures.value 0 in
-          rw (w.finite-is, w.forever-is)
-          (subst (λ n. AreCounted b words c.args.rounds low n
-          (set c.loop-least.finite.items c.first_of_member-word.result (w.index_mut.result.now + c.of-more.result))
-          c.loop-least.forever) next
-          (finite-more b words c.args.rounds low number c.first_of_member-word.result c.of-more.result
-          (w.index_mut.result.now + c.of-more.result) c.loop-least.finite.items c.loop-least.forever less
-          c.requires.rounds.few (c.loop-least.invariant low edge) is
-          (ap (λ n. n + c.of-more.result) read) weighs.0 weighs.1))
-    ]
+  counted-so-far : c.max-low.result < c.min-high.result
+      → AreSizesBetween c.args.numbers.now c.args.rounds.now.words.items (length c.loop-number.sizes.finite.items)
+      c.args.from c.max-low.result c.loop-number.sizes
+  counted-so-far less =
+      subst (λ n. AreSizesBetween c.args.numbers.now c.args.rounds.now.words.items n c.args.from c.max-low.result
+      c.loop-number.sizes) (sym long)
+      (subst (λ n. AreSizesBetween c.args.numbers.now c.args.rounds.now.words.items c.args.bound c.args.from n
+      c.loop-number.sizes) (before less) c.loop-number.invariant.counted)
+
+pub count_gaps_of-requires-clause-counted : goal.count_gaps_of-requires-clause-counted
+count_gaps_of-requires-clause-counted c =
+    let at = goal.at.count_gaps_of-requires-clause-counted c in
+    (c.args.from, counted-so-far at.After-min-high (long at.In-loop-number) c.if-low-high.true)
 
 pub loop-number-preserved : goal.loop-number-preserved
 loop-number-preserved c =
-    let here = (goal.at.loop-number-preserved c).After-family-family in
-    let b = c.args.numbers.now in
-    let walk = c.loop-number.walk in
-    let f = c.family-family.result in
+    let here = (goal.at.loop-number-preserved c).After-family_size-size in
+    let ends = (goal.at.loop-number-preserved c).After-min-high in
+    let all = long (goal.at.loop-number-preserved c).In-loop-number in
+    let b : PlainBoard = c.args.numbers.now in
+    let words : List ℕ = c.args.rounds.now.words.items in
+    let number : ℕ = c.loop-number.number in
     let new = c.next_family.new.walk in
-    let own = c.family-family.ensures.family in
-    let low : c.loop-number.number < ways walk.count (places b) =
-    subst (λ n. n < ways walk.count (places b)) c.family-family.ensures.number own.inside in
-    let next : new.start ≡ walk.start + f.size =
-    next-start b walk.count c.loop-number.number f.size walk low
-    c.loop-number.invariant.walk
-    (own-size b walk.count c.loop-number.number f own c.family-family.ensures.number) new c.next_family.ensures.walk in
-    let all : f.start + c.loop-least.least ≡ new.start =
-    (let end = c.loop-least.auto.least-end in let past = c.loop-least-test.false in let begin = start here in
-    omega (arith, end, past, begin, next)) in
+    let next : IsAtFamily b (b.pebbles - 2) (number + 1) new =
+    subst (λ n. IsAtFamily b n (number + 1) new) c.loop-number.invariant.count c.next_family.ensures.walk in
+    let start : new.start ≡ c.loop-number.walk.start + c.family_size-size.result =
+    next-start b (b.pebbles - 2) number c.family_size-size.result c.loop-number.walk (low here) (at here) (size_is here)
+    new next in
     record {
-      walk = subst (λ n. IsAtFamily b n (c.loop-number.number + 1) new) (sym c.next_family.ensures.count)
-          c.next_family.ensures.walk;
+      walk = subst (λ n. IsAtFamily b n (number + 1) new) (sym c.next_family.ensures.count) c.next_family.ensures.walk;
       count = c.next_family.ensures.count ∙ c.loop-number.invariant.count;
-      counted = λ low edge. subst
-          (λ n. AreCounted c.args.numbers.now c.args.words.now c.args.rounds low n c.loop-least.finite.items
-          c.loop-least.forever) all
-          (c.loop-least.invariant low edge);
+      counted = elim c.if-low-high.branch [
+        | then-low-high w ↦ rw w.sizes-is
+            (subst (λ n. AreSizesBetween b words c.args.bound c.args.from n w.count_gaps_of.new.sizes)
+            (behind ends all new.start start w.if-low-high.true)
+            (subst (λ n. AreSizesBetween b words n c.args.from c.min-high.result w.count_gaps_of.new.sizes)
+            all
+            (w.count_gaps_of.ensures c.args.from (counted-so-far ends all w.if-low-high.true))))
+        | else-low-high w ↦ rw w.sizes-is
+            (subst (λ n. AreSizesBetween b words c.args.bound c.args.from n c.loop-number.sizes)
+            (same ends all new.start start w.if-low-high.false) c.loop-number.invariant.counted)
+      ];
     }
 
 pub returns : goal.returns
-returns c = λ low high begin end.
-    let b = c.args.numbers.now in
-    let all : c.loop-number.number ≡ c.args.to =
-    (let past = c.loop-number-test.false in let last = c.loop-number.auto.number-end in
-    omega (arith, past, last, c.requires.order)) in
-    let at : IsAtFamily b (b.pebbles - 1) c.args.to c.loop-number.walk =
-    subst (λ n. IsAtFamily b (b.pebbles - 1) n c.loop-number.walk) all
-    (subst (λ n. IsAtFamily b n c.loop-number.number c.loop-number.walk) c.loop-number.invariant.count
-    c.loop-number.invariant.walk) in
-    let edge = edge-only b (b.pebbles - 1) c.args.to c.loop-number.walk.start high
-    (edge-of b (b.pebbles - 1) c.args.to c.loop-number.walk at) end in
-    subst (λ n. AreCounted b c.args.words.now c.args.rounds low n c.loop-number.finite.items c.loop-number.forever) edge
-    (c.loop-number.invariant.counted low begin)
+returns c =
+    let b : PlainBoard = c.args.numbers.now in
+    let all = c.ways-number-end.ensures.value ∙ ap (λ n. ways (n - 2) c.places.result) c.pebbles-fewer.ensures.value
+    ∙ ap (ways (b.pebbles - 2)) c.places.ensures.value in
+    let least = some (goal.at.returns c).After-pebbles-fewer in
+    let one : suc (b.pebbles - 2) ≡ b.pebbles - 1 = omega (arith, least) in
+    let past = c.loop-number-test.false in
+    let at : IsAtFamily b (b.pebbles - 2) c.loop-number.number c.loop-number.walk =
+    subst (λ n. IsAtFamily b n c.loop-number.number c.loop-number.walk) c.loop-number.invariant.count
+    c.loop-number.invariant.walk in
+    let end = walk-all b (b.pebbles - 2) c.loop-number.number (b.pebbles - 1) c.loop-number.walk
+    (omega (arith, all, past)) one at in
+    let size = c.requires.rounds.words.size in
+    let whole : max c.args.from (min c.loop-number.walk.start c.args.to) ≡ c.args.to =
+    omega (arith, end, size, c.requires.to, c.requires.order) in
+    subst (λ n. AreSizesBetween b c.args.rounds.now.words.items c.args.bound c.args.from n c.loop-number.sizes) whole
+    c.loop-number.invariant.counted

@@ -1,5 +1,5 @@
 use Rattle.std.proofs.Common.{◌≡◌, ◌∙◌, ◌+◌, ◌*◌, ◌-◌, ◌<◌, ◌≤◌, ◌/◌, ◌%◌, ℕ, List, Ok, IfOk, get_or, min, length, sym}
-use Rattle.std.proofs.Common.{subst, arith, rules}
+use Rattle.std.proofs.Common.{ap, subst, arith, rules}
 use Rattle.std.proofs.lemmas.Grind.{div_ceil_times}
 use Rattle.std.specs.declared.result.Result.{Result}
 use Rattle.board_text.specs.PlainBoard.{PlainBoard}
@@ -32,28 +32,32 @@ part-between b words rounds index size long read part is long_is within some mad
 
 module _ (g : Over) (c : In-Ok g) where
   abbrev total : ℕ
-  total = length c.args.words.now
+  total = length c.args.rounds.now.words.items
 
   abbrev size : ℕ
   size = c.max-size.result
 
   -- what was added, and what is added to it
-  before : AreFew c.args.rounds c.loop-index.sizes
-  before = sizes-few c.args.numbers.now c.args.words.now c.args.rounds 0 (min (c.loop-index.index * size) total)
+  before : AreFew c.args.bound c.loop-index.sizes
+  before = sizes-few c.args.numbers.now c.args.rounds.now.words.items c.args.bound 0 (min (c.loop-index.index * size) total)
       c.loop-index.sizes c.pebbles.ensures.is_board c.loop-index.invariant
 
-  own : AreSizesBetween c.args.numbers.now c.args.words.now c.args.rounds (min (c.loop-index.index * size) total)
+  own : AreSizesBetween c.args.numbers.now c.args.rounds.now.words.items c.args.bound (min (c.loop-index.index * size) total)
       (min ((c.loop-index.index + 1) * size) total) c.in-Ok.part
   own =
       let inside : c.loop-index.index < length c.in_ok-parts.parts.items =
       (let low = c.loop-index-test.true in let end = c.len-index-end.ensures in search rules) in
       let at = (c.in_ok-parts.ensures.each c.loop-index.index c.index.result.now inside).1 in
-      part-between c.args.numbers.now c.args.words.now c.args.rounds c.loop-index.index size (length at.argument.now)
+      part-between c.args.numbers.now c.args.rounds.now.words.items c.args.bound c.loop-index.index size (length at.argument.now)
       (get_or c.in_ok-parts.parts.items c.loop-index.index c.index.result.now) c.in-Ok.part
-      (sym c.index.ensures ∙ c.in-Ok.is) at.argument_is.len at.argument_is.in_bounds at.argument_is.nonempty at.call
+      (sym c.index.ensures ∙ c.in-Ok.is)
+      (subst (λ (l : List ℕ). length at.argument.now ≡ min size (length l - c.loop-index.index * size))
+      c.deref.ensures.value at.argument_is.len)
+      (subst (λ (l : List ℕ). c.loop-index.index * size + length at.argument.now ≤ length l) c.deref.ensures.value
+      at.argument_is.in_bounds) at.argument_is.nonempty at.call
 
-  more : AreFew c.args.rounds c.in-Ok.part
-  more = sizes-few c.args.numbers.now c.args.words.now c.args.rounds (min (c.loop-index.index * size) total)
+  more : AreFew c.args.bound c.in-Ok.part
+  more = sizes-few c.args.numbers.now c.args.rounds.now.words.items c.args.bound (min (c.loop-index.index * size) total)
       (min ((c.loop-index.index + 1) * size) total) c.in-Ok.part c.pebbles.ensures.is_board own
 
 pub add-requires-clause-same : goal.add-requires-clause-same
@@ -74,20 +78,21 @@ add-requires-clause-few_unending g c =
 pub loop-index-preserved : goal.loop-index-preserved
 loop-index-preserved g c =
     let at = (goal.at.loop-index-preserved g c).In-Ok in
-    parts-joined c.args.numbers.now c.args.words.now c.args.rounds 0 (min (c.loop-index.index * size g at) (total g at))
+    parts-joined c.args.numbers.now c.args.rounds.now.words.items c.args.bound 0 (min (c.loop-index.index * size g at) (total g at))
     (min ((c.loop-index.index + 1) * size g at) (total g at)) c.loop-index.sizes c.in-Ok.part c.add.new.self
     c.loop-index.invariant (own g at) c.add.ensures.size c.add.ensures.finite c.add.ensures.forever
 
 pub returns : goal.returns
 returns g c =
     let size : ℕ = c.max-size.result in
-    let total : ℕ = length c.args.words.now in
+    let total : ℕ = length c.args.rounds.now.words.items in
     let all : c.loop-index.index ≡ total / size + min 1 (total % size) =
     (let end = c.loop-index.auto.index-end in let past = c.loop-index-test.false in
     let last : c.loop-index.index ≡ c.len-index-end.result = omega (arith, end, past) in last)
-    ∙ c.len-index-end.ensures ∙ c.in_ok-parts.ensures.len in
+    ∙ c.len-index-end.ensures ∙ c.in_ok-parts.ensures.len
+    ∙ ap (λ (l : List ℕ). length l / size + min 1 (length l % size)) c.deref.ensures.value in
     let times = (div_ceil_times total size (omega (arith, c.max-size.ensures))).0 in
     let past : total ≤ c.loop-index.index * size = subst (λ n. total ≤ n * size) (sym all) times in
     let whole : min (c.loop-index.index * size) total ≡ total = omega (arith, past) in
-    subst (λ n. AreSizesBetween c.args.numbers.now c.args.words.now c.args.rounds 0 n c.loop-index.sizes) whole
+    subst (λ n. AreSizesBetween c.args.numbers.now c.args.rounds.now.words.items c.args.bound 0 n c.loop-index.sizes) whole
     c.loop-index.invariant

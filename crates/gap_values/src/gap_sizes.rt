@@ -1,0 +1,188 @@
+//! Counting the configurations of the classes that a gap makes with a place that isn't above its
+//! least one, by rows of bits: those of value 0 and those that last for ever are counted at once.
+
+ghost use Rattle.std.specs.Prelude.{◌≡◌, ◌⊎◌, ℕ, ◌+◌, ◌-◌, ◌<◌, ◌≤◌, ◌↔◌, true, List, length};
+ghost use Rattle.std.specs.Prelude.{slice_index};
+ghost use Rattle.board_text.specs.Domination.{has_bit};
+ghost use Rattle.board_text.specs.PlainBoard.{PlainBoard};
+ghost use Rattle.classes.specs.ClassGaps.{member_with};
+ghost use Rattle.gap_values.specs.Inside.Counts.{IsAboveRounds, HaveRoom, AreMore, AreSmallWeights};
+ghost use Rattle.gap_values.specs.Inside.Counts.{class_word, once, made_by, made_by_bits, made_among};
+ghost use Rattle.gap_values.specs.Inside.Families.{IsFamilyOf};
+ghost use Rattle.gap_values.specs.Inside.Sets.{AreAtMost, AreGapRounds, AreLabelsUpTo, AreSets};
+ghost use Rattle.gap_values.specs.Inside.Sets.{TellClosed};
+ghost use Rattle.gap_values.specs.Inside.Words.{AreGapWords};
+
+use crate::closing::{OPEN, left_of};
+use crate::families::Family;
+use crate::gap_numbers::GapNumbers;
+use crate::rounds::GapRounds;
+use crate::sizes::{Sizes, first_of_member};
+use crate::weight::FamilyWeights;
+use board_text::MAX_LABELS;
+use positions::LabelSet;
+
+impl Sizes {
+    /// Adds `more` configurations of the value that `word` stands for.
+    fn count(&mut self, word: u32, more: u64)
+        requires few { length self.old.finite.items ≤ OPEN }
+        requires word { 0 < more → (word ≡ OPEN) ⊎ (word < length self.old.finite.items) }
+        requires room { (most : ℕ) × HaveRoom most self.old
+            × (most + more ≤ 18446744073709551615) }
+        ensures { AreMore self.old self.new (once word more) }
+    {
+        if word == OPEN {
+            self.forever += more;
+        } else if more > 0 {
+            self.finite[word as usize] += more;
+        }
+    }
+}
+
+/// Adds the configurations of the classes that the gap of `family` with the least place `least`
+/// makes with a place that isn't above it, which have these `weights`. The labels of `upto` are
+/// those up to `least`.
+pub(crate) fn count_gap(
+    numbers: &GapNumbers,
+    rounds: &GapRounds,
+    family: &Family,
+    least: u16,
+    upto: LabelSet,
+    weights: &FamilyWeights,
+    sizes: &mut Sizes,
+)
+    requires some { 2 ≤ numbers.now.pebbles }
+    requires rounds { AreGapRounds numbers.now rounds.now }
+    requires family { IsFamilyOf numbers.now (numbers.now.pebbles - 2) family.now }
+    requires least { least < family.now.size }
+    requires upto { AreLabelsUpTo least upto }
+    requires weights { AreSmallWeights weights.now }
+    requires above { IsAboveRounds rounds.now.words.items (length sizes.old.finite.items) }
+    requires room { HaveRoom 207458501411267280 sizes.old }
+    ensures { AreMore sizes.old sizes.new
+        (made_by numbers.now rounds.now.words.items (member_with family.now.held least)
+        (least + 1) weights.now) }
+{
+    if least + 1 == numbers.places() {
+        // The place without a label is in no set.
+        let gap = numbers.member_family(family, least);
+        count_each(numbers, &rounds.words, &gap, weights, sizes);
+        return;
+    }
+    let word = rounds.words[(family.start + least as u64) as usize];
+    let positive = unclosed(family, least, upto, word, 1, &rounds.first);
+    let lasting = unclosed(family, least, upto, word, OPEN, &rounds.closed);
+    count_by_bits(positive, lasting, least, weights, sizes);
+    let middle = positive.without(&lasting);
+    if !middle.is_empty() {
+        let gap = numbers.member_family(family, least);
+        count_among(numbers, &rounds.words, &gap, middle, weights, sizes);
+    }
+}
+
+/// The labels of `upto` with which the gap of `family` with the least place `least`, whose word is
+/// `word`, makes a class none of whose gaps has a word below `bound`. The `sets` tell of the gaps
+/// with such words.
+fn unclosed(
+    family: &Family,
+    least: u16,
+    upto: LabelSet,
+    word: u32,
+    bound: u32,
+    sets: &[LabelSet],
+) -> LabelSet
+    requires family { (board : PlainBoard) × (2 ≤ board.pebbles)
+        × IsFamilyOf board (board.pebbles - 2) family.now × AreSets board sets.now }
+    requires least { least < family.now.size }
+    ensures within { (x : ℕ) → x < MAX_LABELS → has_bit result x ≡ true → has_bit upto x ≡ true }
+    ensures labels { (board : PlainBoard) (words : List ℕ) → 2 ≤ board.pebbles
+        → IsFamilyOf board (board.pebbles - 2) family.now
+        → TellClosed board words bound sets.now → bound ≤ OPEN
+        → word ≡ slice_index words (family.now.start + least) → (x : ℕ) → x < board.labels
+        → (has_bit result x ≡ true) ↔ ((has_bit upto x ≡ true)
+        × (bound ≤ class_word board words (member_with family.now.held least) x)) }
+{
+    if word < bound {
+        return LabelSet::below(0);
+    }
+    let common = upto.without(&sets[family.number as usize]);
+    left_of(family, common, least, sets)
+}
+
+/// Adds the configurations of the classes that a gap with the least place `least` makes with the
+/// labels up to it: those that aren't `positive` have the value 0, and those that are `lasting` last
+/// for ever.
+fn count_by_bits(
+    positive: LabelSet,
+    lasting: LabelSet,
+    least: u16,
+    weights: &FamilyWeights,
+    sizes: &mut Sizes,
+)
+    requires least { least < MAX_LABELS }
+    requires positive { AreAtMost least positive }
+    requires lasting { AreAtMost least lasting }
+    requires weights { AreSmallWeights weights.now }
+    requires some { (x : ℕ) → x ≤ least → (has_bit positive x ≡ true → ⊥)
+        → 0 < length sizes.old.finite.items }
+    requires few { length sizes.old.finite.items ≤ OPEN }
+    requires room { HaveRoom 300000000000000000 sizes.old }
+    ensures { AreMore sizes.old sizes.new (made_by_bits positive lasting (least + 1) weights.now) }
+{
+    let only = LabelSet::below(0).with(least);
+    let zero = least as u64 - positive.without(&only).len() as u64;
+    let forever = lasting.without(&only).len() as u64;
+    let ends_at_zero = !positive.contains(least) as u64;
+    let ends_lasting = lasting.contains(least) as u64;
+    sizes.count(0, weights.each * zero + weights.last * ends_at_zero);
+    sizes.count(OPEN, weights.each * forever + weights.last * ends_lasting);
+}
+
+/// Adds the configurations of all classes of the family `gap`, each at its word.
+pub(crate) fn count_each(
+    numbers: &GapNumbers,
+    words: &[u32],
+    gap: &Family,
+    weights: &FamilyWeights,
+    sizes: &mut Sizes,
+)
+    requires words { AreGapWords numbers.now words.now }
+    requires gap { IsFamilyOf numbers.now (numbers.now.pebbles - 1) gap.now }
+    requires weights { AreSmallWeights weights.now }
+    requires above { IsAboveRounds words.now (length sizes.old.finite.items) }
+    requires room { HaveRoom 300000000000000000 sizes.old }
+    ensures { AreMore sizes.old sizes.new
+        (made_by numbers.now words.now gap.now.held gap.now.size weights.now) }
+{
+    for place in 0..gap.size {
+        let word = first_of_member(numbers, words, gap, place);
+        sizes.count(word, weights.of(place, gap.size));
+    }
+}
+
+/// Adds the configurations of the classes of the family `gap` whose least places are labels of
+/// `among`, each at its word.
+fn count_among(
+    numbers: &GapNumbers,
+    words: &[u32],
+    gap: &Family,
+    among: LabelSet,
+    weights: &FamilyWeights,
+    sizes: &mut Sizes,
+)
+    requires words { AreGapWords numbers.now words.now }
+    requires gap { IsFamilyOf numbers.now (numbers.now.pebbles - 1) gap.now }
+    requires labels { gap.now.size ≤ MAX_LABELS }
+    requires weights { AreSmallWeights weights.now }
+    requires above { IsAboveRounds words.now (length sizes.old.finite.items) }
+    requires room { HaveRoom 300000000000000000 sizes.old }
+    ensures { AreMore sizes.old sizes.new
+        (made_among numbers.now words.now gap.now.held gap.now.size weights.now among) }
+{
+    for place in 0..gap.size {
+        if among.contains(place) {
+            let word = first_of_member(numbers, words, gap, place);
+            sizes.count(word, weights.of(place, gap.size));
+        }
+    }
+}
