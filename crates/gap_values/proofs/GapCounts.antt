@@ -1,5 +1,6 @@
 -- The classes that a gap makes with a place are counted, by rows of bits.
-use Rattle.std.proofs.Common.{◌≡◌, ◌≢◌, ℕ, zero, suc, ◌+◌, ◌-◌, ◌*◌, ◌<◌, ◌≤◌, ◌⊎◌, ◌↔◌, Bool, true, false, not, cond, nat_eq}
+use Rattle.std.proofs.Common.{◌≡◌, ◌≢◌, ℕ, zero, suc, ◌+◌, ◌-◌, ◌*◌, ◌<◌, ◌≤◌, ◌⊎◌, ◌↔◌, Bool, true, false, not, cond}
+use Rattle.std.proofs.Common.{nat_eq}
 use Rattle.std.proofs.Common.{List, length, get_or, set, refl, sym, ap, ◌∙◌, subst, inl, inr, arith, eq-eqb, ne_eqb}
 use mir.Val.{bool_byte}
 use Rattle.std.proofs.Math.Nat.{mul-le-mul_left}
@@ -341,7 +342,8 @@ module _ (b : PlainBoard) (words : List ℕ) (g : Family) (weights : FamilyWeigh
   one = let some = family.is_board.pebbles.0 in omega arith
 
   weighs : (x : ℕ) → x < g.size
-      → HasWeight (places b) b.pebbles (g.start + x) (weight_with weights g.size x) × (weight_with weights g.size x ≤ 720)
+      → HasWeight (places b) b.pebbles (g.start + x) (weight_with weights g.size x) × (weight_with weights g.size x ≤
+      720)
   weighs x low = elim (cases_eq (x + 1) g.size) [
     | inl end ↦
         let is : weight_with weights g.size x ≡ weights.last = weight-is-last weights g.size x end in (
@@ -383,7 +385,8 @@ module _ (b : PlainBoard) (words : List ℕ) (g : Family) (weights : FamilyWeigh
   gap-counted rounds low old new was more = record {
     size = more.size ∙ was.size;
     each = λ value inside.
-        counted-more low value (get_or old.finite.items value 0) (get_or new.finite.items value 0) (was.each value inside)
+        counted-more low value (get_or old.finite.items value 0) (get_or new.finite.items value 0) (was.each value
+        inside)
         (more.each value (let size = was.size in omega (arith, size)));
     unending = counted-more low 4294967295 old.forever new.forever was.unending more.unending;
   }
@@ -399,12 +402,14 @@ module _ (b : PlainBoard) (words : List ℕ) (g : Family) (weights : FamilyWeigh
       let inside = family.inside in
       let size_is = family.size_is ∙ ap (least_places (places b))
       (family.held_is ∙ ap (class_with (places b) count) number_is) in
-      let next = edge-next b count number edge.0 g.size family.is_board (omega (arith, inside, number_is)) size_is edge.1 in
+      let next = edge-next b count number edge.0 g.size family.is_board (omega (arith, inside, number_is)) size_is
+      edge.1 in
       let same : g.start + g.size ≡ high =
       ap (λ n. n + g.size) start ∙ edge-only b count (number + 1) (edge.0 + g.size) high next end in
       subst (λ n. AreCounted b words rounds low n new.finite.items new.forever) same
       (gap-counted rounds low old new
-      (subst (λ n. AreCounted b words rounds low n old.finite.items old.forever) (sym start) (was low edge.0 begin edge.1))
+      (subst (λ n. AreCounted b words rounds low n old.finite.items old.forever) (sym start) (was low edge.0 begin
+      edge.1))
       more)
 
 -- ---- places that are counted by bits, and the others one by one
@@ -514,7 +519,8 @@ none-among among (suc size) term none =
 
 -- ---- the sums of bits
 
-pub once-add : (word one other wanted : ℕ) → once word one wanted + once word other wanted ≡ once word (one + other) wanted
+pub once-add : (word one other wanted : ℕ)
+    → once word one wanted + once word other wanted ≡ once word (one + other) wanted
 once-add word one other wanted = elim (cases_eq wanted word) [
   | inl same ↦
       let first = once-here word one wanted same in
@@ -679,7 +685,8 @@ bits-all positive lasting weights last free forever at_zero at_last wanted free_
     sum-same last term plain (λ x low.
     ap (λ w. cond (has_bit positive x) 0 (once 0 w wanted) + cond (has_bit lasting x) (once 4294967295 w wanted) 0)
     (weight-is-each weights size x (λ same. omega (arith, same)))) in
-    let is : sum_below last plain ≡ once 0 (weights.each * free) wanted + once 4294967295 (weights.each * forever) wanted =
+    let is : sum_below last plain ≡ once 0 (weights.each * free) wanted + once 4294967295 (weights.each * forever)
+    wanted =
     bits-weighed positive lasting weights.each wanted last
     ∙ ap (λ n. once 0 (weights.each * n) wanted + once 4294967295 (weights.each * bits_below lasting last) wanted)
     (sym free_is)

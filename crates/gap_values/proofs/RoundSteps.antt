@@ -272,7 +272,8 @@ module _ (board : PlainBoard) (is_board : IsBoard board) (some : 2 ≤ board.peb
         let gap_is : IsClass (places board) (board.pebbles - 1) (member_with list label) =
         subst (λ k. IsClass (places board) k (member_with list label)) more
         (put-is (places board) (board.pebbles - 2) label list list_is (label_is_place board label label_low)) in
-        let n_low : n < gap_count board = is-below (places board) (board.pebbles - 1) (member_with list label) gap_is in (
+        let n_low : n < gap_count board = is-below (places board) (board.pebbles - 1) (member_with list label) gap_is
+        in (
           λ has.
               let is = before-to (get_or new n 0) (round + 1) ((tell.each list list_is label label_low).0 has) in
               before-from (get_or new n 0) 4294967295 is.1 is.1,

@@ -1,5 +1,6 @@
 -- The labels with which a gap makes a class none of whose gaps closes before a round.
-use Rattle.std.proofs.Common.{◌≡◌, ◌∙◌, ℕ, suc, ◌+◌, ◌-◌, ◌<◌, ◌≤◌, ◌⊎◌, ◌↔◌, true, List, [], length, get_or, sym, ap, subst}
+use Rattle.std.proofs.Common.{◌≡◌, ◌∙◌, ℕ, suc, ◌+◌, ◌-◌, ◌<◌, ◌≤◌, ◌⊎◌, ◌↔◌, true, List, [], length, get_or, sym, ap}
+use Rattle.std.proofs.Common.{subst}
 use Rattle.std.proofs.Common.{inl, inr, arith}
 use Rattle.std.specs.List.{remove}
 use Rattle.std.proofs.lemmas.Bool.{cases_lt}
@@ -22,7 +23,8 @@ use Rattle.gap_values.proofs.Words.{before-from, before-to, least-is, result-is}
 
 module _ (b : PlainBoard) (words : List ℕ) (sets : List (List ℕ)) (f : Family) (v word bound : ℕ)
     (some : 2 ≤ b.pebbles) (family : IsFamilyOf b (b.pebbles - 2) f) (low : v < f.size)
-    (tell : TellClosed b words bound sets) (few : bound ≤ 4294967295) (word_is : word ≡ get_or words (f.start + v) 0) where
+    (tell : TellClosed b words bound sets) (few : bound ≤ 4294967295) (word_is : word ≡ get_or words (f.start + v) 0)
+    where
   count : ℕ
   count = b.pebbles - 2
 

@@ -82,7 +82,8 @@ once word more wanted = if nat_eq wanted word then more else 0
 -- the weights of the classes with the places below a number whose word is the wanted one
 abbrev pub made_by : PlainBoard → List ℕ → List ℕ → ℕ → FamilyWeights → ℕ → ℕ
 made_by board words gap size weights wanted = sum_below size
-    (λ place. if nat_eq (class_word board words gap place) wanted then weight_with weights size place else 0)
+    (λ place. if nat_eq (class_word board words gap place) wanted
+    then weight_with weights size place else 0)
 
 -- the same of the places that are in a set
 abbrev pub made_among : PlainBoard → List ℕ → List ℕ → ℕ → FamilyWeights → List ℕ → ℕ → ℕ

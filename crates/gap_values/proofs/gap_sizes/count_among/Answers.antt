@@ -8,7 +8,8 @@ use Rattle.classes.proofs.Cited.{sum-zero}
 use Rattle.gap_values.specs.Inside.Counts.{AreMore, class_word, once, weight_with}
 use Rattle.gap_values.proofs.ClassCounts.{member-word-low}
 use Rattle.gap_values.proofs.FamilyMembers.{place-low}
-use Rattle.gap_values.proofs.GapCounts.{more-joined, more-none, more-same, room-more, among-few, among-more, among-same, weight-few, weight-is}
+use Rattle.gap_values.proofs.GapCounts.{more-joined, more-none, more-same, room-more, among-few, among-more, among-same}
+use Rattle.gap_values.proofs.GapCounts.{weight-few, weight-is}
 use Rattle.gap_values.proofs.gap_sizes.count_among.Goals as goal
 use Rattle.gap_values.proofs.gap_sizes.count_among.Goals.{At-loop-place, After-of, then-contains, else-contains}
 

@@ -136,7 +136,8 @@ returns-then-not-goes_on g c =
           (drop (length c.tell_round-goes_on.new.sets) c.loop-round.closed.items)
           c.loop-round.closed.len (c.tell_round-goes_on.auto.sets ∙ c.deref_mut.ensures.len)))
           (all-told b c.pebbles.ensures.is_board (some g at) c.loop-round.round (old g at) (new g at)
-          c.loop-round.closed.items (low g at) c.loop-round.invariant.at (passed g at) c.tell_round-goes_on.new.sets tell);
+          c.loop-round.closed.items (low g at) c.loop-round.invariant.at (passed g at) c.tell_round-goes_on.new.sets
+          tell);
     }
 
 pub loop-round-smaller : goal.loop-round-smaller

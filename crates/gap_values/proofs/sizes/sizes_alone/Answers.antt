@@ -11,7 +11,9 @@ returns c =
     let cut = c.trim.ensures.finite in
     rw c.trim.ensures.forever (subst (λ (l : List ℕ). AreValueCounts b l sizes.forever) (sym cut.is)
     (trimmed b sizes.finite.items sizes.forever _
-    (sizes-all b c.args.rounds.now.words.items c.rounds_in-bound.result sizes c.pebbles.ensures.is_board c.requires.words
+    (sizes-all b c.args.rounds.now.words.items c.rounds_in-bound.result sizes c.pebbles.ensures.is_board
+    c.requires.words
     (subst (λ (l : List ℕ). IsAboveRounds l c.rounds_in-bound.result) c.deref.ensures.value c.rounds_in-bound.ensures)
     (subst (λ n. AreSizesBetween b c.args.rounds.now.words.items c.rounds_in-bound.result 0 n sizes)
-    (c.len.ensures ∙ sym c.deref.ensures.len ∙ ap length c.deref.ensures.value) c.in_ok-sizes.ensures)) cut.within cut.last cut.zeros))
+    (c.len.ensures ∙ sym c.deref.ensures.len
+    ∙ ap length c.deref.ensures.value) c.in_ok-sizes.ensures)) cut.within cut.last cut.zeros))

@@ -1,5 +1,5 @@
-use Rattle.std.proofs.Common.{◌≡◌, ◌∙◌, ◌+◌, ◌-◌, ◌<◌, ◌≤◌, ℕ, List, length, get_or, max, min, suc, ap, sym, subst, arith}
-use Rattle.std.proofs.Common.{rules}
+use Rattle.std.proofs.Common.{◌≡◌, ◌∙◌, ◌+◌, ◌-◌, ◌<◌, ◌≤◌, ℕ, List, length, get_or, max, min, suc, ap, sym, subst}
+use Rattle.std.proofs.Common.{arith, rules}
 use Rattle.std.proofs.lemmas.List.{length-replicate, get_or-replicate}
 use Rattle.board_text.specs.PlainBoard.{PlainBoard, places}
 use Rattle.classes.specs.Families.{least_places}
@@ -110,7 +110,8 @@ pub count_gaps_of-requires-clause-low : goal.count_gaps_of-requires-clause-low
 count_gaps_of-requires-clause-low c =
     let here = (goal.at.count_gaps_of-requires-clause-low c).After-family_size-size in
     let b = c.args.numbers.now in
-    let start = walk-start b (b.pebbles - 2) c.loop-number.number c.family_size-size.result c.loop-number.walk (low here)
+    let start = walk-start b (b.pebbles - 2) c.loop-number.number c.family_size-size.result c.loop-number.walk 
+    (low here)
     (at here) (size_is here) c.family-family.result
     (subst (λ n. IsFamilyOf b n c.family-family.result) c.loop-number.invariant.count c.family-family.ensures.family)
     c.family-family.ensures.number in
@@ -122,9 +123,11 @@ count_gaps_of-requires-clause-high c =
     let b = c.args.numbers.now in
     let family = subst (λ n. IsFamilyOf b n c.family-family.result) c.loop-number.invariant.count
     c.family-family.ensures.family in
-    let start = walk-start b (b.pebbles - 2) c.loop-number.number c.family_size-size.result c.loop-number.walk (low here)
+    let start = walk-start b (b.pebbles - 2) c.loop-number.number c.family_size-size.result c.loop-number.walk 
+    (low here)
     (at here) (size_is here) c.family-family.result family c.family-family.ensures.number in
-    let size = family-size b (b.pebbles - 2) c.loop-number.number c.family_size-size.result c.family-family.result family
+    let size = family-size b (b.pebbles - 2) c.loop-number.number c.family_size-size.result c.family-family.result
+    family
     c.family-family.ensures.number (size_is here) in
     omega (arith, start, size, c.min-high.ensures)
 
@@ -134,7 +137,8 @@ module _ (c : After-min-high) (long : length c.loop-number.sizes.finite.items �
       → max c.args.from (min c.loop-number.walk.start c.args.to) ≡ c.max-low.result
   before less = omega (arith, less, c.max-low.ensures, c.min-high.ensures)
 
-  behind : (next : ℕ) → next ≡ c.loop-number.walk.start + c.family_size-size.result → c.max-low.result < c.min-high.result
+  behind : (next : ℕ) → next ≡ c.loop-number.walk.start + c.family_size-size.result
+      → c.max-low.result < c.min-high.result
       → c.min-high.result ≡ max c.args.from (min next c.args.to)
   behind next next_is less = omega (arith, less, next_is, c.max-low.ensures, c.min-high.ensures)
 

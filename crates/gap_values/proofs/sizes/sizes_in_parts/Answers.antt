@@ -39,16 +39,19 @@ module _ (g : Over) (c : In-Ok g) where
 
   -- what was added, and what is added to it
   before : AreFew c.args.bound c.loop-index.sizes
-  before = sizes-few c.args.numbers.now c.args.rounds.now.words.items c.args.bound 0 (min (c.loop-index.index * size) total)
+  before = sizes-few c.args.numbers.now c.args.rounds.now.words.items c.args.bound 0
+      (min (c.loop-index.index * size) total)
       c.loop-index.sizes c.pebbles.ensures.is_board c.loop-index.invariant
 
-  own : AreSizesBetween c.args.numbers.now c.args.rounds.now.words.items c.args.bound (min (c.loop-index.index * size) total)
+  own : AreSizesBetween c.args.numbers.now c.args.rounds.now.words.items c.args.bound
+      (min (c.loop-index.index * size) total)
       (min ((c.loop-index.index + 1) * size) total) c.in-Ok.part
   own =
       let inside : c.loop-index.index < length c.in_ok-parts.parts.items =
       (let low = c.loop-index-test.true in let end = c.len-index-end.ensures in search rules) in
       let at = (c.in_ok-parts.ensures.each c.loop-index.index c.index.result.now inside).1 in
-      part-between c.args.numbers.now c.args.rounds.now.words.items c.args.bound c.loop-index.index size (length at.argument.now)
+      part-between c.args.numbers.now c.args.rounds.now.words.items c.args.bound c.loop-index.index size
+      (length at.argument.now)
       (get_or c.in_ok-parts.parts.items c.loop-index.index c.index.result.now) c.in-Ok.part
       (sym c.index.ensures ∙ c.in-Ok.is)
       (subst (λ (l : List ℕ). length at.argument.now ≡ min size (length l - c.loop-index.index * size))
@@ -78,7 +81,8 @@ add-requires-clause-few_unending g c =
 pub loop-index-preserved : goal.loop-index-preserved
 loop-index-preserved g c =
     let at = (goal.at.loop-index-preserved g c).In-Ok in
-    parts-joined c.args.numbers.now c.args.rounds.now.words.items c.args.bound 0 (min (c.loop-index.index * size g at) (total g at))
+    parts-joined c.args.numbers.now c.args.rounds.now.words.items c.args.bound 0 (min (c.loop-index.index * size g at)
+    (total g at))
     (min ((c.loop-index.index + 1) * size g at) (total g at)) c.loop-index.sizes c.in-Ok.part c.add.new.self
     c.loop-index.invariant (own g at) c.add.ensures.size c.add.ensures.finite c.add.ensures.forever
 
@@ -94,5 +98,6 @@ returns g c =
     let times = (div_ceil_times total size (omega (arith, c.max-size.ensures))).0 in
     let past : total ≤ c.loop-index.index * size = subst (λ n. total ≤ n * size) (sym all) times in
     let whole : min (c.loop-index.index * size) total ≡ total = omega (arith, past) in
-    subst (λ n. AreSizesBetween c.args.numbers.now c.args.rounds.now.words.items c.args.bound 0 n c.loop-index.sizes) whole
+    subst (λ n. AreSizesBetween c.args.numbers.now c.args.rounds.now.words.items c.args.bound 0 n c.loop-index.sizes)
+    whole
     c.loop-index.invariant

@@ -4,4 +4,5 @@ use Rattle.gap_values.proofs.sizes.sizes_in_parts.Given as goal
 
 abbrev pub invariant-loop-index : goal.invariant-loop-index
 invariant-loop-index g l =
-    AreSizesBetween l.numbers l.rounds.words.items l.bound 0 (min (l.index * l.size) (length l.rounds.words.items)) l.sizes
+    AreSizesBetween l.numbers l.rounds.words.items l.bound 0 (min (l.index * l.size) (length l.rounds.words.items))
+    l.sizes
