@@ -14,7 +14,6 @@ ghost use Rattle.graphs.specs.declared.graph.Numbering.TheVariants.{Ordered};
 ghost use Rattle.graphs.specs.declared.graph.Numbering.TheVariants.{Classes as ClassesData};
 
 use crate::class_numbers::ClassNumbers;
-use crate::families::struck_by;
 use crate::numbers::{MAX_PLACES, Numbers, Tables, all_struck};
 use crate::ordered_numbers::OrderedNumbers;
 use board_text::{Board, Memory};
@@ -22,7 +21,6 @@ use classes::{MAX_CLASSES, has_few_classes};
 use positions::{LabelSet, MAX_CONFIGURATIONS, is_small};
 use std::alloc::Global;
 use std::marker::Model;
-use std::thread::Threads;
 
 /// What the numbers of configurations and gaps stand for.
 #[derive(Clone, Copy, Debug, Drop, PartialEq, Eq)]
@@ -111,24 +109,6 @@ impl Graph {
     {
         let numbers = ClassNumbers::of(alloc, board)?;
         let struck = numbers.all_struck(alloc, board)?;
-        Ok(Graph::with_classes(numbers, struck))
-    }
-
-    /// The graph of the classes of `board`, made by at most this number of `workers`. One is this
-    /// thread, and starts none. The graph is the same for every number of them.
-    /// The error is that memory ran out.
-    pub fn of_classes_by(
-        rt: &(impl Threads + Sync),
-        alloc: Global,
-        board: &Board,
-        workers: u8,
-    ) -> Result<Graph, Memory>
-        requires few { class_count board.now ≤ MAX_CLASSES }
-        requires workers { 1 ≤ workers }
-        ensures { IfOk result (λ graph. graph ≡ numbered board.now ClassesData) }
-    {
-        let numbers = ClassNumbers::of(alloc, board)?;
-        let struck = struck_by(rt, alloc, &numbers, board, workers)?;
         Ok(Graph::with_classes(numbers, struck))
     }
 

@@ -9,7 +9,6 @@ mod laws;
 mod numbered_ranks;
 mod numbers;
 mod ordered_numbers;
-mod sharing;
 mod stuck;
 
 pub use graph::{Graph, Numbering, has_few};

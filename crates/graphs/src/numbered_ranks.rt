@@ -13,7 +13,6 @@ use board_text::{MAX_PEBBLES, Memory};
 use classes::Standing;
 use positions::Space;
 use std::alloc::Global;
-use std::thread::Threads;
 
 impl Graph {
     /// The number of the configuration `held`: its rank, or the number of its class.
@@ -53,23 +52,6 @@ impl Graph {
         match &self.finder {
             Finder::Ranks(_) => Ok(vec![in alloc; 1u16; self.tables.configurations as usize]?),
             Finder::Classes(numbers) => numbers.weights(alloc),
-        }
-    }
-
-    /// The same as `weights`, made by at most this number of `workers`. One is this thread, and
-    /// starts none. The weights are the same for every number of them.
-    pub fn weights_by(
-        &self,
-        rt: &(impl Threads + Sync),
-        alloc: Global,
-        workers: u8,
-    ) -> Result<Vec<u16>, Memory>
-        requires { 1 ≤ workers }
-        ensures { IfOk result (λ weights. AreNumberWeights self.now weights.items) }
-    {
-        match &self.finder {
-            Finder::Ranks(_) => self.weights(alloc),
-            Finder::Classes(numbers) => numbers.weights_by(rt, alloc, workers),
         }
     }
 }

@@ -84,9 +84,8 @@ pub fn solve_values<G: Gate, R: Threads + Wait + Sync>(
 /// The values of `board`, which has few classes, by their numbers, found in rounds over classes of
 /// configurations: all that exchanged pebbles give are one.
 ///
-/// The workers make the graph of the classes in parts, if it has enough of them. A round that
-/// strikes those of at least `MIN_SHARED` classes, and of four fifths of all, is shared by all
-/// workers, as each round of `solve_values` is, and a smaller one by none. Of this the clauses say
+/// A round that strikes those of at least `MIN_SHARED` classes, and of four fifths of all, is shared
+/// by all workers, as each round of `solve_values` is, and a smaller one by none. Of this the clauses say
 /// that `Worker` is answered of no board of fewer classes. The values are those of the board,
 /// whatever the number of workers, the gate and the schedule are.
 pub fn solve_classes<G: Gate, R: Threads + Wait + Sync>(
@@ -104,7 +103,7 @@ pub fn solve_classes<G: Gate, R: Threads + Wait + Sync>(
     ensures enough { result ≡ Err SolveFault.Worker
         → MIN_SHARED ≤ (graph_of (numbered board.now Classes)).configurations }
 {
-    let solver = Solver::<PlainLists>::of_classes_by(rt, alloc, board, workers as u8)?;
+    let solver = Solver::<PlainLists>::of_classes(alloc, board)?;
     let least = least_shared(workers, solver.graph().configurations());
     match run_rounds(rt, alloc, solver, workers, gate, least)?.finish_numbered() {
         Ok(values) => Ok(values),

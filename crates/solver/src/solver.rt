@@ -37,13 +37,12 @@ use index_lists::ListStore;
 use positions::{MAX_CONFIGURATIONS, Space, TooLarge};
 use std::alloc::Global;
 use std::marker::Model;
-use std::thread::Threads;
 
 /// A board whose values are found round by round.
 ///
 /// It holds no board: contracts see it as the board that it was opened for and what the numbers of
 /// its configurations stand for, with the configurations that are filed and those that aren't. No
-/// call but `open`, `of_classes`, `of_classes_by` and `to_strike` takes memory.
+/// call but `open`, `of_classes` and `to_strike` takes memory.
 #[derive(Drop)]
 pub struct Solver<S: ListStore> {
     stage: Stage<S>,
@@ -96,23 +95,6 @@ impl<S: ListStore + Drop> Solver<S> {
         ensures { IfOk result (λ solver. IsFresh (numbered board.now Numbering.Classes) solver) }
     {
         Solver::start(alloc, board, Numbering::Classes, None)
-    }
-
-    /// The same as `of_classes`, with the graph made by at most this number of `workers`. One is
-    /// this thread, and starts none.
-    pub fn of_classes_by(
-        rt: &(impl Threads + Sync),
-        alloc: Global,
-        board: &Board,
-        workers: u8,
-    ) -> Result<Solver<S>, Memory>
-        requires few { class_count board.now ≤ MAX_CLASSES }
-        requires workers { 1 ≤ workers }
-        ensures { IfOk result (λ solver. IsFresh (numbered board.now Numbering.Classes) solver) }
-    {
-        let graph = Graph::of_classes_by(rt, alloc, board, workers)?;
-        let weights = graph.weights_by(rt, alloc, workers)?;
-        Solver::of_graph(alloc, graph, weights, None)
     }
 
     /// A solver of `board` by `numbering`. The space is the board's, if numbers are ranks.
