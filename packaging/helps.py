@@ -4,6 +4,8 @@ import subprocess
 from dataclasses import dataclass, field
 
 ITEM = re.compile(r' +(\S.*?)(?: {2,}(.*))?$')
+# the heading of options that come with or without a command
+EVERYWHERE = 'With or without a command:'
 VALUES = re.compile(r' ?\[possible values: (.*)\]')
 
 
@@ -71,7 +73,7 @@ def read(text):
     """The help that has this text."""
     first, *blocks = [part.splitlines() for part in text.rstrip('\n').split('\n\n')]
     found = Help(' '.join(first))
-    lists = {'Commands:': found.commands, 'Arguments:': found.arguments, 'Options:': found.options}
+    lists = {'Commands:': found.commands, 'Arguments:': found.arguments, 'Options:': found.options, EVERYWHERE: found.options}
     for lines in blocks:
         if lines[0].startswith('Usage: '):
             found.usage = lines[0].removeprefix('Usage: ')

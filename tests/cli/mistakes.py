@@ -3,7 +3,7 @@ import os
 import pty
 import subprocess
 from contextlib import contextmanager, suppress
-from dataclasses import dataclass, field
+from dataclasses import dataclass, field, replace
 from functools import partial
 
 from board_texts import chain, empty, text as board_text
@@ -71,8 +71,18 @@ def is_as_wanted(got, wanted):
     return got.startswith(wanted[:-2]) if wanted.endswith(b'..') else got == wanted
 
 
+def unasked(mistake, told):
+    """None where a run in pipes that is asked to explain leaves what one leaves at a terminal: before a command, and after its words."""
+    if mistake.about == 'pebbles' and mistake.says == 'UTF-8':
+        return None
+    placed = [['--explain', *mistake.words]]
+    if mistake.words and mistake.wanted.status != 2:
+        placed.append([*mistake.words, '--explain'])
+    return next(filter(None, (differs(run_in_pipes(replace(mistake, words=words)), told) for words in placed)), None)
+
+
 def explained(mistake):
-    """None where the mistake is told to the byte without a terminal, and explained after the same bytes at one."""
+    """None where the mistake is told to the byte without a terminal, and explained after the same bytes at one, or if that is asked for."""
     piped = run_in_pipes(mistake)
     wanted = mistake.wanted
     if piped.status != wanted.status or not is_as_wanted(piped.output, wanted.output) or not is_as_wanted(piped.errors, wanted.errors):
@@ -81,7 +91,7 @@ def explained(mistake):
     note = told.errors[len(piped.errors):].decode()
     is_same = (told.status, told.output) == (piped.status, piped.output) and told.errors.startswith(piped.errors)
     is_note = note.startswith(f'{mistake.about}: ') and mistake.says in note and note.endswith('\n') and note.count('\n') == 1
-    return None if is_same and is_note else f'at a terminal {shown(told)}'
+    return unasked(mistake, told) if is_same and is_note else f'at a terminal {shown(told)}'
 
 
 # ---- typed lines
@@ -382,7 +392,7 @@ def of_words(work):
     """Words of no command: the message is clap's."""
     wrong = Ran(2, b'', b'error: ..')
     general, path, workers = '`pebbles --help` lists', 'the name of a command comes before a path', '`--workers` comes with a number'
-    options, version, large = 'the only options are', '`--version` stands alone', 'only `solve`, `report` and `play` have `--large`'
+    options, version, large = '`--explain`, `--help` and `--version`; a path that begins', '`--version` stands alone', 'only `solve`, `report` and `play` have `--large`'
     told = [(['--workers', '0'], workers), (['slove', 'board'], general), ([CHAIN], path), (['c.board'], path), (['check', CHAIN], general),
             (['solve', '-w', '4', CHAIN], options), (['solve', '--json', CHAIN], options), (['solve', '-q', CHAIN], options),
             (['solve', '-j', '4', CHAIN], options), (['solve', '--version'], version), (['solve', '--workers', 'x', CHAIN], workers),

@@ -354,21 +354,33 @@ fn a_closed_standard_input(rt: HostRuntime) {
     );
 }
 
+/// Which words, and the streams that are terminals, by which a missing file is explained.
+const EXPLAINED: [(&str, &[&str], Terminals); 3] = [
+    (
+        "at a terminal",
+        &["pebbles", "solve", "other.board"],
+        TERMINALS,
+    ),
+    (
+        "before the command",
+        &["pebbles", "--explain", "solve", "other.board"],
+        NO_TERMINALS,
+    ),
+    (
+        "among its words",
+        &["pebbles", "solve", "--explain", "other.board"],
+        NO_TERMINALS,
+    ),
+];
+
 #[test]
-fn a_missing_file_at_a_terminal(rt: HostRuntime) {
+fn an_explained_missing_file(rt: HostRuntime) {
     let missing = Wanted {
         status: 5,
         output: "",
         errors: "read fault\nother.board: there is no such file; look for its spelling and its folder\n",
     };
-    let words = ["pebbles", "solve", "other.board"];
-    assert_words(
-        &rt,
-        rt.alloc(),
-        "a document",
-        &words,
-        TERMINALS,
-        "",
-        missing,
-    );
+    for (place, words, terminals) in &EXPLAINED {
+        assert_words(&rt, rt.alloc(), place, words, *terminals, "", missing);
+    }
 }

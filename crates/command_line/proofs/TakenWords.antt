@@ -170,6 +170,9 @@ command_read s words is pass =
 
 -- ---- the commands, a row each
 
+word_given : (name : Text) → IsArgument (rows.word name)
+word_given name = (inr (omega arith), refl, inr (refl, refl))
+
 solve_row : IsCommand rows.solve
 solve_row = record {
   plain = refl;
@@ -177,20 +180,26 @@ solve_row = record {
     (refl, inl (refl, omega arith)),
     (
       (refl, inr (inl (refl, omega arith))),
-      ((refl, inl (refl, omega arith)), ((refl, inr (inr refl)), tt)),
+      ((refl, inl (refl, omega arith)), ((refl, inr (inl (refl, omega arith))), ((refl, inr (inr refl)), tt))),
     ),
   );
   arguments = (
     (inr (omega arith), refl, inl (refl, inr (inl (MAX_WORKERS, refl)))),
-    ((inr (omega arith), refl, inr (refl, refl)), ((inl refl, refl, inl (refl, inl refl)), tt)),
+    (word_given (codes "large"), ((inl refl, refl, inl (refl, inl refl)), (word_given (codes "explain"), tt))),
   );
 }
 
 check_row : IsCommand rows.check
 check_row = record {
   plain = refl;
-  good = ((refl, inl (refl, omega arith)), ((refl, inl (refl, omega arith)), ((refl, inr (inr refl)), tt)));
-  arguments = ((inl refl, refl, inl (refl, inl refl)), ((inl refl, refl, inl (refl, inl refl)), tt));
+  good = (
+    (refl, inl (refl, omega arith)),
+    ((refl, inl (refl, omega arith)), ((refl, inr (inl (refl, omega arith))), ((refl, inr (inr refl)), tt))),
+  );
+  arguments = (
+    (inl refl, refl, inl (refl, inl refl)),
+    ((inl refl, refl, inl (refl, inl refl)), (word_given (codes "explain"), tt)),
+  );
 }
 
 report_row : IsCommand rows.report
@@ -200,22 +209,25 @@ report_row = record {
     (refl, inl (refl, omega arith)),
     (
       (refl, inr (inl (refl, omega arith))),
-      ((refl, inl (refl, omega arith)), ((refl, inr (inr refl)), tt)),
+      ((refl, inl (refl, omega arith)), ((refl, inr (inl (refl, omega arith))), ((refl, inr (inr refl)), tt))),
     ),
   );
   arguments = (
     (inr (omega arith), refl, inl (refl, inr (inl (MAX_WORKERS, refl)))),
-    ((inr (omega arith), refl, inr (refl, refl)), ((inl refl, refl, inl (refl, inl refl)), tt)),
+    (word_given (codes "large"), ((inl refl, refl, inl (refl, inl refl)), (word_given (codes "explain"), tt))),
   );
 }
 
 nested_row : IsCommand rows.nested
 nested_row = record {
   plain = refl;
-  good = ((refl, inl (refl, omega arith)), ((refl, inl (refl, omega arith)), ((refl, inr (inr refl)), tt)));
+  good = (
+    (refl, inl (refl, omega arith)),
+    ((refl, inl (refl, omega arith)), ((refl, inr (inl (refl, omega arith))), ((refl, inr (inr refl)), tt))),
+  );
   arguments = (
     (inl refl, refl, inl (refl, inr (inl (MAX_BOARD_LEVELS, refl)))),
-    ((inl refl, refl, inl (refl, inr (inl (MAX_PEBBLES, refl)))), tt),
+    ((inl refl, refl, inl (refl, inr (inl (MAX_PEBBLES, refl)))), (word_given (codes "explain"), tt)),
   );
 }
 
@@ -226,20 +238,20 @@ play_row = record {
     (refl, inl (refl, omega arith)),
     (
       (refl, inr (inl (refl, omega arith))),
-      ((refl, inl (refl, omega arith)), ((refl, inr (inr refl)), tt)),
+      ((refl, inl (refl, omega arith)), ((refl, inr (inl (refl, omega arith))), ((refl, inr (inr refl)), tt))),
     ),
   );
   arguments = (
     (inl refl, refl, inl (refl, inr (inr refl))),
-    ((inr (omega arith), refl, inr (refl, refl)), ((inl refl, refl, inl (refl, inl refl)), tt)),
+    (word_given (codes "large"), ((inl refl, refl, inl (refl, inl refl)), (word_given (codes "explain"), tt))),
   );
 }
 
 climb_row : IsCommand rows.climb
 climb_row = record {
   plain = refl;
-  good = ((refl, inl (refl, omega arith)), ((refl, inr (inr refl)), tt));
-  arguments = ((inl refl, refl, inl (refl, inr (inl (MAX_LEVELS, refl)))), tt);
+  good = ((refl, inl (refl, omega arith)), ((refl, inr (inl (refl, omega arith))), ((refl, inr (inr refl)), tt)));
+  arguments = ((inl refl, refl, inl (refl, inr (inl (MAX_LEVELS, refl)))), (word_given (codes "explain"), tt));
 }
 
 are_commands : Each IsCommand commands

@@ -30,26 +30,34 @@ workers = record (new_rule (codes "workers")) {
   parser = Some (vp.Signed (pos 1) (pos MAX_WORKERS));
 }
 
--- the word after which larger boards are taken
+-- a word that is given or not
+abbrev pub word : Text → Rule
+word name = record (new_rule name) { long = Some name; action = Some SetTrue }
+
+-- those after which larger boards are taken, and faults are explained
 abbrev pub large : Rule
-large = record (new_rule (codes "large")) { long = Some (codes "large"); action = Some SetTrue }
+large = word (codes "large")
+
+abbrev pub explain : Rule
+explain = word (codes "explain")
 
 abbrev pub command : Text → List Rule → Shape
 command name rules = record (new_shape name) { rules = rules }
 
 abbrev pub solve : Shape
-solve = command (codes "solve") (workers ∷ large ∷ path (codes "board") ∷ [])
+solve = command (codes "solve") (workers ∷ large ∷ path (codes "board") ∷ explain ∷ [])
 
 abbrev pub check : Shape
-check = command (codes "check") (path (codes "board") ∷ path (codes "proof") ∷ [])
+check = command (codes "check") (path (codes "board") ∷ path (codes "proof") ∷ explain ∷ [])
 
 abbrev pub report : Shape
-report = command (codes "report") (workers ∷ large ∷ path (codes "board") ∷ [])
+report = command (codes "report") (workers ∷ large ∷ path (codes "board") ∷ explain ∷ [])
 
 abbrev pub nested : Shape
 nested =
     command (codes "nested")
-    (number (codes "levels") MAX_BOARD_LEVELS ∷ number (codes "pebbles") MAX_PEBBLES ∷ [])
+    (number (codes "levels") MAX_BOARD_LEVELS ∷ number (codes "pebbles") MAX_PEBBLES
+    ∷ explain ∷ [])
 
 -- the words for the two sides of a play
 abbrev pub side_words : List Text
@@ -65,10 +73,11 @@ side_among words = record (new_rule (codes "side")) {
 }
 
 abbrev pub play_among : Bor (List (Bor Text)) → Shape
-play_among words = command (codes "play") (side_among words ∷ large ∷ path (codes "board") ∷ [])
+play_among words =
+    command (codes "play") (side_among words ∷ large ∷ path (codes "board") ∷ explain ∷ [])
 
 abbrev pub climb : Shape
-climb = command (codes "climb") (number (codes "levels") MAX_LEVELS ∷ [])
+climb = command (codes "climb") (number (codes "levels") MAX_LEVELS ∷ explain ∷ [])
 
 -- all commands, a row each, with these words for the sides of a play
 abbrev pub commands_among : Bor (List (Bor Text)) → List Shape

@@ -1,8 +1,8 @@
 //! The program's commands, with the texts of their help.
 
-ghost use Rattle.std.specs.Prelude.{◌≡◌, IfOk, List, false, true};
+ghost use Rattle.std.specs.Prelude.{◌≡◌, IfOk, List, codes, false, true};
 ghost use Rattle.clap.specs.Words.{Text, app_of, fault_of, is_simple, is_simple_and_free, rule_of};
-ghost use Rattle.clap.specs.Words.{shape_of, subcommand_of, takes};
+ghost use Rattle.clap.specs.Words.{shape_of, subcommand_of, takes, with_rule};
 ghost use Rattle.clap.specs.declared.builder.command.Command.TheViews.{out-Command};
 ghost use Rattle.command_line.specs.Commands as commands;
 
@@ -18,8 +18,11 @@ use std::alloc::{AllocError, Global};
 pub(crate) const VERSION: &str =
     "pebbles 1.1.0\nreads `board 1`, `board 2`, `proof 1` and `proof 2`, writes these and `report 1`\n";
 
+/// The name of the program.
+const NAME: &str = "pebbles";
+
 /// The command may be left out.
-const USAGE: &str = "pebbles [COMMAND]";
+const USAGE: &str = "pebbles [--explain] [COMMAND]";
 
 /// The purpose of the program.
 const ABOUT: &str = "Finds and checks strategies for the pebble game, whose boards are bounded\n\
@@ -27,8 +30,10 @@ const ABOUT: &str = "Finds and checks strategies for the pebble game, whose boar
     Without a command it reads a board and after it a strategy document from\n\
     standard input, and writes what `check` writes.";
 
-/// The meaning of the exit statuses, with an example.
-const AFTER_HELP: &str = "Exit statuses:\n  \
+/// The word that comes with or without a command, the meaning of the exit statuses, and an example.
+const AFTER_HELP: &str = "With or without a command:\n      \
+    --explain  Explain faults on standard error, as at a terminal\n\n\
+    Exit statuses:\n  \
     0  done, or help or the version was asked for\n  \
     1  a fault in the text of a board or a document, or one that is too large\n  \
     2  wrong words on the command line\n  \
@@ -88,9 +93,9 @@ const ABOUT_CHECKING: &str =
 const ABOUT_PLAYING: &str =
     "The program writes the value of the start, then `at` and the labels of the\n\
     pebbles, and again after each answer. You type one of these on a line:\n  \
-    the number of a pebble, from 0  as the adversary: `pebble p takes v` is written\n  \
-    a label                         as the labeller, for the pebble of `ask p`\n  \
-    quit                            ends the play, as the end of input does\n\n\
+    a pebble's number, from 0  as the adversary: `pebble p takes v` is written\n  \
+    a label                    as the labeller, for the pebble of `ask p`\n  \
+    quit                       ends the play, as the end of input does\n\n\
     To anything else it answers `not a request` or `not an answer`, and the play\n\
     goes on. It also ends if no label is legal. As the labeller on a board that\n\
     lasts for ever you read `no strategy`: the adversary has none.\n\n\
@@ -108,8 +113,8 @@ const ABOUT_CLIMBING: &str =
     "The board has as many pebbles as levels, and is never built. A label is written\n\
     as its word, a digit for each level but the first. You type one of these on a\n\
     line:\n  \
-    the number of a pebble, from 0  the program answers `pebble p takes` and a word\n  \
-    quit                            ends the play, as the end of input does\n\n\
+    a pebble's number, from 0  the program answers `pebble p takes` and a word\n  \
+    quit                       ends the play, as the end of input does\n\n\
     To anything else it answers `not a request`, and the play goes on.\n\n\
     Example:\n  \
     pebbles climb 3";
@@ -135,7 +140,8 @@ pub(crate) fn program<'a>(alloc: Global) -> Result<Command<'a>, AllocError>
 fn program_among<'a>(alloc: Global, sides: &'a [&'a str]) -> Result<Command<'a>, AllocError>
     ensures { IfOk result (λ c. app_of c ≡ commands.program_among sides.entry) }
 {
-    let command = Command::new(alloc, "pebbles")
+    let command = Command::new(alloc, NAME)
+        .bin_name(NAME)?
         .version(VERSION)
         .about(ABOUT)
         .override_usage(USAGE)
@@ -154,13 +160,11 @@ fn solve<'a>(alloc: Global) -> Result<Command<'a>, AllocError>
     ensures shape { IfOk result (λ c. shape_of c ≡ commands.solve) }
     ensures local { IfOk result (λ c. (out-Command c).has_globals ≡ false) }
 {
-    let board = path(alloc, "board", "BOARD", "The path of a board");
-    Command::new(alloc, "solve")
-        .about("Reads a board, and writes its start's value and strategies that show it")
+    let command = Command::new(alloc, "solve")
+        .about("Reads a board, and writes its start's value and strategies for it")
         .after_help(ABOUT_SOLVING)
-        .arg(workers(alloc))?
-        .arg(large(alloc))?
-        .arg(board)
+        .arg(workers(alloc))?;
+    on_board(alloc, command)
 }
 
 fn check<'a>(alloc: Global) -> Result<Command<'a>, AllocError>
@@ -175,23 +179,22 @@ fn check<'a>(alloc: Global) -> Result<Command<'a>, AllocError>
         "The path of a strategy document for the board",
     );
     Command::new(alloc, "check")
-        .about("Reads a board and a document for it, and writes whether it shows its claim")
+        .about("Reads a board and a document, and writes whether it shows its claim")
         .after_help(ABOUT_CHECKING)
         .arg(board)?
-        .arg(proof)
+        .arg(proof)?
+        .arg(explain(alloc))
 }
 
 fn report<'a>(alloc: Global) -> Result<Command<'a>, AllocError>
     ensures shape { IfOk result (λ c. shape_of c ≡ commands.report) }
     ensures local { IfOk result (λ c. (out-Command c).has_globals ≡ false) }
 {
-    let board = path(alloc, "board", "BOARD", "The path of a board");
-    Command::new(alloc, "report")
+    let command = Command::new(alloc, "report")
         .about("Reads a board, and writes how many configurations have each value")
         .after_help(ABOUT_REPORTING)
-        .arg(workers(alloc))?
-        .arg(large(alloc))?
-        .arg(board)
+        .arg(workers(alloc))?;
+    on_board(alloc, command)
 }
 
 fn nested<'a>(alloc: Global) -> Result<Command<'a>, AllocError>
@@ -213,27 +216,26 @@ fn nested<'a>(alloc: Global) -> Result<Command<'a>, AllocError>
         "How many pebbles, 1 to 6",
     );
     Command::new(alloc, "nested")
-        .about("Writes the board of the nested three-cycle, with all pebbles on label 0")
+        .about("Writes the board of the nested three-cycle, all pebbles on label 0")
         .after_help(
             "Level 1 is one label. Each further level is the three-cycle with a copy of the\n\
             level before in place of each label.\n\n\
             Example:\n  pebbles nested 3 3",
         )
         .arg(levels)?
-        .arg(pebbles)
+        .arg(pebbles)?
+        .arg(explain(alloc))
 }
 
 fn play<'a>(alloc: Global, sides: &'a [&'a str]) -> Result<Command<'a>, AllocError>
     ensures shape { IfOk result (λ c. shape_of c ≡ commands.play_among sides.entry) }
     ensures local { IfOk result (λ c. (out-Command c).has_globals ≡ false) }
 {
-    let board = path(alloc, "board", "BOARD", "The path of a board");
-    Command::new(alloc, "play")
+    let command = Command::new(alloc, "play")
         .about("Plays against you on a board, with best requests or best answers")
         .after_help(ABOUT_PLAYING)
-        .arg(side(alloc, sides))?
-        .arg(large(alloc))?
-        .arg(board)
+        .arg(side(alloc, sides))?;
+    on_board(alloc, command)
 }
 
 fn climb<'a>(alloc: Global) -> Result<Command<'a>, AllocError>
@@ -250,7 +252,19 @@ fn climb<'a>(alloc: Global) -> Result<Command<'a>, AllocError>
     Command::new(alloc, "climb")
         .about("Answers your requests on a nested board, for ever and without a search")
         .after_help(ABOUT_CLIMBING)
-        .arg(levels)
+        .arg(levels)?
+        .arg(explain(alloc))
+}
+
+/// The command with the words that all commands on a board take which solve it.
+fn on_board<'a>(alloc: Global, command: Command<'a>) -> Result<Command<'a>, AllocError>
+    ensures app { IfOk result (λ c. app_of c ≡ with_rule (with_rule (with_rule (app_of command.entry)
+        commands.large) (commands.path (codes "board"))) commands.explain) }
+    ensures local { (out-Command command.entry).has_globals ≡ false
+        → IfOk result (λ c. (out-Command c).has_globals ≡ false) }
+{
+    let board = path(alloc, "board", "BOARD", "The path of a board");
+    command.arg(large(alloc))?.arg(board)?.arg(explain(alloc))
 }
 
 /// The option for the side that the person plays, one of the words `sides`.
@@ -263,7 +277,7 @@ fn side<'a>(alloc: Global, sides: &'a [&'a str]) -> Arg<'a>
         .value_name("SIDE")
         .required(true)
         .value_parser(sides)
-        .help("The side that you play")
+        .help("Your side")
 }
 
 /// A path that must be given.
@@ -294,10 +308,34 @@ fn large<'a>(alloc: Global) -> Arg<'a>
     ensures rule { rule_of result ≡ commands.large }
     ensures local { result.global ≡ false }
 {
-    Arg::new(alloc, "large")
-        .long("large")
+    word(
+        alloc,
+        "large",
+        "Allow 536870912 gaps, the labels of all pebbles but one",
+    )
+}
+
+/// The word after which faults are explained.
+fn explain<'a>(alloc: Global) -> Arg<'a>
+    ensures rule { rule_of result ≡ commands.explain }
+    ensures local { result.global ≡ false }
+{
+    word(
+        alloc,
+        "explain",
+        "Explain faults on standard error, as at a terminal",
+    )
+}
+
+/// A word that is given or not.
+fn word<'a>(alloc: Global, name: &'a str, help: &'a str) -> Arg<'a>
+    ensures rule { rule_of result ≡ commands.word name.entry.now }
+    ensures local { result.global ≡ false }
+{
+    Arg::new(alloc, name)
+        .long(name)
         .action(ArgAction::SetTrue)
-        .help("The board may have up to 536870912 gaps, labels of all pebbles but one")
+        .help(help)
 }
 
 /// The option for the number of workers, 1 to `MAX_WORKERS`; 1 if it isn't given.

@@ -21,10 +21,13 @@ use clap::error::ErrorKind;
 use clap::{ArgMatches, Error};
 use nested_cycles::{MAX_BOARD_LEVELS, MAX_LEVELS};
 use positions::Side;
-use std::alloc::Global;
+use std::alloc::{AllocError, Global};
 
 /// The names of the commands.
 const COMMANDS: &str = "solve, check, report, nested, play, climb\n";
+
+/// The beginning of `clap`'s tip to pass a word as a value, with the empty line before it.
+const TIP: &str = "\n\n  tip: to pass '";
 
 /// The job that `words` ask for, the program's name first.
 ///
@@ -83,12 +86,28 @@ fn fault(alloc: Global, words: &[&str], error: &Error) -> JobFault
         ErrorKind::DisplayVersion => return version(alloc),
         _ => {}
     }
-    let is_help = wants_help(words, error);
-    match format!(in alloc; "{error}") {
-        Ok(text) if is_help => help(alloc, words, text),
+    let Ok(text) = format!(in alloc; "{error}") else {
+        return JobFault::Memory;
+    };
+    if wants_help(words, error) {
+        return help(alloc, words, text);
+    }
+    match without_tip(alloc, text) {
         Ok(text) => JobFault::Usage { text },
         Err(_) => JobFault::Memory,
     }
+}
+
+/// The same text without `clap`'s tip to pass a word as a value, which suits no option that is
+/// given to the wrong command or misspelt.
+fn without_tip(alloc: Global, text: String) -> Result<String, AllocError> {
+    let Some((before, rest)) = text.split_once(TIP) else {
+        return Ok(text);
+    };
+    let Some((_, after)) = rest.split_once("\n\n") else {
+        return Ok(text);
+    };
+    format!(in alloc; "{before}\n\n{after}")
 }
 
 /// Whether `error` is help that was asked for.

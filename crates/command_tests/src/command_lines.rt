@@ -1,6 +1,6 @@
 //! The jobs that the words of command lines ask for.
 
-use command_line::{Job, JobFault, job};
+use command_line::{Job, JobFault, asks_to_explain, job, words_of_job};
 use positions::Side;
 use std::alloc::Global;
 use std::process::Abort;
@@ -58,6 +58,11 @@ fn checks(rt: HostRuntime) {
             "--help",
             "-x",
         ),
+        (
+            ["pebbles", "check", "a", "--explain", "b"].as_slice(),
+            "a",
+            "b",
+        ),
     ] {
         assert_asks(&rt, rt.alloc(), words, Job::Check { board, proof });
     }
@@ -70,6 +75,11 @@ fn nested_boards(rt: HostRuntime) {
         (["pebbles", "nested", "6", "1"].as_slice(), 6, 1),
         (["pebbles", "nested", "02", "+3"].as_slice(), 2, 3),
         (["pebbles", "nested", "--", "4", "5"].as_slice(), 4, 5),
+        (
+            ["pebbles", "nested", "--explain", "4", "5"].as_slice(),
+            4,
+            5,
+        ),
     ] {
         assert_asks(&rt, rt.alloc(), words, Job::Nested { levels, pebbles });
     }
@@ -197,8 +207,28 @@ fn climbs(rt: HostRuntime) {
         (["pebbles", "climb", "1"].as_slice(), 1),
         (["pebbles", "climb", "24"].as_slice(), 24),
         (["pebbles", "climb", "--", "07"].as_slice(), 7),
+        (["pebbles", "climb", "7", "--explain"].as_slice(), 7),
     ] {
         assert_asks(&rt, rt.alloc(), words, Job::Climb { levels });
+    }
+}
+
+/// Words, whether they ask for explanations, and how many of them a job is read from.
+const EXPLAINED: [(&[&str], bool, usize); 7] = [
+    (&[], false, 0),
+    (&["pebbles"], false, 1),
+    (&["pebbles", "--explain"], true, 1),
+    (&["pebbles", "--explain", "solve", "a"], true, 3),
+    (&["pebbles", "solve", "a", "--explain"], true, 4),
+    (&["pebbles", "solve", "--", "--explain"], false, 4),
+    (&["--explain", "solve", "a"], false, 3),
+];
+
+#[test]
+fn words_that_ask_for_explanations(rt: HostRuntime) {
+    for (words, asks, count) in &EXPLAINED {
+        assert_eq!(rt; asks_to_explain(words), *asks, "at {words:?}");
+        assert_eq!(rt; words_of_job(words).len(), *count, "at {words:?}");
     }
 }
 
@@ -208,6 +238,7 @@ fn words_of_no_command(rt: HostRuntime) {
         ["pebbles", ""].as_slice(),
         ["pebbles", "--"].as_slice(),
         ["pebbles", "chek", "a", "b"].as_slice(),
+        ["pebbles", "--explain", "solve", "a"].as_slice(),
     ] {
         assert_usage(&rt, rt.alloc(), words);
     }
@@ -231,6 +262,7 @@ fn wrong_words_of_checks_and_nested_boards(rt: HostRuntime) {
         ["pebbles", "nested", "1 ", "2"].as_slice(),
         ["pebbles", "nested", "99999999999999999999", "2"].as_slice(),
         ["pebbles", "nested", "--large", "1", "2"].as_slice(),
+        ["pebbles", "nested", "--explain", "1", "--explain", "2"].as_slice(),
     ] {
         assert_usage(&rt, rt.alloc(), words);
     }

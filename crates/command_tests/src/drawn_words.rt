@@ -18,18 +18,20 @@ enum Other {
 const WORDS: &str =
     "solve check report nested play climb help -h --version  -- chek a - 0 1 6 7 16 17 24 25 02 +3 \
     99999999999999999999 -1 --help -V --workers --workers=0 --workers=16 --workers=17 --workers= \
-    --side --side=labeller --side=person labeller adversary --large --large=true";
+    --side --side=labeller --side=person labeller adversary --large --large=true --explain";
 
 fn word(place: u32) -> &'static str {
     WORDS.split(' ').nth(place as usize).unwrap_or("")
 }
 
 /// The words that a command still takes: an option with a value, or `none`; `--large`, if it is
-/// taken; and a number of words, each at most `most`, or 0 for paths.
+/// taken; `--explain`, if it wasn't given; and a number of words, each at most `most`, or 0 for
+/// paths.
 #[derive(Clone, Copy)]
 struct Form {
     option: &'static str,
     takes_large: bool,
+    takes_explain: bool,
     wants: usize,
     most: u8,
 }
@@ -39,6 +41,7 @@ impl Form {
         Form {
             option,
             takes_large,
+            takes_explain: true,
             wants,
             most,
         }
@@ -65,6 +68,13 @@ impl Form {
     fn without_large(self) -> Form {
         Form {
             takes_large: false,
+            ..self
+        }
+    }
+
+    fn without_explain(self) -> Form {
+        Form {
+            takes_explain: false,
             ..self
         }
     }
@@ -100,6 +110,7 @@ fn read(words: &[&str], form: Form) -> Result<(), Other> {
     let Form {
         option,
         takes_large,
+        takes_explain,
         wants,
         most,
     } = form;
@@ -113,6 +124,7 @@ fn read(words: &[&str], form: Form) -> Result<(), Other> {
             _ => Err(Other::Wrong),
         },
         ["--large", rest @ ..] if takes_large => read(rest, form.without_large()),
+        ["--explain", rest @ ..] if takes_explain => read(rest, form.without_explain()),
         [word, rest @ ..] if is_both(option, word) => read(rest, form.without_option()),
         [word, value, rest @ ..] if *word == option && is_value(option, value) => {
             read(rest, form.without_option())
@@ -171,7 +183,7 @@ fn thousands_of_lines(rt: HostRuntime) {
     for _ in 0..8_000 {
         let mut line = ["pebbles", word(draws.below(12)), "", "", ""];
         for place in 2..5 {
-            line[place] = word(draws.below(40));
+            line[place] = word(draws.below(41));
         }
         let line = &line[..=draws.below(5) as usize];
         let wanted = Some(asked(&line[1..]));

@@ -1,22 +1,22 @@
 -- The text that a serving writes on standard error.
-use Rattle.std.proofs.Common.{◌≡◌, ℕ, Bool, ◌&&◌, ◌||◌, true, false, List, [], ◌∷◌, ◌++◌, inl, inr, refl, sym, ap}
-use Rattle.std.proofs.Common.{subst, ◌∙◌, append-nil, append_assoc}
+use Rattle.std.proofs.Common.{◌≡◌, ℕ, Bool, ◌&&◌, ◌||◌, true, false, List, [], ◌++◌, inl, inr, refl, sym}
+use Rattle.std.proofs.Common.{subst, append-nil}
 use Rattle.std.specs.Prelude.{Err, Option, Result, ◌⊎◌}
 use Rattle.board_text.specs.LineForms.{with_line_feed}
 use Rattle.board_text.specs.PlainBoard.{PlainBoard}
 use Rattle.command_line.specs.declared.asked.Job.{Job}
 use Rattle.runs.specs.declared.boards.BoardLimit.{BoardLimit}
 use Rattle.player.specs.Prompts.{ArePrompts}
-use Rattle.player.specs.Showing.{AreForPerson, HasNoControl, IsMore, shown}
+use Rattle.player.specs.Showing.{AreForPerson, HasNoControl, IsMore}
 use Rattle.player.specs.declared.end.PlayEnd.{PlayEnd}
 use Rattle.player.specs.declared.end.PlayFault.{PlayFault}
-use Rattle.player.proofs.Cited.{none_more, nothing_for_person, plain_both, plain_if_shown, prompts_for_person}
-use Rattle.player.proofs.Cited.{then_lines, then_more}
+use Rattle.player.proofs.Cited.{none_more, nothing_for_person, prompts_for_person, then_lines, then_more}
 use Rattle.positions.specs.declared.side.Side.{Side}
 use Rattle.runs.specs.Notices.{IsNoticed, notice_for}
 use Rattle.runs.specs.PlayRun.{IsToldInRun, game_played, run_of_play}
 use Rattle.runs.specs.Run.{Bytes, stream_of}
-use Rattle.serving.specs.Serving.{IsEnding, IsExplained, IsForPerson, IsPrompted, IsSaid, IsWritten, is_large, is_typed}
+use Rattle.serving.specs.Serving.{IsEnding, IsExplained, IsExplanation, IsPrompted, IsSaid, IsWritten, is_large}
+use Rattle.serving.specs.Serving.{is_typed}
 use Rattle.runs.specs.declared.fault.RunFault.{RunFault}
 use Rattle.runs.specs.declared.fault.RunFault.TheVariants.{Memory}
 use Rattle.serving.specs.declared.serving.Terminals.{Terminals}
@@ -31,13 +31,13 @@ module _ {W : Type 0} (known : W → Option (List ℕ)) (failed : W → Bool) wh
   plain false a b text is more = (text, ([], refl, sym (append-nil text)), more)
 
   pub explained : (terminal : Bool) (a b c : W) (text : List ℕ) → terminal ≡ true → IsMore known failed a b text
-      → ((line : List ℕ) × IsForPerson true line × IsMore known failed b c line)
+      → ((words : List ℕ) × HasNoControl words × IsMore known failed b c (with_line_feed words))
       → (said : List ℕ) × IsExplained terminal text said × IsMore known failed a c said
   explained false a b c text is more note = cc
-  explained true a b c text is more (line, for, then) = (
-    text ++ line,
-    (line, for, refl),
-    then_more known failed a b c text line more then,
+  explained true a b c text is more (words, clean, then) = (
+    text ++ with_line_feed words,
+    (with_line_feed words, (words, clean, refl), refl),
+    then_more known failed a b c text (with_line_feed words) more then,
   )
 
   -- the clauses of serving, if the writer hadn't failed before
@@ -60,26 +60,6 @@ module _ {W : Type 0} (known : W → Option (List ℕ)) (failed : W → Bool) wh
         → ((said : List ℕ) × IsExplained terminal text said × IsMore known failed a b said)
         → (said : List ℕ) × IsExplained terminal text said × IsWritten (stream_of known failed a b) said
     refused b terminal text (said, is, more) = (said, is, (more.1 ready).0)
-
--- ---- an explanation in parts
-
--- a line that was written in parts
-pub line_of_parts : (about colon words : List ℕ)
-    → about ++ (colon ++ (words ++ with_line_feed [])) ≡ with_line_feed (about ++ (colon ++ words))
-line_of_parts about colon words = sym (
-    append_assoc about (colon ++ words) (with_line_feed [])
-    ∙ ap (λ (l : List ℕ). about ++ l) (append_assoc colon words (with_line_feed []))
-    )
-
--- it has no control characters
-pub plain_line : (about colon words : List ℕ) → HasNoControl colon → HasNoControl words
-    → HasNoControl (shown about ++ (colon ++ words))
-plain_line about colon words plain plain_too =
-    plain_both (shown about) (colon ++ words) (plain_if_shown about) (plain_both colon words plain plain_too)
-
-pub colon_is_plain : HasNoControl (58 ∷ 32 ∷ [])
-unfolding shown
-colon_is_plain = refl
 
 -- ---- prompts
 

@@ -21,6 +21,7 @@ use Rattle.runs.proofs.Cited.{one_wrong_proof, verdict_or_fault}
 use Rattle.runs.specs.ClassSolveRun.{CannotSolveByClasses, IsClassSolution, IsUnsolvedByClasses}
 use Rattle.std.proofs.Common.{take}
 use Rattle.command_line.specs.Commands.{program}
+use Rattle.command_line.specs.Explaining.{asks_to_explain, words_of_job}
 use Rattle.command_line.specs.Reading.{AsksFor, AsksForVersion, HasFlag, HasNumber, IsReadAs, ShowsWords, side_word}
 use Rattle.command_line.specs.declared.asked.Job.{Job}
 use Rattle.command_line.specs.declared.asked.Job.TheVariants as jobs
@@ -53,9 +54,9 @@ use Rattle.runs.specs.Report.{Reports}
 use Rattle.runs.specs.Run.{Bytes, Fails, Ran, Stream}
 use Rattle.player.specs.Showing.{AreForPerson}
 use Rattle.serving.specs.Serving.{AnswersWords, WordsAskFor, EndsWith, HasNoMemory, IsHelped, IsEnding, IsExplained}
-use Rattle.serving.specs.Serving.{IsPrompted, IsRefusedWith, IsWritten}
+use Rattle.serving.specs.Serving.{IsPrompted, IsRefusedWith, IsWritten, is_explained}
 use Rattle.serving.specs.Serving.{ServesAnyWords, ServesWords, is_large, is_typed, lacks_input}
-use Rattle.serving.specs.Servings.{AreKnown, HaveOwnText}
+use Rattle.serving.specs.Servings.{AreKnown, AskForNoExplanation, HaveOwnText}
 use Rattle.runs.specs.SolveRun.{CannotSolve, IsSolution}
 use Rattle.runs.specs.Texts.{HasNoneAmong, HasNoProof, IsBoardAmong, IsBoardWithin, IsWrongAmong, IsWrongBoard}
 use Rattle.runs.specs.Texts.{IsWithinLimit, IsWrongProof, IsWrongWithin, OfAnySize}
@@ -930,21 +931,21 @@ module _ (at : List ℕ → File) (known : AreKnown at) (input output other_inpu
 
 -- ---- standard error and the status
 
--- the text that is written of an outcome, off a terminal
+-- the text that is written of an outcome, unless faults are explained
 abbrev ending : Outcome → List ℕ
 ending Done = []
 ending Refused = []
 ending (Broken fault) = line_of_fault fault
 
-explained_is : (terminal : Bool) (text said : List ℕ) → terminal ≡ false → IsExplained terminal text said → said ≡ text
+explained_is : (explains : Bool) (text said : List ℕ) → explains ≡ false → IsExplained explains text said → said ≡ text
 explained_is true text said off is = absurd (true≢false off)
 explained_is false text said off (note, none, is) = is ∙ ap (λ n. text ++ n) none ∙ append-nil text
 
-ending_is : (terminal : Bool) (outcome : Outcome) (said : List ℕ) → terminal ≡ false → IsEnding terminal outcome said
+ending_is : (explains : Bool) (outcome : Outcome) (said : List ℕ) → explains ≡ false → IsEnding explains outcome said
     → said ≡ ending outcome
-ending_is terminal Done said off is = is
-ending_is terminal Refused said off is = explained_is terminal [] said off is
-ending_is terminal (Broken fault) said off is = explained_is terminal (line_of_fault fault) said off is
+ending_is explains Done said off is = is
+ending_is explains Refused said off is = explained_is explains [] said off is
+ending_is explains (Broken fault) said off is = explained_is explains (line_of_fault fault) said off is
 
 wrote : (stream : Stream) (bytes text : List ℕ) → Had stream bytes → IsWritten stream text → stream.bytes.new ≡ Some
     (bytes ++ text)
@@ -974,12 +975,13 @@ module _ (at : List ℕ → File) (terminals : Terminals) (off : terminals.error
     pub had_errors : Had errors told
     pub given : status ≢ 4
 
-  module _ (input output errors : Stream) (status : ℕ) (gives : Gives input output errors status) where
-    said_is : (outcome : Outcome) → EndsWith at terminals input output errors status [] outcome
-        → errors.bytes.new ≡ Some (told ++ ending outcome)
-    said_is outcome ((said, is, (written, quiet)), same) =
+  module _ (input output errors : Stream) (status : ℕ) (gives : Gives input output errors status)
+      (explains : Bool) where
+    said_is : (outcome : Outcome) → EndsWith at terminals explains input output errors status [] outcome
+        → explains ≡ false → errors.bytes.new ≡ Some (told ++ ending outcome)
+    said_is outcome ((said, is, (written, quiet)), same) plain =
         wrote errors told said gives.had_errors written ∙ ap (λ t. Some (told ++ t))
-        (ending_is terminals.errors outcome said off is)
+        (ending_is explains outcome said plain is)
 
     fair_by : (outcome : Outcome) → (outcome ≡ Broken Write → output.HasFailed) → status ≡ status_of outcome
         → IsFair outcome
@@ -995,45 +997,49 @@ module _ (at : List ℕ → File) (terminals : Terminals) (off : terminals.error
       done : IsDone at input output job outcome
       fair : IsFair outcome
       status_is : status ≡ status_of outcome
-      errors_are : errors.bytes.new ≡ Some (told ++ ending outcome)
+      errors_are : explains ≡ false → errors.bytes.new ≡ Some (told ++ ending outcome)
 
     job_done : (words : List Text) (job : Job) (told_lines : List ℕ) (outcome : Outcome) → WordsAskFor words job
         → IsPrompted terminals job told_lines
-        → IsDone at input output job outcome → EndsWith at terminals input output errors status told_lines outcome
+        → IsDone at input output job outcome
+        → EndsWith at terminals explains input output errors status told_lines outcome
         → IsJobDone words job outcome
     job_done words job told_lines outcome asks prompts done ends = record {
       asks = asks;
       done = done;
       fair = fair_by outcome (λ e. done.writes.1 e) ends.1;
       status_is = ends.1;
-      errors_are = said_is outcome (subst (λ g. EndsWith at terminals input output errors status g outcome)
+      errors_are = said_is outcome (subst (λ g. EndsWith at terminals explains input output errors status g outcome)
           (prompts_are terminals job told_lines off prompts) ends);
     }
 
     -- help or the version was written
-    helped_is : (text : List ℕ) → IsHelped at terminals input output errors status text
-        → (status ≡ 0) × (output.bytes.new ≡ Some (taken ++ text)) × (errors.bytes.new ≡ Some (told ++ []))
+    helped_is : (text : List ℕ) → IsHelped at terminals explains input output errors status text
+        → (status ≡ 0) × (output.bytes.new ≡ Some (taken ++ text))
+        × (explains ≡ false → errors.bytes.new ≡ Some (told ++ []))
     helped_is text (written, kept, inl (sound, ends)) =
         (ends.1, wrote output taken text gives.had written, said_is Done ends)
     helped_is text (written, kept, inr (failed, ends)) = absurd (gives.had.sound failed)
 
-    refused_is : (text : List ℕ) → IsRefusedWith at terminals input output errors status text
-        → (status ≡ 2) × (output.bytes.new ≡ Some (taken ++ [])) × (errors.bytes.new ≡ Some (told ++ text))
+    refused_is : (text : List ℕ) → IsRefusedWith at terminals explains input output errors status text
+        → (status ≡ 2) × (output.bytes.new ≡ Some (taken ++ []))
+        × (explains ≡ false → errors.bytes.new ≡ Some (told ++ text))
     refused_is text ((said, is, written), kept, kept_too, same) = (
       same,
       stayed output taken gives.had kept_too,
-      wrote errors told said gives.had_errors written ∙ ap (λ t. Some (told ++ t))
-          (explained_is terminals.errors text said off is),
+      λ plain. wrote errors told said gives.had_errors written ∙ ap (λ t. Some (told ++ t))
+          (explained_is explains text said plain is),
     )
 
     -- the job lacked its input
-    lacked_is : input.IsKept × output.IsKept × EndsWith at terminals input output errors status [] (Broken Read)
+    lacked_is : input.IsKept × output.IsKept
+        × EndsWith at terminals explains input output errors status [] (Broken Read)
         → (status ≡ status_of (Broken Read)) × (output.bytes.new ≡ Some (taken ++ []))
-        × (errors.bytes.new ≡ Some (told ++ ending (Broken Read)))
+        × (explains ≡ false → errors.bytes.new ≡ Some (told ++ ending (Broken Read)))
     lacked_is (kept, kept_too, ends) =
         (ends.1, stayed output taken gives.had kept_too, said_is (Broken Read) ends)
 
-    no_memory : HasNoMemory at terminals input output errors status → ⊥
+    no_memory : HasNoMemory at terminals explains input output errors status → ⊥
     no_memory (kept, kept_too, ends) = gives.given ends.1
 
 -- ---- the input that a job lacks
@@ -1090,17 +1096,20 @@ module _ (at : List ℕ → File) (known : AreKnown at) (terminals : Terminals) 
     (lines taken told : List ℕ)
     (input output errors other_input other_output other_errors : Stream) (status other : ℕ)
     (gives : Gives at terminals off lines taken told input output errors status)
-    (gives_too : Gives at terminals off lines taken told other_input other_output other_errors other) where
+    (gives_too : Gives at terminals off lines taken told other_input other_output other_errors other)
+    (explains : Bool) where
   abbrev AreSame : Type 0
-  AreSame = (output.bytes.new ≡ other_output.bytes.new) × (errors.bytes.new ≡ other_errors.bytes.new)
+  AreSame = (output.bytes.new ≡ other_output.bytes.new)
+      × (explains ≡ false → errors.bytes.new ≡ other_errors.bytes.new)
 
   abbrev First : List Text → Job → Outcome → Type 0
   First words job outcome =
-      IsJobDone at terminals off lines taken told input output errors status gives words job outcome
+      IsJobDone at terminals off lines taken told input output errors status gives explains words job outcome
 
   abbrev Second : List Text → Job → Outcome → Type 0
   Second words job outcome =
-      IsJobDone at terminals off lines taken told other_input other_output other_errors other gives_too words job
+      IsJobDone at terminals off lines taken told other_input other_output other_errors other gives_too
+      explains words job
       outcome
 
   both_read : (found : Option (Text × List Row)) (job more : Job) (outcome next : Outcome) → IsReadAs found job
@@ -1120,7 +1129,10 @@ module _ (at : List ℕ → File) (known : AreKnown at) (terminals : Terminals) 
       alike_so : AreAlike outcome next output other_output → (status ≡ other) × AreSame
       alike_so same = (
         is.status_is ∙ ap status_of same.0 ∙ sym also.status_is,
-        (same.1, is.errors_are ∙ ap (λ o. Some (told ++ ending o)) same.0 ∙ sym also.errors_are),
+        (
+          same.1,
+          λ plain. is.errors_are plain ∙ ap (λ o. Some (told ++ ending o)) same.0 ∙ sym (also.errors_are plain),
+        ),
       )
 
       go : WordsAskFor words job → WordsAskFor words more → (status ≡ other) × AreSame
@@ -1139,18 +1151,22 @@ module _ (at : List ℕ → File) (known : AreKnown at) (terminals : Terminals) 
           read.2 read_too.2 is.done also.done is.fair also.fair)
 
   both_faults : (words : List Text) (fault next : JobFault) → ShowsWords words fault → ShowsWords words next
-      → AnswersWords at terminals input output errors status fault
-      → AnswersWords at terminals other_input other_output other_errors other next
+      → AnswersWords at terminals explains input output errors status fault
+      → AnswersWords at terminals explains other_input other_output other_errors other next
       → (status ≡ other) × (AsksForVersion words → AreSame)
   both_faults words NoMemory next shows shows_too is also =
-      absurd (no_memory at terminals off lines taken told input output errors status gives is)
+      absurd (no_memory at terminals off lines taken told input output errors status gives explains is)
   both_faults words (Help text) NoMemory shows shows_too is also =
-      absurd (no_memory at terminals off lines taken told other_input other_output other_errors other gives_too also)
+      absurd (no_memory at terminals off lines taken told other_input other_output other_errors other gives_too
+      explains also)
   both_faults words (Usage text) NoMemory shows shows_too is also =
-      absurd (no_memory at terminals off lines taken told other_input other_output other_errors other gives_too also)
+      absurd (no_memory at terminals off lines taken told other_input other_output other_errors other gives_too
+      explains also)
   both_faults words (Usage text) (Usage line) shows shows_too is also =
-      let one = refused_is at terminals off lines taken told input output errors status gives (string_bytes text) is in
-      let two = refused_is at terminals off lines taken told other_input other_output other_errors other gives_too
+      let one = refused_is at terminals off lines taken told input output errors status gives
+      explains (string_bytes text) is in
+      let two = refused_is at terminals off lines taken told other_input other_output other_errors other
+      gives_too explains
       (string_bytes line) also in
       (one.0 ∙ sym two.0, λ version. absurd (no_answer_and_misuse words (inr version) shows))
   both_faults words (Usage text) (Help line) shows shows_too is also =
@@ -1158,8 +1174,10 @@ module _ (at : List ℕ → File) (known : AreKnown at) (terminals : Terminals) 
   both_faults words (Help text) (Usage line) shows shows_too is also =
       absurd (no_answer_and_misuse words (elim shows [ inl version ↦ inr version.0 | inr help ↦ inl help.0 ]) shows_too)
   both_faults words (Help text) (Help line) shows shows_too is also =
-      let one = helped_is at terminals off lines taken told input output errors status gives (string_bytes text) is in
-      let two = helped_is at terminals off lines taken told other_input other_output other_errors other gives_too
+      let one = helped_is at terminals off lines taken told input output errors status gives
+      explains (string_bytes text) is in
+      let two = helped_is at terminals off lines taken told other_input other_output other_errors other
+      gives_too explains
       (string_bytes line) also in (
         one.0 ∙ sym two.0,
         λ version.
@@ -1170,7 +1188,7 @@ module _ (at : List ℕ → File) (known : AreKnown at) (terminals : Terminals) 
               | inr help ↦
                   absurd (no_help_and_version words help.0 version)
             ]) in
-            (one.1 ∙ ap (λ t. Some (taken ++ t)) same ∙ sym two.1, one.2 ∙ sym two.2),
+            (one.1 ∙ ap (λ t. Some (taken ++ t)) same ∙ sym two.1, λ plain. one.2 plain ∙ sym (two.2 plain)),
       )
 
   job_or_fault : (words : List Text) (job : Job) (fault : JobFault) → WordsAskFor words job → 1 < length words
@@ -1178,35 +1196,39 @@ module _ (at : List ℕ → File) (known : AreKnown at) (terminals : Terminals) 
   job_or_fault words job fault (inl joined) more shows not = absurd (omega (arith, joined.0, more))
   job_or_fault words job fault (inr read) more shows not = not_faultless words fault not read.1 shows
 
-  pub both_served : (words : List Text) → ServesWords at terminals input output errors status words
-      → ServesWords at terminals other_input other_output other_errors other words
+  pub both_served : (words : List Text) → ServesWords at terminals explains input output errors status words
+      → ServesWords at terminals explains other_input other_output other_errors other words
       → (status ≡ other) × ((length words ≤ 1) ⊎ (fault_of program words ≡ []) ⊎ AsksForVersion words → AreSame)
   both_served words (inl (job, asks, inl (has, told_lines, prompts, outcome, done, ends)))
       (inl (more, asks_too, inl (has_too, told_lines_too, prompts_too, next, done_too, ends_too))) =
       let both = both_jobs words job more outcome next
-      (job_done at terminals off lines taken told input output errors status gives words job told_lines outcome asks
+      (job_done at terminals off lines taken told input output errors status gives
+      explains words job told_lines outcome asks
       prompts done ends)
-      (job_done at terminals off lines taken told other_input other_output other_errors other gives_too words more
+      (job_done at terminals off lines taken told other_input other_output other_errors other gives_too
+      explains words more
       told_lines_too next asks_too prompts_too done_too ends_too) in
       (both.0, λ own. both.1)
   both_served words (inl (job, asks, inr (lacks, kept, kept_too, ends)))
       (inl (more, asks_too, inr (lacks_too, held, held_too, ends_too))) =
-      let one = lacked_is at terminals off lines taken told input output errors status gives (kept, kept_too, ends) in
-      let two = lacked_is at terminals off lines taken told other_input other_output other_errors other gives_too
+      let one = lacked_is at terminals off lines taken told input output errors status gives
+      explains (kept, kept_too, ends) in
+      let two = lacked_is at terminals off lines taken told other_input other_output other_errors other
+      gives_too explains
       (held, held_too, ends_too) in
-      (one.0 ∙ sym two.0, λ own. (one.1 ∙ sym two.1, one.2 ∙ sym two.2))
+      (one.0 ∙ sym two.0, λ own. (one.1 ∙ sym two.1, λ plain. one.2 plain ∙ sym (two.2 plain)))
   both_served words (inl (job, asks, inl is)) (inl (more, asks_too, inr also)) =
       absurd (lack_alike terminals words job more asks asks_too is.0 also.0)
   both_served words (inl (job, asks, inr is)) (inl (more, asks_too, inl also)) =
       absurd (lack_alike terminals words more job asks_too asks also.0 is.0)
   both_served words (inl (job, asks, is)) (inr (fault, more, shows, takes, answers)) =
       absurd (job_or_fault words job fault asks more shows
-      (λ e. no_memory at terminals off lines taken told other_input other_output other_errors other gives_too
-      (subst (λ f. AnswersWords at terminals other_input other_output other_errors other f) e answers)))
+      (λ e. no_memory at terminals off lines taken told other_input other_output other_errors other gives_too explains
+      (subst (λ f. AnswersWords at terminals explains other_input other_output other_errors other f) e answers)))
   both_served words (inr (fault, more, shows, takes, answers)) (inl (job, asks, is)) =
       absurd (job_or_fault words job fault asks more shows
-      (λ e. no_memory at terminals off lines taken told input output errors status gives
-      (subst (λ f. AnswersWords at terminals input output errors status f) e answers)))
+      (λ e. no_memory at terminals off lines taken told input output errors status gives explains
+      (subst (λ f. AnswersWords at terminals explains input output errors status f) e answers)))
   both_served words (inr (fault, more, shows, takes, answers))
       (inr (next, more_too, shows_too, takes_too, answers_too)) =
       let both = both_faults words fault next shows shows_too answers answers_too in (
@@ -1214,21 +1236,38 @@ module _ (at : List ℕ → File) (known : AreKnown at) (terminals : Terminals) 
         λ own. elim own [
           | inl few ↦ absurd (omega (arith, few, more))
           | inr (inl none) ↦ absurd (not_faultless words fault
-              (λ e. no_memory at terminals off lines taken told input output errors status gives
-              (subst (λ f. AnswersWords at terminals input output errors status f) e answers)) none shows)
+              (λ e. no_memory at terminals off lines taken told input output errors status gives explains
+              (subst (λ f. AnswersWords at terminals explains input output errors status f) e answers)) none shows)
           | inr (inr version) ↦ both.1 version
         ],
       )
 
+module _ (at : List ℕ → File) (known : AreKnown at) (terminals : Terminals) (off : terminals.errors ≡ false)
+    (lines taken told : List ℕ)
+    (input output errors other_input other_output other_errors : Stream) (status other : ℕ)
+    (gives : Gives at terminals off lines taken told input output errors status)
+    (gives_too : Gives at terminals off lines taken told other_input other_output other_errors other) where
   pub both_given : (words : Words) → ServesAnyWords at terminals input output errors status words
       → ServesAnyWords at terminals other_input other_output other_errors other words
-      → (status ≡ other) × (HaveOwnText words → AreSame)
-  both_given (Given words) is also = both_served (texts words.now) is also
+      → (status ≡ other) × (HaveOwnText words → (output.bytes.new ≡ other_output.bytes.new)
+      × (AskForNoExplanation words → errors.bytes.new ≡ other_errors.bytes.new))
+  both_given (Given words) is also =
+      let explains = is_explained terminals (texts words.now) in
+      let both = both_served at known terminals off lines taken told input output errors
+      other_input other_output other_errors status other gives gives_too explains
+      (words_of_job (texts words.now)) is also in (
+        both.0,
+        λ own. (
+          (both.1 own).0,
+          λ none. (both.1 own).1 (ap (λ (b : Bool). b || asks_to_explain (texts words.now)) off ∙ none),
+        ),
+      )
   both_given OutOfMemory is also =
-      absurd (no_memory at terminals off lines taken told input output errors status gives is)
+      absurd (no_memory at terminals off lines taken told input output errors status gives terminals.errors is)
   both_given NotText is also =
       let text = with_line_feed (codes "error: a word on the command line is not text") in
-      let one = refused_is at terminals off lines taken told input output errors status gives text is in
-      let two = refused_is at terminals off lines taken told other_input other_output other_errors other gives_too text
-      also in
-      (one.0 ∙ sym two.0, λ own. (one.1 ∙ sym two.1, one.2 ∙ sym two.2))
+      let one = refused_is at terminals off lines taken told input output errors status gives terminals.errors text
+      is in
+      let two = refused_is at terminals off lines taken told other_input other_output other_errors other gives_too
+      terminals.errors text also in
+      (one.0 ∙ sym two.0, λ own. (one.1 ∙ sym two.1, λ none. one.2 off ∙ sym (two.2 off)))

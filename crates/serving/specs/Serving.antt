@@ -5,6 +5,7 @@ use Rattle.clap.specs.Walk.{Text, texts}
 use Rattle.clap.specs.Words.{fault_of, subcommand_of, takes}
 use Rattle.board_text.specs.LineForms.{with_line_feed}
 use Rattle.command_line.specs.Commands.{program}
+use Rattle.command_line.specs.Explaining.{asks_to_explain, words_of_job}
 use Rattle.command_line.specs.Reading.{IsReadAs, ShowsWords}
 use Rattle.command_line.specs.declared.asked.Job.{Job}
 use Rattle.command_line.specs.declared.asked.Job.TheVariants.{Joined, Solve, Report, Play, Climb}
@@ -34,22 +35,26 @@ WordsAskFor words job =
 abbrev pub IsWritten : Stream → List ℕ → Type 0
 IsWritten stream text = IsTaken stream.bytes.old stream.bytes.new stream.HasFailed text
 
--- one line for a person, without control characters, if the stream is a terminal; else nothing
-abbrev pub IsForPerson : Bool → List ℕ → Type 0
-IsForPerson true text =
-    (words : List ℕ) × HasNoControl words × (text ≡ with_line_feed words)
-IsForPerson false text = text ≡ []
+-- each fault is explained: at a terminal, or since the words ask for it
+abbrev pub is_explained : Terminals → List Text → Bool
+is_explained terminals words = terminals.errors || asks_to_explain words
 
--- the text, and at a terminal one line after it that explains it
+-- if faults are explained, one line without control characters; else nothing
+abbrev pub IsExplanation : Bool → List ℕ → Type 0
+IsExplanation true text =
+    (words : List ℕ) × HasNoControl words × (text ≡ with_line_feed words)
+IsExplanation false text = text ≡ []
+
+-- the text, and if faults are explained one line after it that explains it
 abbrev pub IsExplained : Bool → List ℕ → List ℕ → Type 0
-IsExplained terminal text said =
-    (note : List ℕ) × IsForPerson terminal note × (said ≡ text ++ note)
+IsExplained explains text said =
+    (note : List ℕ) × IsExplanation explains note × (said ≡ text ++ note)
 
 -- the line of a fault, explained; of a refused document the explanation alone
 abbrev pub IsEnding : Bool → Outcome → List ℕ → Type 0
-IsEnding terminal Done said = said ≡ []
-IsEnding terminal Refused said = IsExplained terminal [] said
-IsEnding terminal (Broken fault) said = IsExplained terminal (line_of_fault fault) said
+IsEnding explains Done said = said ≡ []
+IsEnding explains Refused said = IsExplained explains [] said
+IsEnding explains (Broken fault) said = IsExplained explains (line_of_fault fault) said
 
 -- the job reads standard input, with lines that a person may type
 abbrev pub is_typed : Job → Bool
@@ -80,12 +85,12 @@ IsPrompted terminals job told =
 abbrev pub IsSaid : Stream → List ℕ → Type 0
 IsSaid stream text = IsWritten stream text × (text ≡ [] → stream.IsKept)
 
-module _ (at : List ℕ → File) (terminals : Terminals) (input output errors : Stream)
-    (status : ℕ) where
+module _ (at : List ℕ → File) (terminals : Terminals) (explains : Bool)
+    (input output errors : Stream) (status : ℕ) where
   -- after these lines standard error has the outcome's text, and the exit status is the outcome's
   abbrev pub EndsWith : List ℕ → Outcome → Type 0
   EndsWith told outcome =
-      ((said : List ℕ) × IsEnding terminals.errors outcome said
+      ((said : List ℕ) × IsEnding explains outcome said
       × IsSaid errors (told ++ said)) × (status ≡ status_of outcome)
 
   -- a text was written on standard output
@@ -97,7 +102,7 @@ module _ (at : List ℕ → File) (terminals : Terminals) (input output errors :
   -- a text was written on standard error, for wrong use
   abbrev pub IsRefusedWith : List ℕ → Type 0
   IsRefusedWith text =
-      ((said : List ℕ) × IsExplained terminals.errors text said × IsWritten errors said)
+      ((said : List ℕ) × IsExplained explains text said × IsWritten errors said)
       × input.IsKept × output.IsKept × (status ≡ 2)
 
   -- memory to read the words in was refused
@@ -125,9 +130,15 @@ module _ (at : List ℕ → File) (terminals : Terminals) (input output errors :
       ⊎ ((fault : JobFault) × (1 < length words) × ShowsWords words fault
       × (takes program words ≡ true → fault ≡ NoMemory) × AnswersWords fault)
 
+module _ (at : List ℕ → File) (terminals : Terminals) (input output errors : Stream)
+    (status : ℕ) where
   -- the same, if the words are there and are text
   abbrev pub ServesAnyWords : Words → Type 0
-  ServesAnyWords (Given words) = ServesWords (texts words.now)
-  ServesAnyWords NotText = IsRefusedWith
+  ServesAnyWords (Given words) =
+      ServesWords at terminals (is_explained terminals (texts words.now)) input output errors status
+      (words_of_job (texts words.now))
+  ServesAnyWords NotText =
+      IsRefusedWith at terminals terminals.errors input output errors status
       (with_line_feed (codes "error: a word on the command line is not text"))
-  ServesAnyWords OutOfMemory = HasNoMemory
+  ServesAnyWords OutOfMemory =
+      HasNoMemory at terminals terminals.errors input output errors status

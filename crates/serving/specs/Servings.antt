@@ -3,6 +3,7 @@ use Rattle.std.specs.Prelude.{◌≡◌, ◌≢◌, ℕ, ◌≤◌, ◌⊎◌, f
 use Rattle.clap.specs.Walk.{texts}
 use Rattle.clap.specs.Words.{fault_of}
 use Rattle.command_line.specs.Commands.{program}
+use Rattle.command_line.specs.Explaining.{asks_to_explain, words_of_job}
 use Rattle.command_line.specs.Reading.{AsksForVersion}
 use Rattle.serving.specs.Folders.{File, Unknown}
 use Rattle.runs.specs.Run.{Stream}
@@ -23,10 +24,15 @@ pub record IsKnown (stream : Stream) (bytes : List ℕ) : Type 0 where
 -- no text is written for the words that `clap` makes: they ask for a job or the version, or are no
 -- text
 abbrev pub HaveOwnText : Words → Type 0
-HaveOwnText (Given words) = (length (texts words.now) ≤ 1)
-    ⊎ (fault_of program (texts words.now) ≡ [])
-    ⊎ AsksForVersion (texts words.now)
+HaveOwnText (Given words) = (length (words_of_job (texts words.now)) ≤ 1)
+    ⊎ (fault_of program (words_of_job (texts words.now)) ≡ [])
+    ⊎ AsksForVersion (words_of_job (texts words.now))
 HaveOwnText words = Unit {0}
+
+-- the words don't ask for explanations
+abbrev pub AskForNoExplanation : Words → Type 0
+AskForNoExplanation (Given words) = asks_to_explain (texts words.now) ≡ false
+AskForNoExplanation words = Unit {0}
 
 -- the bytes that standard input has to give, and that standard output and error have taken
 pub record BytesBefore : Type 0 where

@@ -13,29 +13,35 @@ ghost use Rattle.player.specs.Showing.{AreForPerson, IsMore};
 ghost use Rattle.runs.specs.Run.{Fails, Ran, TellsStreams, bytes_of, stream_of};
 ghost use Rattle.serving.specs.Serving.{IsPrompted};
 
-use crate::folder::{Folder, Trouble};
-use crate::inputs::{INPUT_PATH, Inputs, Origin, Taken};
-use crate::notes::{BOARD_LIMITS, JOINED_GREETING, LINE_LIMITS, Note, PROOF_LIMITS, unread};
+use crate::folder::Folder;
 use crate::outcome::Outcome;
-use crate::serving::Terminals;
+use crate::serving::{Audience, Terminals};
 use crate::watched::Watched;
 use board_text::{MAX_PEBBLES, Sink, Source};
 use command_line::{Job, MAX_WORKERS};
+use explanations::{Inputs, Note, Origin, Taken, Trouble};
 use nested_cycles::{MAX_BOARD_LEVELS, MAX_LEVELS};
 use player::write_line;
 use positions::{Side, Value};
 use runs::{
-    BoardLimit, JoinedRun, MAX_BOARD_BYTES, MAX_PROOF_BYTES, RunFault, Telling, run_check,
-    run_climb_with_prompts, run_keeping_text, run_nested, run_play_with_prompts,
-    run_report_with_notice, run_solve, run_solve_by_classes,
+    BoardLimit, JoinedRun, MAX_BOARD_BYTES, RunFault, Telling, run_check, run_climb_with_prompts,
+    run_keeping_text, run_nested, run_play_with_prompts, run_report_with_notice, run_solve,
+    run_solve_by_classes,
 };
 use std::alloc::Global;
 use std::sync::Wait;
 use std::thread::Threads;
 
+/// The path at which a folder has standard input.
+const INPUT_PATH: &str = "/dev/stdin";
+
+/// The greeting of a person who types a board and a document.
+const JOINED_GREETING: &str = "type or paste a board and a strategy document, and Ctrl-D; \
+    `pebbles --help` lists the commands";
+
 /// How a job ended, and the explanation of its fault or of a refusal, which is empty if it was
 /// done.
-#[derive(Clone, Copy)]
+#[derive(Drop)]
 pub(crate) struct Ended<'a> {
     pub(crate) outcome: Outcome,
     pub(crate) note: Note<'a>,
@@ -47,7 +53,7 @@ fn unopened<'a, F: Folder>(folder: &F, path: &'a str) -> Ended<'a>
 {
     Ended {
         outcome: Outcome::Broken(RunFault::Read),
-        note: unread(path, folder.trouble(path)),
+        note: Note::unread(path, folder.trouble(path)),
     }
 }
 
@@ -61,40 +67,18 @@ fn on_board<'a, F: Folder>(
 ) -> Ended<'a>
     ensures { result.outcome ≡ outcome }
 {
-    let text = file(folder, path, reader, MAX_BOARD_BYTES, BOARD_LIMITS);
+    let trouble = trouble_of(folder, path, reader);
+    let text = Origin::board(path, reader.text(), reader.count(), trouble);
     Ended {
         outcome,
-        note: Note::of(outcome, &Inputs::alone(taken, text, text)),
+        note: outcome.note(&Inputs::alone(taken, text, text)),
     }
 }
 
-/// A file that was read.
-fn file<'a, 'h, F: Folder>(
-    folder: &F,
-    path: &'a str,
-    reader: &'h Watched<F::Reader>,
-    limit: usize,
-    limits: &'static str,
-) -> Origin<'a, 'h> {
-    let trouble = if reader.failed() {
+/// Why `source`, which the folder has at `path`, couldn't be read to its end, if it couldn't.
+fn trouble_of<F: Folder, S: Source>(folder: &F, path: &str, source: &S) -> Option<Trouble> {
+    if source.failed() {
         Some(folder.trouble(path))
-    } else {
-        None
-    };
-    Origin {
-        name: path,
-        text: reader.text(),
-        is_whole: reader.count() == reader.text().len(),
-        trouble,
-        is_too_long: reader.count() > limit,
-        limits,
-    }
-}
-
-/// Why standard input couldn't be read, if it has failed.
-fn trouble_of_input<F: Folder, I: Source>(folder: &F, input: &I) -> Option<Trouble> {
-    if input.failed() {
-        Some(folder.trouble(INPUT_PATH))
     } else {
         None
     }
@@ -102,14 +86,14 @@ fn trouble_of_input<F: Folder, I: Source>(folder: &F, input: &I) -> Option<Troub
 
 /// Does the job, and says how it ended.
 ///
-/// The first bytes of files are kept to explain a fault if standard error is a terminal. If
-/// standard input is one too, a person who types is told on `errors` what can be typed.
+/// The first bytes of files are kept if faults are explained. If standard input and standard error
+/// are terminals, a person who types is told on `errors` what can be typed.
 /// The input and the output must not have failed before. With several workers it may wait for them.
 pub(crate) fn carry_out<'a, F: Folder, I: Source, O: Sink, E: Sink>(
     rt: &(impl Threads + Wait + Sync),
     alloc: Global,
     job: &Job<'a>,
-    terminals: Terminals,
+    audience: Audience,
     folder: &F,
     input: &mut I,
     output: &mut O,
@@ -121,31 +105,39 @@ pub(crate) fn carry_out<'a, F: Folder, I: Source, O: Sink, E: Sink>(
     requires output_ready { O.has_failed output.old ≡ false }
     ensures done { IsDone (F.at folder.now) (stream_of I.remaining I.has_failed input.old input.new)
         (stream_of O.contents O.has_failed output.old output.new) job.now result.outcome }
-    ensures prompts { (told : List ℕ) × IsPrompted terminals job.now told
+    ensures prompts { (told : List ℕ) × IsPrompted audience.terminals job.now told
         × IsMore E.contents E.has_failed errors.old errors.new told }
 {
-    let explains = terminals.errors;
+    let terminals = audience.terminals;
     match *job {
         Job::Joined => check_joined(rt, alloc, terminals, folder, input, output, errors),
-        Job::Check { board, proof } => check(rt, alloc, explains, folder, board, proof, output),
+        Job::Check { board, proof } => check(
+            rt,
+            alloc,
+            audience.explains,
+            folder,
+            board,
+            proof,
+            output,
+        ),
         Job::Nested { levels, pebbles } => write_nested(alloc, levels, pebbles, output),
         Job::Solve {
             workers,
             large,
             board,
         } => solve(
-            rt, alloc, terminals, folder, workers, large, board, output, errors,
+            rt, alloc, audience, folder, workers, large, board, output, errors,
         ),
         Job::Report {
             workers,
             large,
             board,
         } => report(
-            rt, alloc, terminals, folder, workers, large, board, output, errors,
+            rt, alloc, audience, folder, workers, large, board, output, errors,
         ),
         Job::Play { side, large, board } => {
             play(
-                alloc, terminals, folder, side, large, board, input, output, errors,
+                alloc, audience, folder, side, large, board, input, output, errors,
             )
         }
         Job::Climb { levels } => climb(alloc, terminals, folder, levels, input, output, errors),
@@ -188,14 +180,10 @@ fn check_joined<F: Folder, I: Source, O: Sink, E: Sink>(
     greet(JOINED_GREETING, terminals, errors);
     let JoinedRun { result, text } = run_keeping_text(rt, alloc, input, output);
     let outcome = Outcome::of_check(result);
-    let origin = Origin {
-        text: text.as_slice(),
-        is_whole: true,
-        ..Origin::standard_input(trouble_of_input(folder, input), PROOF_LIMITS)
-    };
+    let trouble = trouble_of(folder, INPUT_PATH, input);
     Ended {
         outcome,
-        note: Note::of_check(result, &Inputs::joined(origin)),
+        note: Note::of_check(result, &Inputs::joined(text.as_slice(), trouble)),
     }
 }
 
@@ -227,8 +215,10 @@ fn check<'a, F: Folder, O: Sink>(
     let mut other = Watched::new(alloc, file_of_proof, explains);
     let checked = run_check(rt, alloc, &mut reader, &mut other, output);
     let outcome = Outcome::of_check(checked);
-    let first = file(folder, board, &reader, MAX_BOARD_BYTES, BOARD_LIMITS);
-    let second = file(folder, proof, &other, MAX_PROOF_BYTES, PROOF_LIMITS);
+    let trouble = trouble_of(folder, board, &reader);
+    let first = Origin::board(board, reader.text(), reader.count(), trouble);
+    let trouble = trouble_of(folder, proof, &other);
+    let second = Origin::document(proof, other.text(), other.count(), trouble);
     Ended {
         outcome,
         note: Note::of_check(checked, &Inputs::apart(first, second)),
@@ -249,7 +239,7 @@ fn write_nested<O: Sink>(alloc: Global, levels: u8, pebbles: u8, output: &mut O)
     let outcome = Outcome::of_run(run_nested(alloc, levels, pebbles, output));
     Ended {
         outcome,
-        note: Note::without_files(outcome, None),
+        note: outcome.note(&Inputs::without_files(None)),
     }
 }
 
@@ -257,7 +247,7 @@ fn write_nested<O: Sink>(alloc: Global, levels: u8, pebbles: u8, output: &mut O)
 fn solve<'a, F: Folder, O: Sink, E: Sink>(
     rt: &(impl Threads + Wait + Sync),
     alloc: Global,
-    terminals: Terminals,
+    audience: Audience,
     folder: &F,
     workers: u8,
     large: bool,
@@ -272,14 +262,14 @@ fn solve<'a, F: Folder, O: Sink, E: Sink>(
     ensures writes { TellsWrites (stream_of O.contents O.has_failed output.old output.new)
         result.outcome }
     ensures unread { result.outcome ≡ Broken Read → CanFail (F.at folder.now board.now) }
-    ensures notice { (told : List ℕ) × AreForPerson (large && terminals.errors) told
+    ensures notice { (told : List ℕ) × AreForPerson (large && audience.terminals.errors) told
         × IsMore E.contents E.has_failed errors.old errors.new told }
 {
     let Ok(file_of_board) = folder.open(board) else {
         return unopened(folder, board);
     };
-    let mut reader = Watched::new(alloc, file_of_board, terminals.errors);
-    let shows = terminals.see_size(large);
+    let mut reader = Watched::new(alloc, file_of_board, audience.explains);
+    let shows = audience.terminals.see_size(large);
     let solved = solve_as(
         rt,
         alloc,
@@ -343,7 +333,7 @@ fn limit_of(large: bool) -> BoardLimit
 fn report<'a, F: Folder, O: Sink, E: Sink>(
     rt: &(impl Threads + Wait + Sync),
     alloc: Global,
-    terminals: Terminals,
+    audience: Audience,
     folder: &F,
     workers: u8,
     large: bool,
@@ -358,15 +348,15 @@ fn report<'a, F: Folder, O: Sink, E: Sink>(
     ensures writes { TellsWrites (stream_of O.contents O.has_failed output.old output.new)
         result.outcome }
     ensures unread { result.outcome ≡ Broken Read → CanFail (F.at folder.now board.now) }
-    ensures notice { (told : List ℕ) × AreForPerson (large && terminals.errors) told
+    ensures notice { (told : List ℕ) × AreForPerson (large && audience.terminals.errors) told
         × IsMore E.contents E.has_failed errors.old errors.new told }
 {
     let Ok(file_of_board) = folder.open(board) else {
         return unopened(folder, board);
     };
-    let mut reader = Watched::new(alloc, file_of_board, terminals.errors);
+    let mut reader = Watched::new(alloc, file_of_board, audience.explains);
     let limit = limit_of(large);
-    let shows = terminals.see_size(large);
+    let shows = audience.terminals.see_size(large);
     let done = run_report_with_notice(
         rt,
         alloc,
@@ -385,7 +375,7 @@ fn report<'a, F: Folder, O: Sink, E: Sink>(
 /// to standard input.
 fn play<'a, F: Folder, I: Source, O: Sink, E: Sink>(
     alloc: Global,
-    terminals: Terminals,
+    audience: Audience,
     folder: &F,
     side: Side,
     large: bool,
@@ -406,17 +396,18 @@ fn play<'a, F: Folder, I: Source, O: Sink, E: Sink>(
     ensures unread { result.outcome ≡ Broken Read
         → CanFail (F.at folder.now board.now) ⊎ (I.has_failed input.new ≡ true) }
     ensures prompts { (told : List ℕ)
-        × AreForPerson ((terminals.input && terminals.errors) || (large && terminals.errors)) told
+        × AreForPerson ((audience.terminals.input && audience.terminals.errors)
+        || (large && audience.terminals.errors)) told
         × IsMore E.contents E.has_failed errors.old errors.new told }
 {
     let Ok(file_of_board) = folder.open(board) else {
         return unopened(folder, board);
     };
-    let mut reader = Watched::new(alloc, file_of_board, terminals.errors);
+    let mut reader = Watched::new(alloc, file_of_board, audience.explains);
     let limit = limit_of(large);
     let telling = Telling {
-        size: terminals.see_size(large),
-        choices: terminals.are_both(),
+        size: audience.terminals.see_size(large),
+        choices: audience.terminals.are_both(),
     };
     let ended = run_play_with_prompts(
         alloc,
@@ -429,11 +420,12 @@ fn play<'a, F: Folder, I: Source, O: Sink, E: Sink>(
         errors,
     );
     let outcome = Outcome::of_run(ended);
-    let text = file(folder, board, &reader, MAX_BOARD_BYTES, BOARD_LIMITS);
-    let lines = Origin::standard_input(trouble_of_input(folder, input), LINE_LIMITS);
+    let trouble = trouble_of(folder, board, &reader);
+    let text = Origin::board(board, reader.text(), reader.count(), trouble);
+    let lines = Origin::lines(trouble_of(folder, INPUT_PATH, input));
     Ended {
         outcome,
-        note: Note::of(outcome, &Inputs::alone(Taken::large_if(large), text, lines)),
+        note: outcome.note(&Inputs::alone(Taken::large_if(large), text, lines)),
     }
 }
 
@@ -465,6 +457,6 @@ fn climb<F: Folder, I: Source, O: Sink, E: Sink>(
     let outcome = Outcome::of_run(ended);
     Ended {
         outcome,
-        note: Note::without_files(outcome, trouble_of_input(folder, input)),
+        note: outcome.note(&Inputs::without_files(trouble_of(folder, INPUT_PATH, input))),
     }
 }

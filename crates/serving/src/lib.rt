@@ -4,21 +4,13 @@
 
 mod fault_lines;
 mod folder;
-mod hints;
-mod inputs;
 mod jobs;
-mod lines;
-mod note_lines;
-mod notes;
 mod outcome;
-mod parts;
-mod proof_hints;
 mod serving;
 mod serving_laws;
-mod sizes;
-mod usage;
 mod watched;
 
-pub use folder::{Folder, System, Trouble};
+pub use explanations::Trouble;
+pub use folder::{Folder, System};
 pub use serving::{Terminals, Words, serve};
 pub use serving_laws::one_serving;

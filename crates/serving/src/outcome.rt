@@ -4,6 +4,7 @@ ghost use Rattle.std.specs.Prelude.{◌≡◌};
 ghost use Rattle.serving.specs.Outcomes.{outcome_of_check, outcome_of_run, status_of};
 ghost use Rattle.serving.specs.Outcomes.{status_of_fault};
 
+use explanations::{Inputs, Note};
 use runs::{RunFault, Verdict};
 
 /// How a job ended.
@@ -36,6 +37,15 @@ impl Outcome {
         match ran {
             Ok(_) => Outcome::Done,
             Err(fault) => Outcome::Broken(fault),
+        }
+    }
+
+    /// The explanation of this end of a job over `inputs`, which is no check. It is empty if the
+    /// job was done.
+    pub(crate) fn note<'a>(self, inputs: &Inputs<'a, '_>) -> Note<'a> {
+        match self {
+            Outcome::Broken(fault) => Note::of(fault, inputs),
+            Outcome::Done | Outcome::Refused => Note::empty(),
         }
     }
 

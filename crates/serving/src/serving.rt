@@ -6,7 +6,7 @@ ghost use Rattle.player.specs.Showing.{IsMore};
 ghost use Rattle.runs.specs.Run.{stream_of};
 ghost use Rattle.serving.specs.Serving.{IsEnding, IsExplained};
 ghost use Rattle.serving.specs.Serving.{ServesAnyWords, ServesJob, ServesWords};
-ghost use Rattle.serving.specs.Serving.{is_typed, lacks_input};
+ghost use Rattle.serving.specs.Serving.{is_explained, is_typed, lacks_input};
 ghost use Rattle.command_line.specs.Reading.{IsInRange};
 ghost use Rattle.runs.specs.declared.fault.RunFault.TheVariants.{Memory};
 ghost use Rattle.serving.specs.declared.outcome.Outcome.TheVariants.{Broken};
@@ -15,14 +15,10 @@ ghost use Rattle.serving.specs.Outcomes.{status_of};
 use crate::fault_lines::fault_line;
 use crate::folder::Folder;
 use crate::jobs::carry_out;
-use crate::note_lines::write_note;
-use crate::notes::Note;
 use crate::outcome::Outcome;
-use crate::parts;
-use crate::parts::Parts;
-use crate::usage::usage_hint;
 use board_text::{Sink, Source};
-use command_line::{Job, JobFault, job};
+use command_line::{Job, JobFault, asks_to_explain, job, words_of_job};
+use explanations::{Inputs, Note, write_note};
 use player::write_more;
 use runs::{RunFault, write_text};
 use std::alloc::Global;
@@ -31,14 +27,6 @@ use std::thread::Threads;
 
 /// The text for a word that isn't text.
 const NOT_TEXT: &str = "error: a word on the command line is not text\n";
-
-/// The explanation of a word that isn't text.
-const NOT_TEXT_NOTE: &str =
-    "a path must be UTF-8; rename the file, or give it as standard input (/dev/stdin)";
-
-/// The end of the explanation of wrong use.
-const USAGE_NOTE: &str =
-    "`pebbles --help` lists the commands, and `pebbles help COMMAND` the words of one";
 
 /// The words of a command line, the program's name first, or why there are none.
 #[derive(Clone, Copy, Debug)]
@@ -82,6 +70,27 @@ impl Terminals {
     }
 }
 
+/// Who is told what beside the output.
+#[derive(Clone, Copy)]
+pub(crate) struct Audience {
+    pub(crate) terminals: Terminals,
+    /// Whether each fault is explained.
+    pub(crate) explains: bool,
+}
+
+impl Audience {
+    /// The audience of a run on these words.
+    fn of(words: &[&str], terminals: Terminals) -> Audience
+        ensures terminals { result.terminals ≡ terminals }
+        ensures explains { result.explains ≡ is_explained terminals (texts words.now) }
+    {
+        Audience {
+            terminals,
+            explains: terminals.errors || asks_to_explain(words),
+        }
+    }
+}
+
 /// Whether `job` reads standard input.
 fn is_typed(job: &Job<'_>) -> bool
     ensures { result ≡ is_typed job.now }
@@ -92,8 +101,9 @@ fn is_typed(job: &Job<'_>) -> bool
 /// Does the job that `words` ask for, and gives the exit status.
 ///
 /// Paths are opened in the folder. Results, transcripts and help go to `output`, fault lines and
-/// usage texts to `errors`, and if that is a terminal, an explanation after each. If standard input
-/// is a terminal too, a person who types is told there what can be typed.
+/// usage texts to `errors`, and if that is a terminal, or `--explain` is among the words, an
+/// explanation after each. If standard input and `errors` are terminals, a person who types is told
+/// there what can be typed.
 /// A job that reads standard input isn't begun if that is closed, which is a read fault.
 /// The streams must not have failed before. With several workers it may wait for them.
 pub fn serve<F: Folder, I: Source, O: Sink, E: Sink>(
@@ -118,10 +128,12 @@ pub fn serve<F: Folder, I: Source, O: Sink, E: Sink>(
 {
     match *words {
         Words::Given(words) => {
-            serve_words(rt, alloc, words, terminals, folder, input, output, errors)
+            let audience = Audience::of(words, terminals);
+            let words = words_of_job(words);
+            serve_words(rt, alloc, words, audience, folder, input, output, errors)
         }
-        Words::NotText => refuse(NOT_TEXT, parts::words(NOT_TEXT_NOTE), terminals, errors),
-        Words::OutOfMemory => tell_no_memory(terminals, errors),
+        Words::NotText => refuse(NOT_TEXT, &Note::no_text(), terminals.errors, errors),
+        Words::OutOfMemory => tell_no_memory(terminals.errors, errors),
     }
 }
 
@@ -130,7 +142,7 @@ fn serve_words<F: Folder, I: Source, O: Sink, E: Sink>(
     rt: &(impl Threads + Wait + Sync),
     alloc: Global,
     words: &[&str],
-    terminals: Terminals,
+    audience: Audience,
     folder: &F,
     input: &mut I,
     output: &mut O,
@@ -140,30 +152,22 @@ fn serve_words<F: Folder, I: Source, O: Sink, E: Sink>(
     requires input_unended { I.has_ended input.old ≡ false }
     requires output_ready { O.has_failed output.old ≡ false }
     requires errors_ready { E.has_failed errors.old ≡ false }
-    ensures { ServesWords (F.at folder.now) terminals
+    ensures { ServesWords (F.at folder.now) audience.terminals audience.explains
         (stream_of I.remaining I.has_failed input.old input.new)
         (stream_of O.contents O.has_failed output.old output.new)
         (stream_of E.contents E.has_failed errors.old errors.new)
         result (texts words.now) }
 {
     match job(alloc, words) {
-        Ok(job) => serve_job(rt, alloc, &job, terminals, folder, input, output, errors),
+        Ok(job) => serve_job(rt, alloc, &job, audience, folder, input, output, errors),
         Err(JobFault::Help { text }) => {
             let outcome = Outcome::of_run(write_text(output, &text));
-            tell(
-                outcome,
-                Note::without_files(outcome, None),
-                terminals,
-                errors,
-            )
+            tell_of_words(outcome, audience.explains, errors)
         }
-        Err(JobFault::Usage { text }) => refuse(
-            &text,
-            parts::two_words(usage_hint(words), USAGE_NOTE),
-            terminals,
-            errors,
-        ),
-        Err(JobFault::Memory) => tell_no_memory(terminals, errors),
+        Err(JobFault::Usage { text }) => {
+            refuse(&text, &Note::of_words(words), audience.explains, errors)
+        }
+        Err(JobFault::Memory) => tell_no_memory(audience.explains, errors),
     }
 }
 
@@ -172,7 +176,7 @@ fn serve_job<F: Folder, I: Source, O: Sink, E: Sink>(
     rt: &(impl Threads + Wait + Sync),
     alloc: Global,
     job: &Job<'_>,
-    terminals: Terminals,
+    audience: Audience,
     folder: &F,
     input: &mut I,
     output: &mut O,
@@ -183,79 +187,82 @@ fn serve_job<F: Folder, I: Source, O: Sink, E: Sink>(
     requires input_unended { I.has_ended input.old ≡ false }
     requires output_ready { O.has_failed output.old ≡ false }
     requires errors_ready { E.has_failed errors.old ≡ false }
-    ensures { ServesJob (F.at folder.now) terminals
+    ensures { ServesJob (F.at folder.now) audience.terminals audience.explains
         (stream_of I.remaining I.has_failed input.old input.new)
         (stream_of O.contents O.has_failed output.old output.new)
         (stream_of E.contents E.has_failed errors.old errors.new)
         result job.now }
 {
-    if terminals.lacks_input(job) {
+    if audience.terminals.lacks_input(job) {
         let closed = Outcome::Broken(RunFault::Read);
-        return tell(closed, Note::no_input(), terminals, errors);
+        return tell(closed, &Note::no_input(), audience.explains, errors);
     }
-    let ended = carry_out(rt, alloc, job, terminals, folder, input, output, errors);
-    tell(ended.outcome, ended.note, terminals, errors)
+    let ended = carry_out(rt, alloc, job, audience, folder, input, output, errors);
+    tell(ended.outcome, &ended.note, audience.explains, errors)
 }
 
 /// Says that memory to read the words in was refused, and gives the exit status.
-fn tell_no_memory<E: Sink>(terminals: Terminals, errors: &mut E) -> u8
-    ensures told { (said : List ℕ) × IsEnding terminals.errors (Broken Memory) said
+fn tell_no_memory<E: Sink>(explains: bool, errors: &mut E) -> u8
+    ensures told { (said : List ℕ) × IsEnding explains (Broken Memory) said
         × IsMore E.contents E.has_failed errors.old errors.new said }
     ensures status { result ≡ status_of (Broken Memory) }
 {
-    let outcome = Outcome::Broken(RunFault::Memory);
-    tell(
-        outcome,
-        Note::without_files(outcome, None),
-        terminals,
-        errors,
-    )
+    tell_of_words(Outcome::Broken(RunFault::Memory), explains, errors)
 }
 
-/// Says on standard error how a job was broken off, if it was, and gives the exit status.
-fn tell<E: Sink>(outcome: Outcome, note: Note<'_>, terminals: Terminals, errors: &mut E) -> u8
-    ensures told { (said : List ℕ) × IsEnding terminals.errors outcome said
+/// Says on standard error how words that ask for no job were answered, and gives the exit status.
+fn tell_of_words<E: Sink>(outcome: Outcome, explains: bool, errors: &mut E) -> u8
+    ensures told { (said : List ℕ) × IsEnding explains outcome said
         × IsMore E.contents E.has_failed errors.old errors.new said }
     ensures status { result ≡ status_of outcome }
 {
-    write_ending(outcome, note, terminals, errors);
+    let note = outcome.note(&Inputs::without_files(None));
+    tell(outcome, &note, explains, errors)
+}
+
+/// Says on standard error how a job was broken off, if it was, and gives the exit status.
+fn tell<E: Sink>(outcome: Outcome, note: &Note<'_>, explains: bool, errors: &mut E) -> u8
+    ensures told { (said : List ℕ) × IsEnding explains outcome said
+        × IsMore E.contents E.has_failed errors.old errors.new said }
+    ensures status { result ≡ status_of outcome }
+{
+    write_ending(outcome, note, explains, errors);
     outcome.status()
 }
 
 /// Writes the line of the fault that broke a job off, and explains it or a refusal.
-fn write_ending<E: Sink>(outcome: Outcome, note: Note<'_>, terminals: Terminals, errors: &mut E)
-    ensures { (said : List ℕ) × IsEnding terminals.errors outcome said
+fn write_ending<E: Sink>(outcome: Outcome, note: &Note<'_>, explains: bool, errors: &mut E)
+    ensures { (said : List ℕ) × IsEnding explains outcome said
         × IsMore E.contents E.has_failed errors.old errors.new said }
 {
     match outcome {
         Outcome::Done => {}
-        Outcome::Refused => say("", note, terminals, errors),
+        Outcome::Refused => say("", note, explains, errors),
         Outcome::Broken(fault) => {
             let line = fault_line(fault);
-            say(line.as_str(), note, terminals, errors);
+            say(line.as_str(), note, explains, errors);
         }
     }
 }
 
-/// Writes a text, and at a terminal its explanation.
-fn say<E: Sink>(text: &str, note: Note<'_>, terminals: Terminals, errors: &mut E)
-    ensures { (said : List ℕ) × IsExplained terminals.errors text.now said
+/// Writes a text, and its explanation if faults are explained.
+fn say<E: Sink>(text: &str, note: &Note<'_>, explains: bool, errors: &mut E)
+    ensures { (said : List ℕ) × IsExplained explains text.now said
         × IsMore E.contents E.has_failed errors.old errors.new said }
 {
     write_more(errors, text);
-    if !terminals.errors {
+    if !explains {
         return;
     }
     write_note(note, errors);
 }
 
 /// Writes a text that says that the use was wrong, and gives the exit status.
-fn refuse<E: Sink>(text: &str, parts: Parts, terminals: Terminals, errors: &mut E) -> u8
-    ensures said { (said : List ℕ) × IsExplained terminals.errors text.now said
+fn refuse<E: Sink>(text: &str, note: &Note<'_>, explains: bool, errors: &mut E) -> u8
+    ensures said { (said : List ℕ) × IsExplained explains text.now said
         × IsMore E.contents E.has_failed errors.old errors.new said }
     ensures status { result ≡ 2 }
 {
-    let about = "pebbles";
-    say(text, Note { about, parts }, terminals, errors);
+    say(text, note, explains, errors);
     2
 }

@@ -3,7 +3,7 @@
 ghost use Rattle.std.specs.Prelude.{◌≡◌, ℕ, List};
 ghost use Rattle.serving.specs.Folders.{File};
 ghost use Rattle.runs.specs.Run.{stream_of};
-ghost use Rattle.serving.specs.Servings.{BytesBefore, HaveOwnText, IsServed};
+ghost use Rattle.serving.specs.Servings.{AskForNoExplanation, BytesBefore, HaveOwnText, IsServed};
 ghost use Rattle.serving.specs.Servings.{StandardStreams};
 ghost use Rattle.serving.specs.declared.serving.Terminals.{Terminals as TerminalsData};
 ghost use Rattle.serving.specs.declared.serving.Words.{Words as WordsData};
@@ -12,8 +12,9 @@ use board_text::{Sink, Source};
 
 /// Two servings of the same words, over the same files and over streams with the same bytes, give
 /// one exit status, and the same bytes on standard output and standard error unless the text is
-/// one that `clap` makes. The files and the bytes are known, standard error is no terminal, no
-/// stream fails, and neither memory nor a worker is refused.
+/// one that `clap` makes, or, on standard error, the words ask for explanations. The files and the
+/// bytes are known, standard error is no terminal, no stream fails, and neither memory nor a worker
+/// is refused.
 pub fn one_serving<I: Source, O: Sink, E: Sink>()
     ensures { (at : List ℕ → File) → (terminals : TerminalsData) → (before : BytesBefore)
         → (words : WordsData) → (old : StandardStreams I O E) → (new : StandardStreams I O E)
@@ -29,5 +30,5 @@ pub fn one_serving<I: Source, O: Sink, E: Sink>()
         (stream_of E.contents E.has_failed other_old.errors other_new.errors) other
         → (status ≡ other) × (HaveOwnText words
         → (O.contents new.output ≡ O.contents other_new.output)
-        × (E.contents new.errors ≡ E.contents other_new.errors)) }
+        × (AskForNoExplanation words → E.contents new.errors ≡ E.contents other_new.errors)) }
 {}

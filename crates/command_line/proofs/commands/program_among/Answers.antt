@@ -15,6 +15,7 @@ returns c =
     search (
       rules,
       c.new.ensures,
+      c.in_ok-bin_name.ensures,
       c.version.ensures,
       c.about.ensures,
       c.override_usage.ensures,

@@ -1,5 +1,5 @@
 use Rattle.command_line.proofs.ShownKinds.{helped}
 use Rattle.command_line.proofs.words.fault.Goals as goal
 
-pub returns-in-Ok-clause-shows : goal.returns-in-Ok-clause-shows
-returns-in-Ok-clause-shows c = helped _ _ _ c.help.ensures (c.wants_help-is_help.ensures.yes c.if-is_help.true)
+pub returns-then-wants_help-clause-shows : goal.returns-then-wants_help-clause-shows
+returns-then-wants_help-clause-shows c = helped _ _ _ c.help.ensures (c.wants_help.ensures.yes c.if-wants_help.true)

@@ -68,7 +68,8 @@ returns-in-Report-clause-done g c =
 pub returns-in-Joined-clause-prompts : goal.returns-in-Joined-clause-prompts
 returns-in-Joined-clause-prompts g c =
     let p = c.check_joined.ensures.prompts in
-    rw c.in-Joined.is (p.0, or_first (c.args.terminals.input && c.args.terminals.errors) false p.0 p.1, p.2)
+    let terminals = c.args.audience.terminals in
+    rw c.in-Joined.is (p.0, or_first (terminals.input && terminals.errors) false p.0 p.1, p.2)
 
 pub returns-in-Play-clause-prompts : goal.returns-in-Play-clause-prompts
 returns-in-Play-clause-prompts g c = rw c.in-Play.is c.play.ensures.prompts
@@ -76,15 +77,16 @@ returns-in-Play-clause-prompts g c = rw c.in-Play.is c.play.ensures.prompts
 pub returns-in-Climb-clause-prompts : goal.returns-in-Climb-clause-prompts
 returns-in-Climb-clause-prompts g c =
     let p = c.climb.ensures.prompts in
-    rw c.in-Climb.is (p.0, or_first (c.args.terminals.input && c.args.terminals.errors) false p.0 p.1, p.2)
+    let terminals = c.args.audience.terminals in
+    rw c.in-Climb.is (p.0, or_first (terminals.input && terminals.errors) false p.0 p.1, p.2)
 
 pub returns-in-Check-clause-prompts : goal.returns-in-Check-clause-prompts
 returns-in-Check-clause-prompts g c =
-    none_prompted g.E.Sink.contents g.E.Sink.has_failed c.args.terminals c.args.job.now c.args.errors.now
+    none_prompted g.E.Sink.contents g.E.Sink.has_failed c.args.audience.terminals c.args.job.now c.args.errors.now
 
 pub returns-in-Nested-clause-prompts : goal.returns-in-Nested-clause-prompts
 returns-in-Nested-clause-prompts g c =
-    none_prompted g.E.Sink.contents g.E.Sink.has_failed c.args.terminals c.args.job.now c.args.errors.now
+    none_prompted g.E.Sink.contents g.E.Sink.has_failed c.args.audience.terminals c.args.job.now c.args.errors.now
 
 pub returns-in-Solve-clause-prompts : goal.returns-in-Solve-clause-prompts
 returns-in-Solve-clause-prompts g c = rw c.in-Solve.is c.solve.ensures.notice

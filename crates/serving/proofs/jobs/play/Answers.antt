@@ -29,16 +29,18 @@ returns-clause-unread g c broke =
 pub returns-clause-prompts : goal.returns-clause-prompts
 returns-clause-prompts g c =
     let p = c.run_play_with_prompts-ended.ensures.prompts in
+    let terminals = c.args.audience.terminals in
     let lines = told_in_run _ _ _ _ _ _ _ c.see_size.result c.are_both.result _ p.0 p.1 in (
       p.0,
-      subst (λ size. AreForPerson ((c.args.terminals.input && c.args.terminals.errors) || size) p.0) c.see_size.ensures
+      subst (λ size. AreForPerson ((terminals.input && terminals.errors) || size) p.0) c.see_size.ensures
           (subst (λ choices. AreForPerson (choices || c.see_size.result) p.0) c.are_both.ensures lines),
       p.2,
     )
 
 pub returns-in_default-clause-prompts : goal.returns-in_default-clause-prompts
-returns-in_default-clause-prompts g c = (
-  [],
-  nothing_for_person ((c.args.terminals.input && c.args.terminals.errors) || (c.args.large && c.args.terminals.errors)),
-  none_more g.E.Sink.contents g.E.Sink.has_failed c.args.errors.now,
-)
+returns-in_default-clause-prompts g c =
+    let terminals = c.args.audience.terminals in (
+      [],
+      nothing_for_person ((terminals.input && terminals.errors) || (c.args.large && terminals.errors)),
+      none_more g.E.Sink.contents g.E.Sink.has_failed c.args.errors.now,
+    )

@@ -7,7 +7,10 @@ use Rattle.serving.proofs.ErrorTexts.{ended, refused}
 use Rattle.serving.proofs.serving.serve.Goals as goal
 
 pub returns-in-Given : goal.returns-in-Given
-returns-in-Given g c = rw c.in-Given.is c.serve_words.ensures
+returns-in-Given g c =
+    rw c.in-Given.is
+    (rw (c.of-audience.ensures.terminals, c.of-audience.ensures.explains, c.words_of_job-words.ensures) at
+    c.serve_words.ensures)
 
 pub returns-in-NotText : goal.returns-in-NotText
 returns-in-NotText g c =

@@ -11,7 +11,7 @@ returns-then-lacks_input g c = inr (
   refl,
   (
     ended g.E.Sink.contents g.E.Sink.has_failed c.args.errors.now c.requires.errors_ready c.tell.new.errors
-        c.args.terminals.errors (Broken Read) c.tell.ensures.told,
+        c.args.audience.explains (Broken Read) c.tell.ensures.told,
     c.tell.ensures.status,
   ),
 )
@@ -28,7 +28,7 @@ returns g c =
       (
         prompted g.E.Sink.contents g.E.Sink.has_failed c.args.errors.now c.requires.errors_ready
             c.carry_out-ended.new.errors
-            c.tell-2.new.errors prompts.0 c.args.terminals.errors c.carry_out-ended.result.outcome prompts.2
+            c.tell-2.new.errors prompts.0 c.args.audience.explains c.carry_out-ended.result.outcome prompts.2
             c.tell-2.ensures.told,
         c.tell-2.ensures.status,
       ),

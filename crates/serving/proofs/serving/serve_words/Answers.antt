@@ -20,10 +20,10 @@ returns-in-Err-Help g c =
     let fault = c.in-Err-Help.field-0 in
     let output = stream_of g.O.Sink.contents g.O.Sink.has_failed c.args.output.now c.write_text.new.writer in
     let input = stream_of g.I.Source.remaining g.I.Source.has_failed c.args.input.now c.args.input.now in
-    let errors = stream_of g.E.Sink.contents g.E.Sink.has_failed c.args.errors.now c.tell.new.errors in
+    let errors = stream_of g.E.Sink.contents g.E.Sink.has_failed c.args.errors.now c.tell_of_words.new.errors in
     let w = c.write_text.ensures in
-    let told = rw c.of_run-outcome.ensures at c.tell.ensures.told in
-    let status = rw c.of_run-outcome.ensures at c.tell.ensures.status in
+    let told = rw c.of_run-outcome.ensures at c.tell_of_words.ensures.told in
+    let status = rw c.of_run-outcome.ensures at c.tell_of_words.ensures.status in
     inr (
       fault,
       more_words c.args.words.now c.job.result c.job.ensures.joined fault c.in-Err-Help.is,
@@ -35,10 +35,10 @@ returns-in-Err-Help g c =
             at w.prefix) w.fault w.failed,
         refl,
         helped output c.write_text.result w.fault w.failed (λ o. EndsWith (g.F.Folder.at c.args.folder.now)
-            c.args.terminals input output errors c.tell.result [] o) (
+            c.args.audience.terminals c.args.audience.explains input output errors c.tell_of_words.result [] o) (
               ended g.E.Sink.contents g.E.Sink.has_failed c.args.errors.now c.requires.errors_ready
-                  c.tell.new.errors
-                  c.args.terminals.errors _ told,
+                  c.tell_of_words.new.errors
+                  c.args.audience.explains _ told,
               status,
             ),
       ),
@@ -54,7 +54,7 @@ returns-in-Err-Usage g c =
       c.in-Err-Usage.ensures.takes,
       rw c.in-Err-Usage.field-0-is (
         refused g.E.Sink.contents g.E.Sink.has_failed c.args.errors.now c.requires.errors_ready c.refuse.new.errors
-            c.args.terminals.errors
+            c.args.audience.explains
             (string_bytes c.in-Err-Usage.text) (rw (c.deref-in-Err-Usage.ensures, c.in-Err-Usage.field-0-is) at
             c.refuse.ensures.said),
         refl,
@@ -77,7 +77,7 @@ returns-in-Err-Memory g c =
         (
           ended g.E.Sink.contents g.E.Sink.has_failed c.args.errors.now c.requires.errors_ready
               c.tell_no_memory.new.errors
-              c.args.terminals.errors (Broken Memory) c.tell_no_memory.ensures.told,
+              c.args.audience.explains (Broken Memory) c.tell_no_memory.ensures.told,
           c.tell_no_memory.ensures.status,
         ),
       ),

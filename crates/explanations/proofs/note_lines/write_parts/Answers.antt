@@ -1,7 +1,7 @@
 use Rattle.std.proofs.Common.{◌++◌, [], refl}
 use Rattle.player.specs.Showing.{shown}
 use Rattle.player.proofs.Cited.{none_more, plain_both, then_more}
-use Rattle.serving.proofs.note_lines.write_parts.Goals as goal
+use Rattle.explanations.proofs.note_lines.write_parts.Goals as goal
 
 pub loop-part-init : goal.loop-part-init
 unfolding shown

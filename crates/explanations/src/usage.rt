@@ -32,7 +32,8 @@ pub(crate) fn usage_hint(words: &[&str]) -> &'static str {
         }
         if is_unknown_option(word) {
             return "the only options are `--workers` of `solve` and `report`, `--side` of `play`, \
-                `--large` of `solve`, `report` and `play`, `--help` and `--version`; ";
+                `--large` of `solve`, `report` and `play`, `--explain`, `--help` and `--version`; a \
+                path that begins with `-` comes after `--`; ";
         }
     }
     ""
@@ -80,6 +81,7 @@ fn is_unknown_option(word: &str) -> bool {
         || word == "-h"
         || word == "--workers"
         || word == "--side"
-        || word == "--large";
+        || word == "--large"
+        || word == "--explain";
     word.starts_with("-") && !is_known
 }

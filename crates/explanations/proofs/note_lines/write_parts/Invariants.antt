@@ -1,6 +1,6 @@
 use Rattle.std.proofs.Common.{ℕ, List}
 use Rattle.player.specs.Showing.{HasNoControl, IsMore}
-use Rattle.serving.proofs.note_lines.write_parts.Given as goal
+use Rattle.explanations.proofs.note_lines.write_parts.Given as goal
 
 abbrev pub invariant-loop-part : goal.invariant-loop-part
 invariant-loop-part g l = (text : List ℕ) × HasNoControl text

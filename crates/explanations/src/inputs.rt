@@ -1,17 +1,30 @@
 //! The inputs of a job, as far as they explain a fault.
 
-use crate::folder::Trouble;
 use crate::lines::{from_line, split_line};
-use runs::board_length;
+use crate::trouble::Trouble;
+use runs::{MAX_BOARD_BYTES, MAX_JOINED_BYTES, MAX_PROOF_BYTES, board_length};
+
+// The words say these limits.
+const _: () = prove!(MAX_BOARD_BYTES == 1_048_576);
+
+const _: () = prove!(MAX_PROOF_BYTES == 134_217_728);
+
+const _: () = prove!(MAX_JOINED_BYTES == 134_217_728);
+
+/// The limits of a board, in words.
+const BOARD_LIMITS: &str = "a board has at most 1048576 bytes";
+
+/// The limits of a document and of a joined input, in words.
+const PROOF_LIMITS: &str = "an input has at most 134217728 bytes";
+
+/// The limits of the lines of a play, in words.
+const LINE_LIMITS: &str = "a line of a play has at most 64 bytes, and a play at most 1000000 lines";
 
 /// The name of standard input in explanations.
 pub(crate) const STANDARD_INPUT: &str = "standard input";
 
 /// The name of the document in a joined input.
 const AFTER_THE_BOARD: &str = "standard input after the board";
-
-/// The path at which a folder has standard input.
-pub(crate) const INPUT_PATH: &str = "/dev/stdin";
 
 /// How the texts of a job are given.
 #[derive(Clone, Copy, PartialEq, Eq)]
@@ -26,7 +39,7 @@ pub(crate) enum Given {
 
 /// The boards that a job takes.
 #[derive(Clone, Copy, PartialEq, Eq)]
-pub(crate) enum Taken {
+pub enum Taken {
     /// Those with few enough configurations; after the word `--large` those with few enough gaps.
     SmallUnlessLarge,
     /// Those with few enough gaps.
@@ -38,7 +51,7 @@ pub(crate) enum Taken {
 impl Taken {
     /// The boards that a job takes which has the word `--large`, and was given it if `large` is
     /// true.
-    pub(crate) fn large_if(large: bool) -> Taken {
+    pub fn large_if(large: bool) -> Taken {
         if large {
             Taken::Large
         } else {
@@ -49,7 +62,7 @@ impl Taken {
 
 /// The inputs of a job: the board, and the document or the lines of a play.
 #[derive(Clone, Copy)]
-pub(crate) struct Inputs<'a, 'h> {
+pub struct Inputs<'a, 'h> {
     pub(crate) given: Given,
     pub(crate) taken: Taken,
     pub(crate) board: Origin<'a, 'h>,
@@ -58,11 +71,7 @@ pub(crate) struct Inputs<'a, 'h> {
 
 impl<'a, 'h> Inputs<'a, 'h> {
     /// A board in a file, one of those that are `taken`, and what else is read.
-    pub(crate) fn alone(
-        taken: Taken,
-        board: Origin<'a, 'h>,
-        other: Origin<'a, 'h>,
-    ) -> Inputs<'a, 'h> {
+    pub fn alone(taken: Taken, board: Origin<'a, 'h>, other: Origin<'a, 'h>) -> Inputs<'a, 'h> {
         Inputs {
             given: Given::Alone,
             taken,
@@ -72,7 +81,7 @@ impl<'a, 'h> Inputs<'a, 'h> {
     }
 
     /// A board and a document in two files.
-    pub(crate) fn apart(board: Origin<'a, 'h>, other: Origin<'a, 'h>) -> Inputs<'a, 'h> {
+    pub fn apart(board: Origin<'a, 'h>, other: Origin<'a, 'h>) -> Inputs<'a, 'h> {
         Inputs {
             given: Given::Apart,
             taken: Taken::SmallUnlessByClasses,
@@ -83,9 +92,14 @@ impl<'a, 'h> Inputs<'a, 'h> {
 }
 
 impl<'h> Inputs<'static, 'h> {
-    /// The board with which the text on standard input begins, and the document after it.
-    pub(crate) fn joined(input: Origin<'static, 'h>) -> Inputs<'static, 'h> {
-        let (board, document) = input.text.split_at(board_length(input.text));
+    /// The board with which the text on standard input begins, and the document after it. The
+    /// trouble is that of standard input.
+    pub fn joined(text: &'h [u8], trouble: Option<Trouble>) -> Inputs<'static, 'h> {
+        let (board, document) = text.split_at(board_length(text));
+        let input = Origin {
+            is_whole: true,
+            ..Origin::standard_input(trouble, PROOF_LIMITS)
+        };
         Inputs {
             given: Given::Joined,
             taken: Taken::SmallUnlessByClasses,
@@ -102,9 +116,17 @@ impl<'h> Inputs<'static, 'h> {
     }
 }
 
+impl Inputs<'static, 'static> {
+    /// Those of a job that reads no file, and possibly standard input, which may have this trouble.
+    pub fn without_files(trouble: Option<Trouble>) -> Inputs<'static, 'static> {
+        let lines = Origin::lines(trouble);
+        Inputs::alone(Taken::SmallUnlessLarge, lines, lines)
+    }
+}
+
 /// An input of a job.
 #[derive(Clone, Copy)]
-pub(crate) struct Origin<'a, 'h> {
+pub struct Origin<'a, 'h> {
     /// Its path, or the name of standard input.
     pub(crate) name: &'a str,
     /// Its first bytes, as far as they are known.
@@ -119,12 +141,48 @@ pub(crate) struct Origin<'a, 'h> {
     pub(crate) limits: &'static str,
 }
 
-impl Origin<'static, 'static> {
-    /// Standard input, of which no byte is known.
-    pub(crate) fn standard_input(
+impl<'a, 'h> Origin<'a, 'h> {
+    /// The board at a path: its first bytes, as far as they are known, the number of bytes that
+    /// were read, and why it couldn't be read to its end, if it couldn't.
+    pub fn board(
+        path: &'a str,
+        text: &'h [u8],
+        count: usize,
         trouble: Option<Trouble>,
-        limits: &'static str,
-    ) -> Origin<'static, 'static> {
+    ) -> Origin<'a, 'h> {
+        Origin {
+            name: path,
+            text,
+            is_whole: count == text.len(),
+            trouble,
+            is_too_long: count > MAX_BOARD_BYTES,
+            limits: BOARD_LIMITS,
+        }
+    }
+
+    /// The document at a path, in the same way.
+    pub fn document(
+        path: &'a str,
+        text: &'h [u8],
+        count: usize,
+        trouble: Option<Trouble>,
+    ) -> Origin<'a, 'h> {
+        Origin {
+            is_too_long: count > MAX_PROOF_BYTES,
+            limits: PROOF_LIMITS,
+            ..Origin::board(path, text, count, trouble)
+        }
+    }
+}
+
+impl Origin<'static, 'static> {
+    /// The lines of a play on standard input, which may have this trouble.
+    pub fn lines(trouble: Option<Trouble>) -> Origin<'static, 'static> {
+        Origin::standard_input(trouble, LINE_LIMITS)
+    }
+
+    /// Standard input, of which no byte is known.
+    fn standard_input(trouble: Option<Trouble>, limits: &'static str) -> Origin<'static, 'static> {
         Origin {
             name: STANDARD_INPUT,
             text: &[],

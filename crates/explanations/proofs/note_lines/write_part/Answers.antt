@@ -1,7 +1,7 @@
 use Rattle.std.specs.Fmt.{decimal}
 use Rattle.player.specs.Showing.{shown}
 use Rattle.player.proofs.Cited.{plain_if_shown}
-use Rattle.serving.proofs.note_lines.write_part.Goals as goal
+use Rattle.explanations.proofs.note_lines.write_part.Goals as goal
 
 pub returns-in-Words : goal.returns-in-Words
 returns-in-Words g c =

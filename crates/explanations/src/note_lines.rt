@@ -1,18 +1,18 @@
-//! Writing notes for a person at a terminal.
+//! Writing explanations.
 
-ghost use Rattle.std.specs.Prelude.{ℕ, List, true};
+ghost use Rattle.std.specs.Prelude.{ℕ, List};
+ghost use Rattle.board_text.specs.LineForms.{with_line_feed};
 ghost use Rattle.player.specs.Showing.{HasNoControl, IsMore};
-ghost use Rattle.serving.specs.Serving.{IsForPerson};
 
 use crate::notes::Note;
 use crate::parts::Part;
 use board_text::Sink;
 use player::{write_digits, write_more, write_shown};
 
-/// Writes an explanation, as one line.
-pub(crate) fn write_note<E: Sink>(note: Note<'_>, errors: &mut E)
-    ensures { (line : List ℕ) × IsForPerson true line
-        × IsMore E.contents E.has_failed errors.old errors.new line }
+/// Writes an explanation, as one line without control characters.
+pub fn write_note<E: Sink>(note: &Note<'_>, errors: &mut E)
+    ensures { (words : List ℕ) × HasNoControl words
+        × IsMore E.contents E.has_failed errors.old errors.new (with_line_feed words) }
 {
     write_shown(errors, note.about);
     write_more(errors, ": ");

@@ -1,76 +1,103 @@
-//! The lines that are written for a person at a terminal: before a joined check, and after the line
-//! of a fault.
+//! Explanations of faults, of refused documents and of wrong use.
 
-use crate::folder::Trouble;
 use crate::hints::board_hint;
-use crate::inputs::{Inputs, Origin, STANDARD_INPUT, Taken};
-use crate::outcome::Outcome;
-use crate::parts::{Part, Parts, around, two_words, words};
+use crate::inputs::{Inputs, STANDARD_INPUT, Taken};
+use crate::parts::{Part, Parts, around, joined, two_words, words};
 use crate::proof_hints::{class_refusal_hint, proof_hint, refusal_hint};
 use crate::sizes::Sizes;
+use crate::trouble::Trouble;
+use crate::usage::usage_hint;
 use gap_values::MAX_GAPS;
 use positions::MAX_CONFIGURATIONS;
-use runs::{MAX_BOARD_BYTES, MAX_JOINED_BYTES, MAX_PROOF_BYTES, RunFault, Verdict};
+use runs::{MAX_PROOF_BYTES, RunFault, Verdict};
 
 // The words say these limits.
-const _: () = prove!(MAX_BOARD_BYTES == 1_048_576);
-
 const _: () = prove!(MAX_PROOF_BYTES == 134_217_728);
-
-const _: () = prove!(MAX_JOINED_BYTES == 134_217_728);
 
 const _: () = prove!(MAX_CONFIGURATIONS == 1_048_576);
 
 const _: () = prove!(MAX_GAPS == 536_870_912);
 
-/// The limits of a board, in words.
-pub(crate) const BOARD_LIMITS: &str = "a board has at most 1048576 bytes";
+/// The end of the explanation of wrong use.
+const USAGE: &str =
+    "`pebbles --help` lists the commands, and `pebbles help COMMAND` the words of one";
 
-/// The limits of a document and of a joined input, in words.
-pub(crate) const PROOF_LIMITS: &str = "an input has at most 134217728 bytes";
-
-/// The limits of the lines of a play, in words.
-pub(crate) const LINE_LIMITS: &str =
-    "a line of a play has at most 64 bytes, and a play at most 1000000 lines";
-
-/// The greeting of a person who types a board and a document.
-pub(crate) const JOINED_GREETING: &str =
-    "type or paste a board and a strategy document, and Ctrl-D; \
-    `pebbles --help` lists the commands";
-
-/// The explanation of a fault: the name of a file or of a stream, and what to look for there.
-#[derive(Clone, Copy)]
-pub(crate) struct Note<'a> {
+/// An explanation: the name of a file or of a stream, and what to look for there.
+#[derive(Drop)]
+pub struct Note<'a> {
     pub(crate) about: &'a str,
     pub(crate) parts: Parts,
 }
 
 impl<'a> Note<'a> {
-    /// The explanation of `outcome` in a run over `inputs` that is no check. It is empty if the
-    /// run was done.
-    pub(crate) fn of(outcome: Outcome, inputs: &Inputs<'a, '_>) -> Note<'a> {
-        match outcome {
-            Outcome::Broken(fault) => explain(fault, inputs),
-            Outcome::Done | Outcome::Refused => Note::new("", ""),
+    /// The explanation of `fault` in a job over `inputs`.
+    pub fn of(fault: RunFault, inputs: &Inputs<'a, '_>) -> Note<'a> {
+        let board = &inputs.board;
+        let other = &inputs.other;
+        match fault {
+            RunFault::Board(fault) => Note {
+                about: board.name,
+                parts: board_hint(fault, inputs),
+            },
+            RunFault::TooLarge => Note {
+                about: board.name,
+                parts: too_large_hint(inputs.taken, board.text),
+            },
+            RunFault::DocumentTooLarge => Note {
+                about: board.name,
+                parts: long_document_hint(board.text),
+            },
+            RunFault::Proof(fault) => Note {
+                about: other.name,
+                parts: proof_hint(fault, inputs),
+            },
+            RunFault::Memory => Note::new(
+                "memory",
+                "the system gave no more; one worker takes least, and a smaller board less",
+            ),
+            RunFault::Worker => Note::new(
+                "threads",
+                "the system started no more of them; one worker, the default, needs none",
+            ),
+            RunFault::Read => match board.trouble {
+                Some(trouble) => Note::unread(board.name, trouble),
+                None => Note::unread(other.name, other.trouble.unwrap_or(Trouble::Other)),
+            },
+            RunFault::Write => Note::new(
+                "standard output",
+                "it took no more; was it closed, as by `head`, or is the disk full?",
+            ),
+            RunFault::Limit if board.is_too_long => Note::new(board.name, board.limits),
+            RunFault::Limit => Note::new(other.name, other.limits),
         }
     }
 
     /// The explanation of how the check of `inputs` ended. It is empty if the document was
     /// accepted.
-    pub(crate) fn of_check(
-        checked: Result<Verdict, RunFault>,
-        inputs: &Inputs<'a, '_>,
-    ) -> Note<'a> {
+    pub fn of_check(checked: Result<Verdict, RunFault>, inputs: &Inputs<'a, '_>) -> Note<'a> {
         match checked {
-            Ok(Verdict::Accepted(_)) => Note::new("", ""),
+            Ok(Verdict::Accepted(_)) => Note::empty(),
             Ok(Verdict::Refused(fault)) => refused(refusal_hint(fault), inputs),
             Ok(Verdict::RefusedByClasses(fault)) => refused(class_refusal_hint(fault), inputs),
-            Err(fault) => explain(fault, inputs),
+            Err(fault) => Note::of(fault, inputs),
+        }
+    }
+
+    /// The explanation of an input of this name that couldn't be opened or read.
+    pub fn unread(name: &'a str, trouble: Trouble) -> Note<'a> {
+        let about = if name.is_empty() {
+            "the empty path"
+        } else {
+            name
+        };
+        Note {
+            about,
+            parts: trouble_hint(name, trouble),
         }
     }
 
     /// An explanation without a number.
-    pub(crate) fn new(about: &'a str, said: &'static str) -> Note<'a> {
+    fn new(about: &'a str, said: &'static str) -> Note<'a> {
         Note {
             about,
             parts: words(said),
@@ -79,21 +106,32 @@ impl<'a> Note<'a> {
 }
 
 impl Note<'static> {
-    /// The explanation of `outcome` in a job that reads no file, and possibly standard input, which
-    /// may have this trouble.
-    pub(crate) fn without_files(outcome: Outcome, trouble: Option<Trouble>) -> Note<'static> {
-        let input = Origin::standard_input(trouble, LINE_LIMITS);
-        Note::of(
-            outcome,
-            &Inputs::alone(Taken::SmallUnlessLarge, input, input),
-        )
+    /// No explanation, of a job that was done.
+    pub fn empty() -> Note<'static> {
+        Note::new("", "")
     }
 
     /// The explanation of a job that reads standard input, which is closed.
-    pub(crate) fn no_input() -> Note<'static> {
+    pub fn no_input() -> Note<'static> {
         Note::new(
             STANDARD_INPUT,
             "it is closed, and this job reads it; give it with `<`, or by a pipe",
+        )
+    }
+
+    /// The explanation of `words`, the program's name first, that are none of the program's.
+    pub fn of_words(words: &[&str]) -> Note<'static> {
+        Note {
+            about: "pebbles",
+            parts: two_words(usage_hint(words), USAGE),
+        }
+    }
+
+    /// The explanation of a word that isn't text.
+    pub fn no_text() -> Note<'static> {
+        Note::new(
+            "pebbles",
+            "a path must be UTF-8; rename the file, or give it as standard input (/dev/stdin)",
         )
     }
 }
@@ -103,61 +141,6 @@ fn refused<'a>(rule: &'static str, inputs: &Inputs<'a, '_>) -> Note<'a> {
     Note {
         about: inputs.other.name,
         parts: two_words(rule, "; is it the document of another board?"),
-    }
-}
-
-/// The explanation of `fault` in a job over `inputs`.
-fn explain<'a>(fault: RunFault, inputs: &Inputs<'a, '_>) -> Note<'a> {
-    let board = &inputs.board;
-    let other = &inputs.other;
-    match fault {
-        RunFault::Board(fault) => Note {
-            about: board.name,
-            parts: board_hint(fault, inputs),
-        },
-        RunFault::TooLarge => Note {
-            about: board.name,
-            parts: too_large_hint(inputs.taken, board.text),
-        },
-        RunFault::DocumentTooLarge => Note {
-            about: board.name,
-            parts: long_document_hint(board.text),
-        },
-        RunFault::Proof(fault) => Note {
-            about: other.name,
-            parts: proof_hint(fault, inputs),
-        },
-        RunFault::Memory => Note::new(
-            "memory",
-            "the system gave no more; one worker takes least, and a smaller board less",
-        ),
-        RunFault::Worker => Note::new(
-            "threads",
-            "the system started no more of them; one worker, the default, needs none",
-        ),
-        RunFault::Read => match board.trouble {
-            Some(trouble) => unread(board.name, trouble),
-            None => unread(other.name, other.trouble.unwrap_or(Trouble::Other)),
-        },
-        RunFault::Write => Note::new(
-            "standard output",
-            "it took no more; was it closed, as by `head`, or is the disk full?",
-        ),
-        RunFault::Limit if board.is_too_long => Note::new(board.name, board.limits),
-        RunFault::Limit => Note::new(other.name, other.limits),
-    }
-}
-
-/// The explanation of an input that couldn't be opened or read.
-pub(crate) fn unread(name: &str, trouble: Trouble) -> Note<'_> {
-    let about = if name.is_empty() {
-        "the empty path"
-    } else {
-        name
-    };
-    Note {
-        about,
-        parts: trouble_hint(name, trouble),
     }
 }
 
@@ -223,29 +206,25 @@ fn without_rows_for_classes(sizes: Sizes) -> Parts {
 
 /// The words for a board with too many configurations, whose gaps are few enough.
 fn with_few_gaps(sizes: Sizes) -> Parts {
-    [
+    joined(&[
         Part::Number(sizes.configurations()),
         Part::Words(" configurations, and the most is 1048576; but its "),
         Part::Number(sizes.gaps()),
         Part::Words(" gaps are few enough for `--large`"),
         Part::Words(ending_hint(sizes)),
-        Part::Words(""),
-    ]
+    ])
 }
 
 /// The words for a board with too many gaps.
 fn with_many_gaps(sizes: Sizes) -> Parts {
-    [
+    joined(&[
         Part::Number(sizes.gaps()),
         Part::Words(
             " gaps, each the labels of all pebbles but one, whichever pebble holds which, and the \
             most is 536870912, with `--large`",
         ),
         Part::Words(ending_hint(sizes)),
-        Part::Words(""),
-        Part::Words(""),
-        Part::Words(""),
-    ]
+    ])
 }
 
 /// What is known of a board that is too large, if it has few labels.
