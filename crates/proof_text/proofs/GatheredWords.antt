@@ -3,13 +3,14 @@ use Rattle.std.proofs.Common.{◌≡◌, ℕ, ◌+◌, ◌/◌, ◌%◌, ◌<◌
 use Rattle.std.proofs.Common.{arith, List, [], ◌∷◌, ◌++◌, length, get_or, take, drop, append_assoc}
 use borrow.Rule.Slice.PartMut.{put_mid, post_of, same_len_mid}
 use Rattle.std.specs.Fmt.{decimal}
-use Rattle.std.specs.Str.{IsAscii}
+use Rattle.std.specs.Prelude.{Result, Ok, Err, is_ok, if◌then◌else◌}
+use Rattle.std.specs.Str.{IsUtf8}
 use Rattle.std.proofs.Math.Seq.{take-append-add}
 use Rattle.std.proofs.lemmas.Bool.{cases_lt}
 use Rattle.std.proofs.lemmas.Fmt.{IsAscii-decimal}
 use Rattle.std.proofs.lemmas.List.{length-take-le, length-drop, length_push, take-append-le, get_or_append_left}
 use Rattle.std.proofs.lemmas.List.{get_or_push}
-use Rattle.std.proofs.lemmas.Str.{IsAscii-append}
+use Rattle.std.proofs.lemmas.Str.{IsUtf8-append}
 use Rattle.std.proofs.lemmas.Str.Ascii.{IsAscii-cons, IsAscii-nil}
 use Rattle.board_text.specs.PlaceForms.{place_word}
 use Rattle.board_text.proofs.PlaceLemmas.{blank_word, label_word}
@@ -136,24 +137,31 @@ part_long : (count k : ℕ) (room ys : List ℕ) → length room ≡ 512 → cou
 part_long count k room ys all fits long =
     long ∙ length-take-le k (drop count room) (let rest = length-drop count room in omega arith)
 
-pub gathered_more : (count k size : ℕ) (room ys : List ℕ) → IsGathered room count → count + k ≤ 512
-    → length ys ≡ length (take k (drop count room)) → size ≤ k → IsAscii (take size ys)
-    → IsGathered (put_mid count k room ys) (count + size)
-gathered_more count k size room ys is fits long few ascii =
+pub gathered_more : (count k size : ℕ) (written room ys : List ℕ) → IsGathered written room count → count + k ≤ 512
+    → length ys ≡ length (take k (drop count room)) → size ≤ k → IsUtf8 (take size ys)
+    → IsGathered written (put_mid count k room ys) (count + size)
+gathered_more count k size written room ys is fits long few utf8 =
     let all : length room ≡ 512 = is.size in
     let short : length ys ≡ k = part_long count k room ys all fits long in
     record {
       size = same_len_mid count k room ys long ∙ all;
       inside = omega arith;
-      ascii = subst IsAscii (sym (put_taken count k size room ys (omega arith) (omega arith)))
-          (IsAscii-append (take count room) (take size ys) is.ascii ascii);
+      whole = is.whole;
+      gathered = subst IsUtf8 (sym (put_taken count k size room ys (omega arith) (omega arith)))
+          (IsUtf8-append (take count room) (take size ys) is.gathered utf8);
     }
 
-pub bytes_more : (count k size : ℕ) (text room ys old : List ℕ) → IsGathered room count → count + k ≤ 512
-    → length ys ≡ length (take k (drop count room)) → size ≤ k → text ++ take count room ≡ old
-    → text ++ take (count + size) (put_mid count k room ys) ≡ old ++ take size ys
-bytes_more count k size text room ys old is fits long few before =
+pub bytes_more : (count k size : ℕ) (written room ys old : List ℕ) → IsGathered written room count → count + k ≤ 512
+    → length ys ≡ length (take k (drop count room)) → size ≤ k → written ++ take count room ≡ old
+    → written ++ take (count + size) (put_mid count k room ys) ≡ old ++ take size ys
+bytes_more count k size written room ys old is fits long few before =
     let all : length room ≡ 512 = is.size in
     let short : length ys ≡ k = part_long count k room ys all fits long in
-    ap (λ l. text ++ l) (put_taken count k size room ys (omega arith) (omega arith))
-    ∙ sym (append_assoc text (take count room) (take size ys)) ∙ ap (λ l. l ++ take size ys) before
+    ap (λ l. written ++ l) (put_taken count k size room ys (omega arith) (omega arith))
+    ∙ sym (append_assoc written (take count room) (take size ys)) ∙ ap (λ l. l ++ take size ys) before
+
+-- the text after bytes were appended, unless memory was refused
+pub utf8_more : {T E : Type 0} (r : Result T E) (old more new : List ℕ) → new ≡ (if is_ok r then old ++ more else old)
+    → IsUtf8 old → IsUtf8 more → IsUtf8 new
+utf8_more (Ok x) old more new is whole part = subst IsUtf8 (sym is) (IsUtf8-append old more whole part)
+utf8_more (Err x) old more new is whole part = subst IsUtf8 (sym is) whole

@@ -18,7 +18,6 @@ use Rattle.positions.specs.Table.{AnswerRow}
 use Rattle.positions.specs.Ranks.{rank_of, configuration_at}
 use Rattle.positions.proofs.Cited.{configuration_at-rank_of}
 use Rattle.proof_text.specs.declared.class_proof.LabellerClassRow.{LabellerClassRow}
-use Rattle.proof_text.specs.declared.fault.ProofKind.{ProofKind}
 use Rattle.proof_text.specs.declared.fault.ProofKind.TheVariants as kinds
 use Rattle.proof_text.specs.declared.proof.TheConstants.{MOST_TURNS}
 use Rattle.proof_text.specs.declared.row_words.AnswerValues.{AnswerValues}

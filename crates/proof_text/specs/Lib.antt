@@ -5,6 +5,7 @@ pub mod ProofText
 pub mod RowWords
 pub mod RowFaults
 pub mod RowForm
+pub mod RowText
 pub mod SectionFaults
 pub mod Versions
 pub mod Documents

@@ -7,7 +7,7 @@ use crate::fault::ProofKind;
 use crate::numbers::arranged_order;
 use crate::row_text::{PlaceWords, RowText};
 use crate::row_words::class_request_words;
-use crate::rows::{Row, read_answer, write_answer, write_places};
+use crate::rows::{Row, read_answer};
 use board_text::line_reader::LineReader;
 use board_text::{Board, MAX_PEBBLES};
 use positions::Claim;
@@ -63,8 +63,7 @@ impl Row<Board> for LabellerClassRow {
         board: &Board,
     ) -> Result<(), AllocError> {
         let pebbles = board.pebbles() as usize;
-        write_answer(
-            text,
+        text.push_answer(
             words,
             &self.at[..pebbles],
             self.turns,
@@ -146,12 +145,7 @@ impl Row<Board> for AdversaryClassRow {
         words: &PlaceWords,
         board: &Board,
     ) -> Result<(), AllocError> {
-        text.push_bytes(b"at")?;
-        write_places(text, words, &self.at[..board.pebbles() as usize])?;
-        text.push_bytes(b" for")?;
-        text.push_number(self.left)?;
-        text.push_bytes(b" ask")?;
-        text.push_place(words, self.ask)?;
-        text.push_bytes(b"\n")
+        let places = &self.at[..board.pebbles() as usize];
+        text.push_class_request(words, places, self.left, self.ask)
     }
 }

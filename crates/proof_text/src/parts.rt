@@ -1,13 +1,13 @@
 //! The lines of a section's rows, made in parts.
 
-ghost use Rattle.std.specs.Prelude.{◌≡◌, ◌≤◌, ◌++◌, All, IfOk, OnOk, flat_map, string_bytes};
+ghost use Rattle.std.specs.Prelude.{◌≡◌, ◌≤◌, ◌++◌, All, IfOk, OnOk, flat_map};
 ghost use Rattle.positions.specs.declared.claim.Claim.{Claim as ClaimData};
 ghost use Rattle.proof_text.specs.RowForm.{text_of_section};
 
 use crate::printing::size_of_lines;
-use crate::row_text::PlaceWords;
+use crate::row_text::{PlaceWords, RowText};
 use crate::rows::{BoardOfRows, Row};
-use crate::sections::{write_head, write_rows};
+use crate::sections::write_rows;
 use positions::Claim;
 use rayon::prelude::*;
 use std::alloc::{AllocError, Global};
@@ -18,7 +18,7 @@ use std::thread::Threads;
 pub(crate) fn write_in_parts<B: BoardOfRows + Sync, R: Row<B> + Sync>(
     rt: &(impl Threads + Sync),
     alloc: Global,
-    text: &mut String,
+    text: &mut RowText,
     words: &PlaceWords,
     board: &B,
     claim: Claim,
@@ -28,15 +28,15 @@ pub(crate) fn write_in_parts<B: BoardOfRows + Sync, R: Row<B> + Sync>(
     requires words { words.now ≡ (B.board board.now).labels }
     requires of_board { All (R.IsOfBoard (B.board board.now)) rows.now }
     requires parts { 1 ≤ parts }
-    ensures { OnOk result (string_bytes text.new ≡ string_bytes text.old
+    ensures { OnOk result (text.new.bytes ≡ text.old.bytes
         ++ text_of_section (R.reading (B.board board.now) claim).form rows.now) }
 {
     if !R::is_asked(claim) {
         return Ok(());
     }
-    write_head::<B, R>(text, claim, rows.len())?;
+    text.push_head(R::word(), rows.len())?;
     for lines in &lines_in_parts(rt, alloc, words, board, rows, parts)? {
-        text.push_str(lines.as_str())?;
+        text.push_all(lines)?;
     }
     Ok(())
 }
@@ -50,23 +50,23 @@ fn lines_in_parts<B: BoardOfRows + Sync, R: Row<B> + Sync>(
     board: &B,
     rows: &[R],
     parts: u32,
-) -> Result<Vec<String>, AllocError>
+) -> Result<Vec<RowText>, AllocError>
     requires words { words.now ≡ (B.board board.now).labels }
     requires of_board { All (R.IsOfBoard (B.board board.now)) rows.now }
     requires parts { 1 ≤ parts }
     ensures { IfOk result (λ parts. (claim : ClaimData)
-        → flat_map string_bytes parts.items
+        → flat_map (λ lines. lines.bytes) parts.items
         ≡ flat_map (R.reading (B.board board.now) claim).form.line rows.now) }
 {
     let size = rows.len().div_ceil(parts as usize).max(1);
-    let lines: Result<Vec<String>, AllocError> = rows
+    let lines: Result<Vec<RowText>, AllocError> = rows
         .par_chunks(size)
         .map(
-            |part: &[R]| -> Result<String, AllocError>
+            |part: &[R]| -> Result<RowText, AllocError>
                 requires words { words.now ≡ (B.board board.now).labels }
                 requires of_board { All (R.IsOfBoard (B.board board.now)) part.now }
                 ensures { IfOk result (λ lines. (claim : ClaimData)
-                    → string_bytes lines
+                    → lines.bytes
                     ≡ flat_map (R.reading (B.board board.entry.now) claim).form.line part.now) }
             { lines_of(alloc, words, board, part) },
         )
@@ -80,13 +80,14 @@ fn lines_of<B: BoardOfRows, R: Row<B>>(
     words: &PlaceWords,
     board: &B,
     rows: &[R],
-) -> Result<String, AllocError>
+) -> Result<RowText, AllocError>
     requires words { words.now ≡ (B.board board.now).labels }
     requires of_board { All (R.IsOfBoard (B.board board.now)) rows.now }
     ensures { IfOk result (λ lines. (claim : ClaimData)
-        → string_bytes lines ≡ flat_map (R.reading (B.board board.now) claim).form.line rows.now) }
+        → lines.bytes ≡ flat_map (R.reading (B.board board.now) claim).form.line rows.now) }
 {
     let size = size_of_lines(board.labels(), board.pebbles(), rows.len());
-    let lines = String::with_capacity(alloc, size)?;
-    write_rows(lines, words, board, rows)
+    let mut lines = RowText::new(String::with_capacity(alloc, size)?);
+    write_rows(&mut lines, words, board, rows)?;
+    Ok(lines)
 }

@@ -8,7 +8,7 @@ use crate::fault::ProofKind;
 use crate::proof::{AdversaryRow, LabellerRow};
 use crate::row_text::{PlaceWords, RowText};
 use crate::row_words::request_words;
-use crate::rows::{Row, read_answer, write_answer, write_places};
+use crate::rows::{Row, read_answer};
 use board_text::MAX_PEBBLES;
 use board_text::line_reader::LineReader;
 use positions::{Claim, MAX_CONFIGURATIONS, Space};
@@ -68,13 +68,7 @@ impl Row<Space> for LabellerRow {
     ) -> Result<(), AllocError> {
         let pebbles = space.pebbles() as usize;
         let places = space.places_at(self.at);
-        write_answer(
-            text,
-            words,
-            &places[..pebbles],
-            self.turns,
-            &self.take[..pebbles],
-        )
+        text.push_answer(words, &places[..pebbles], self.turns, &self.take[..pebbles])
     }
 }
 
@@ -151,12 +145,6 @@ impl Row<Space> for AdversaryRow {
     ) -> Result<(), AllocError> {
         let pebbles = space.pebbles() as usize;
         let places = space.places_at(self.at);
-        text.push_bytes(b"at")?;
-        write_places(text, words, &places[..pebbles])?;
-        text.push_bytes(b" for")?;
-        text.push_number(self.left)?;
-        text.push_bytes(b" ask")?;
-        text.push_number(u32::from(self.ask))?;
-        text.push_bytes(b"\n")
+        text.push_request(words, &places[..pebbles], self.left, self.ask)
     }
 }

@@ -1,4 +1,4 @@
-//! Text to which rows append words of up to four bytes, a few rows at once.
+//! Text to which rows append words of up to four bytes, which are gathered a few rows at once.
 
 ghost use Rattle.std.specs.Prelude.{◌≡◌, ◌+◌, ◌<◌, ◌≤◌, ◌++◌, ◌∷◌, length, IfOk, MatchOption, OnOk};
 ghost use Rattle.std.specs.Prelude.{string_bytes};
@@ -7,7 +7,8 @@ ghost use Rattle.std.specs.Str.{IsAscii};
 ghost use Rattle.board_text.specs.PlaceForms.{place_word};
 ghost use Rattle.proof_text.specs.Inside.RowText.{IsWordWith, bytes_of_word};
 
-use board_text::{Memory, write_number};
+use board_text::Memory;
+use itoa::Buffer;
 use std::alloc::{AllocError, Global};
 use std::marker::Model;
 
@@ -54,7 +55,7 @@ impl Word {
 ///
 /// Contracts see the number of labels.
 #[derive(Drop)]
-pub(crate) struct PlaceWords {
+pub struct PlaceWords {
     labels: u16,
     words: Vec<Word>,
 }
@@ -72,7 +73,7 @@ impl Model for PlaceWords {
 
 impl PlaceWords {
     /// The words of the labels below `labels`, and of the place without a label.
-    pub(crate) fn of(alloc: Global, labels: u16) -> Result<PlaceWords, Memory>
+    pub fn of(alloc: Global, labels: u16) -> Result<PlaceWords, Memory>
         requires { labels < 1000 }
         ensures { IfOk result (λ words. words ≡ labels) }
     {
@@ -101,35 +102,36 @@ impl PlaceWords {
 
 /// A text, and bytes that are to come after it.
 ///
-/// Contracts see the bytes of both.
+/// Contracts see the bytes of both, and how many of them are to come.
 #[derive(Drop)]
-pub(crate) struct RowText {
-    text: String,
+pub struct RowText {
+    written: Vec<u8>,
     room: [u8; ROOM],
     count: usize,
 }
 
 impl Model for RowText {
-    ghost use Rattle.std.specs.Prelude.{◌++◌, take, string_bytes};
-    ghost use Rattle.proof_text.specs.Inside.RowText.{RowBytes, IsGathered};
+    ghost use Rattle.std.specs.Prelude.{◌++◌, take};
+    ghost use Rattle.proof_text.specs.RowText.{RowBytes};
+    ghost use Rattle.proof_text.specs.Inside.RowText.{IsGathered};
 
     ghost Value = { RowBytes };
 
     ghost view = { λ s. record {
-      bytes = string_bytes s.text ++ take s.count s.room;
+      bytes = s.written.items ++ take s.count s.room;
       count = s.count;
     } };
 
-    ghost invariant = { λ s. IsGathered s.room s.count };
+    ghost invariant = { λ s. IsGathered s.written.items s.room s.count };
 }
 
 impl RowText {
-    /// The bytes of `text`.
-    pub(crate) fn new(text: String) -> RowText
+    /// The bytes of `text`, in its room.
+    pub fn new(text: String) -> RowText
         ensures { result.bytes ≡ string_bytes text }
     {
         RowText {
-            text,
+            written: text.into_bytes(),
             room: [0; ROOM],
             count: 0,
         }
@@ -142,16 +144,13 @@ impl RowText {
         ensures bytes { OnOk result (self.new.bytes ≡ self.old.bytes) }
         ensures room { OnOk result (self.new.count ≡ 0) }
     {
-        match str::from_utf8(&self.room[..self.count]) {
-            Ok(gathered) => self.text.push_str(gathered)?,
-            Err(_) => unreachable!(),
-        }
+        self.written.extend_from_slice(&self.room[..self.count])?;
         self.count = 0;
         Ok(())
     }
 
     /// Appends a word.
-    pub(crate) fn push_word(&mut self, word: Word) -> Result<(), AllocError>
+    fn push_word(&mut self, word: Word) -> Result<(), AllocError>
         requires few { word.size ≤ 4 }
         requires ascii { IsAscii (bytes_of_word word) }
         ensures { OnOk result (self.new.bytes ≡ self.old.bytes ++ bytes_of_word word) }
@@ -175,13 +174,13 @@ impl RowText {
         self.count = count + word.size as usize;
     }
 
-    /// Appends these bytes, of which there are few: their number is known where it is called.
+    /// Appends `text`, which has few bytes: their number is known where this is called.
     #[inline(always)]
-    pub(crate) fn push_bytes(&mut self, bytes: &[u8]) -> Result<(), AllocError>
-        requires few { length bytes.now ≤ ROOM }
-        requires ascii { IsAscii bytes.now }
-        ensures { OnOk result (self.new.bytes ≡ self.old.bytes ++ bytes.now) }
+    pub(crate) fn push_str(&mut self, text: &str) -> Result<(), AllocError>
+        requires { length text.now ≤ ROOM }
+        ensures { OnOk result (self.new.bytes ≡ self.old.bytes ++ text.now) }
     {
+        let bytes = text.as_bytes();
         if self.count + bytes.len() > ROOM {
             self.flush()?;
         }
@@ -191,6 +190,23 @@ impl RowText {
         Ok(())
     }
 
+    /// Appends `text`, however long it is.
+    pub(crate) fn push_text(&mut self, text: &str) -> Result<(), AllocError>
+        ensures { OnOk result (self.new.bytes ≡ self.old.bytes ++ text.now) }
+    {
+        self.flush()?;
+        self.written.extend_from_slice(text.as_bytes())
+    }
+
+    /// Appends all of `other`.
+    pub(crate) fn push_all(&mut self, other: &RowText) -> Result<(), AllocError>
+        ensures { OnOk result (self.new.bytes ≡ self.old.bytes ++ other.now.bytes) }
+    {
+        self.flush()?;
+        self.written.extend_from_slice(&other.written)?;
+        self.written.extend_from_slice(&other.room[..other.count])
+    }
+
     /// Appends a place with a space before it.
     pub(crate) fn push_place(&mut self, words: &PlaceWords, place: u16) -> Result<(), AllocError>
         ensures { OnOk result
@@ -198,7 +214,7 @@ impl RowText {
     {
         match words.word(place) {
             Some(word) => self.push_word(word),
-            None => self.push_number(place as u32),
+            None => self.push_number(u32::from(place)),
         }
     }
 
@@ -209,16 +225,28 @@ impl RowText {
         if number < 1000 {
             return self.push_word(Word::of(number));
         }
-        self.flush()?;
-        write_number(&mut self.text, number)
+        self.push_str(" ")?;
+        self.push_str(Buffer::new().format(number))
+    }
+
+    /// The bytes of the whole text.
+    pub fn finish(self) -> Result<Vec<u8>, AllocError>
+        ensures { IfOk result (λ bytes. bytes.items ≡ self.bytes) }
+    {
+        let mut whole = self;
+        whole.flush()?;
+        Ok(whole.written)
     }
 
     /// The whole text.
-    pub(crate) fn finish(self) -> Result<String, AllocError>
+    pub(crate) fn finish_text(self) -> Result<String, AllocError>
         ensures { IfOk result (λ text. string_bytes text ≡ self.bytes) }
     {
         let mut whole = self;
         whole.flush()?;
-        Ok(whole.text)
+        match String::from_utf8(whole.written) {
+            Ok(text) => Ok(text),
+            Err(_) => unreachable!(),
+        }
     }
 }

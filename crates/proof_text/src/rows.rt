@@ -1,10 +1,8 @@
 //! The rows of a document, of either side and in either version: how they are read and written.
 
 ghost use Rattle.std.specs.Prelude.{◌≡◌, ◌<◌, ◌≤◌, ◌++◌, OnOk};
-ghost use Rattle.board_text.specs.PlaceForms.{spaced_places};
 ghost use Rattle.board_text.specs.PlainBoard.{PlainBoard, IsBoard, places as places_of};
 ghost use Rattle.positions.specs.declared.claim.Claim.{Claim as ClaimData};
-ghost use Rattle.proof_text.specs.ProofText.{answer_line};
 ghost use Rattle.proof_text.specs.SectionFaults.{RowReading};
 ghost use Rattle.proof_text.specs.Inside.Rows.{NextRow, AreKindsOfRows, TakesAnswer};
 
@@ -14,7 +12,7 @@ use crate::row_text::{PlaceWords, RowText};
 use crate::row_words::answer_words;
 use board_text::line_reader::LineReader;
 use board_text::{Board, MAX_PEBBLES};
-use positions::{Claim, Space, Turns};
+use positions::{Claim, Space};
 use std::alloc::AllocError;
 
 /// The board that rows are for, in the form that a version of documents needs.
@@ -142,43 +140,4 @@ pub(crate) fn read_answer<B: BoardOfRows>(
         return Err(ProofKind::Number);
     };
     Ok(LabellerClassRow { at, turns, take })
-}
-
-/// Appends the line of a labeller's row with these values.
-pub(crate) fn write_answer(
-    text: &mut RowText,
-    words: &PlaceWords,
-    at: &[u16],
-    turns: Turns,
-    take: &[u16],
-) -> Result<(), AllocError>
-    ensures { OnOk result ((board : PlainBoard) → words.now ≡ board.labels
-        → text.new.bytes ≡ text.old.bytes
-        ++ answer_line board (record { at = at.now; turns = turns; answers = take.now })) }
-{
-    text.push_bytes(b"at")?;
-    write_places(text, words, at)?;
-    text.push_bytes(b" for")?;
-    match turns {
-        Turns::Count(number) => text.push_number(number)?,
-        Turns::Always => text.push_bytes(b" *")?,
-    }
-    text.push_bytes(b" take")?;
-    write_places(text, words, take)?;
-    text.push_bytes(b"\n")
-}
-
-/// Appends `places`, each with a space before it.
-pub(crate) fn write_places(
-    text: &mut RowText,
-    words: &PlaceWords,
-    places: &[u16],
-) -> Result<(), AllocError>
-    ensures { OnOk result
-        (text.new.bytes ≡ text.old.bytes ++ spaced_places words.now places.now) }
-{
-    for place in places {
-        text.push_place(words, *place)?;
-    }
-    Ok(())
 }

@@ -1,9 +1,7 @@
 //! Reading and writing the sections of a document.
 
 ghost use Rattle.std.specs.Prelude.{◌≡◌, ◌<◌, ◌≤◌, ◌+◌, ◌++◌, true, if◌then◌else◌, All, IfOk};
-ghost use Rattle.std.specs.Prelude.{IfErr, OnOk, flat_map, string_bytes};
-ghost use Rattle.board_text.specs.LineForms.{number_line};
-ghost use Rattle.board_text.specs.PlainBoard.{PlainBoard};
+ghost use Rattle.std.specs.Prelude.{IfErr, OnOk, flat_map};
 ghost use Rattle.positions.specs.declared.claim.Claim.{Claim as ClaimData};
 ghost use Rattle.proof_text.specs.RowForm.{text_of_section};
 ghost use Rattle.proof_text.specs.SectionFaults.{InSection};
@@ -16,7 +14,6 @@ use crate::rows::{BoardOfRows, Row};
 use board_text::line_reader::LineReader;
 use positions::Claim;
 use std::alloc::{AllocError, Global};
-use std::fmt::Write;
 
 /// Takes a section from `text`, if `claim` asks for it,
 /// and returns its rows. Its head is at line `line`.
@@ -55,58 +52,43 @@ pub(crate) fn read_part<B: BoardOfRows, R: Row<B>>(
     Ok(rows)
 }
 
-/// The `text` with the section of `rows` after it, if `claim` asks for it.
+/// Appends the section of `rows`, if `claim` asks for it.
 pub(crate) fn write_part<B: BoardOfRows, R: Row<B>>(
-    text: String,
+    text: &mut RowText,
     words: &PlaceWords,
     board: &B,
     claim: Claim,
     rows: &[R],
-) -> Result<String, AllocError>
+) -> Result<(), AllocError>
     requires words { words.now ≡ (B.board board.now).labels }
     requires of_board { All (R.IsOfBoard (B.board board.now)) rows.now }
-    ensures { IfOk result (λ whole. string_bytes whole ≡ string_bytes text
+    ensures { OnOk result (text.new.bytes ≡ text.old.bytes
         ++ text_of_section (R.reading (B.board board.now) claim).form rows.now) }
 {
     if !R::is_asked(claim) {
-        return Ok(text);
+        return Ok(());
     }
-    let mut begun = text;
-    write_head::<B, R>(&mut begun, claim, rows.len())?;
-    write_rows(begun, words, board, rows)
+    text.push_head(R::word(), rows.len())?;
+    write_rows(text, words, board, rows)
 }
 
-/// Appends the first line of a section of `count` rows.
-pub(crate) fn write_head<B: BoardOfRows, R: Row<B>>(
-    text: &mut String,
-    claim: Claim,
-    count: usize,
-) -> Result<(), AllocError>
-    ensures { OnOk result ((board : PlainBoard)
-        → string_bytes text.new ≡ string_bytes text.old
-        ++ number_line (R.reading board claim).form.word count) }
-{
-    write!(text, "{} {count}\n", R::word())
-}
-
-/// The `text` with the lines of `rows` after it.
+/// Appends the lines of `rows`.
 pub(crate) fn write_rows<B: BoardOfRows, R: Row<B>>(
-    text: String,
+    text: &mut RowText,
     words: &PlaceWords,
     board: &B,
     rows: &[R],
-) -> Result<String, AllocError>
+) -> Result<(), AllocError>
     requires words { words.now ≡ (B.board board.now).labels }
     requires of_board { All (R.IsOfBoard (B.board board.now)) rows.now }
-    ensures { IfOk result (λ whole. (claim : ClaimData)
-        → string_bytes whole ≡ string_bytes text
+    ensures { OnOk result ((claim : ClaimData)
+        → text.new.bytes ≡ text.old.bytes
         ++ flat_map (R.reading (B.board board.now) claim).form.line rows.now) }
 {
-    let mut lines = RowText::new(text);
     for row in rows {
-        row.write(&mut lines, words, board)?;
+        row.write(text, words, board)?;
     }
-    lines.finish()
+    Ok(())
 }
 
 /// The number of lines of a section of `rows` rows: 0 unless it is `asked` for.

@@ -1,6 +1,6 @@
--- Words of up to four bytes, and a text to which they are appended a few rows at once.
+-- Words of up to four bytes, and how they are gathered after a text.
 use Rattle.std.specs.Prelude.{◌≡◌, ℕ, suc, ◌≤◌, ◌∷◌, List, length, take, slice_index_or}
-use Rattle.std.specs.Str.{IsAscii}
+use Rattle.std.specs.Str.{IsAscii, IsUtf8}
 use Rattle.board_text.specs.PlaceForms.{place_word}
 use Rattle.proof_text.specs.declared.row_text.Word.{Word}
 use Rattle.proof_text.specs.declared.row_text.TheConstants.{ROOM}
@@ -21,13 +21,9 @@ pub record ArePlaceWords (labels : ℕ) (words : List Word) : Type 0 where
   pub each : (place : ℕ) (d : Word) → place ≤ labels
       → IsWordWith (32 ∷ place_word labels place) (slice_index_or words place d)
 
--- the bytes of a text with those that are gathered after it, and how many these are
-pub record RowBytes : Type 0 where
-  pub bytes : List ℕ
-  pub count : ℕ
-
--- the gathered bytes are text
-pub record IsGathered (room : List ℕ) (count : ℕ) : Type 0 where
+-- the bytes of a text and those that are gathered after it are each a text of their own
+pub record IsGathered (written room : List ℕ) (count : ℕ) : Type 0 where
   pub size : length room ≡ ROOM
   pub inside : count ≤ ROOM
-  pub ascii : IsAscii (take count room)
+  pub whole : IsUtf8 written
+  pub gathered : IsUtf8 (take count room)

@@ -1,4 +1,4 @@
-use Rattle.std.proofs.Common.{◌<◌, ℕ, All, max, arith, sym, subst, string_bytes}
+use Rattle.std.proofs.Common.{◌<◌, ℕ, All, max, arith, sym, subst}
 use Rattle.proof_text.proofs.PartedLines.{parts_too, joined}
 use Rattle.proof_text.proofs.parts.lines_in_parts.Goals as goal
 
@@ -27,7 +27,7 @@ returns g c =
       c.par_chunks.ensures.size,
     ) at c.in_ok-lines.ensures in
     let chain = made.1 in
-    joined (λ claim. (g.R.Row.reading (g.B.BoardOfRows.board c.args.board.now) claim).form.line) string_bytes
+    joined (λ claim. (g.R.Row.reading (g.B.BoardOfRows.board c.args.board.now) claim).form.line) (λ lines. lines.bytes)
     (λ v. v.items)
     c.args.rows.now (max c.max-size.result 1)
     (some c.max-size.result) chain.0 chain.1 made.0 chain.2 c.in_ok-lines.lines made.2

@@ -1,5 +1,7 @@
-use Rattle.std.proofs.Common.{◌+◌, ◌-◌, ◌≤◌, ◌++◌, take, sym, ap, ◌∙◌, subst, arith, string_bytes}
-use Rattle.std.specs.Str.{IsAscii}
+use Rattle.std.proofs.Common.{◌+◌, ◌-◌, ◌≤◌, ◌++◌, take, sym, ap, ◌∙◌, subst, arith}
+use Rattle.std.specs.Str.{IsUtf8}
+use Rattle.std.proofs.lemmas.Str.{IsUtf8-from_ascii}
+use Rattle.proof_text.specs.Inside.RowText.{bytes_of_word}
 use Rattle.proof_text.proofs.GatheredWords.{gathered_more, bytes_more}
 use Rattle.proof_text.proofs.row_text.RowText.put.Goals as goal
 
@@ -7,15 +9,17 @@ pub invariant_of-self : goal.invariant_of-self
 invariant_of-self c =
     let s = c.self.inside in
     let room : s.count + 4 ≤ 512 = omega (arith, c.requires.room, ap (λ r. r.count) c.self.view_is) in
-    gathered_more s.count (s.count + 4 - s.count) c.args.word.size s.room c.copy_from_slice.new.self c.self.invariant
+    gathered_more s.count (s.count + 4 - s.count) c.args.word.size s.written.items s.room
+    c.copy_from_slice.new.self c.self.invariant
     (omega (arith, room)) c.copy_from_slice.ensures.len (omega (arith, c.requires.few))
-    (subst (λ l. IsAscii (take c.args.word.size l)) (sym c.copy_from_slice.ensures.after) c.requires.ascii)
+    (subst (λ l. IsUtf8 (take c.args.word.size l)) (sym c.copy_from_slice.ensures.after)
+    (IsUtf8-from_ascii (bytes_of_word c.args.word) c.requires.ascii))
 
 pub returns : goal.returns
 returns c =
     let s = c.self.inside in
     let room : s.count + 4 ≤ 512 = omega (arith, c.requires.room, ap (λ r. r.count) c.self.view_is) in
-    bytes_more s.count (s.count + 4 - s.count) c.args.word.size (string_bytes s.text) s.room c.copy_from_slice.new.self
+    bytes_more s.count (s.count + 4 - s.count) c.args.word.size s.written.items s.room c.copy_from_slice.new.self
     c.args.self.now.bytes c.self.invariant (omega (arith, room)) c.copy_from_slice.ensures.len (omega (
       arith,
       c.requires.few,

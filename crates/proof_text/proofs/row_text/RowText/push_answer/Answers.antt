@@ -6,9 +6,9 @@ use Rattle.board_text.specs.PlainBoard.{PlainBoard}
 use Rattle.positions.specs.declared.turns.Turns.{Turns}
 use Rattle.proof_text.specs.ProofText.{answer_line, turns_text}
 use Rattle.proof_text.proofs.RowLemmas.{line_written}
-use Rattle.proof_text.proofs.rows.write_answer.Goals as goal
-use Rattle.proof_text.proofs.rows.write_answer.Goals.{in-Count+in_ok-push_number-in-Count}
-use Rattle.proof_text.proofs.rows.write_answer.Goals.{in-Always+in_ok-push_bytes-in-Always}
+use Rattle.proof_text.proofs.row_text.RowText.push_answer.Goals as goal
+use Rattle.proof_text.proofs.row_text.RowText.push_answer.Goals.{in-Count+in_ok-push_number-in-Count}
+use Rattle.proof_text.proofs.row_text.RowText.push_answer.Goals.{in-Always+in_ok-push_str-in-Always}
 
 abbrev line_of : ℕ → List ℕ → Turns → List ℕ → List ℕ
 line_of labels at turns taken =
@@ -26,17 +26,17 @@ of_each (Err x) labels at taken old new turns e = tt
 pub returns : goal.returns
 returns c =
     let labels = c.args.words.now in
-    let turns : c.match-turns.text.bytes ≡ c.push_bytes-2.new.self.bytes ++ 32 ∷ turns_text c.args.turns =
+    let turns : c.match-turns.self.bytes ≡ c.push_str-2.new.self.bytes ++ 32 ∷ turns_text c.args.turns =
     elim c.match-turns.branch [
       | in-Count+in_ok-push_number-in-Count w ↦
-          rw (w.text-is, w.in-Count.is) w.in_ok-push_number-in-Count.ensures
-      | in-Always+in_ok-push_bytes-in-Always w ↦
-          rw (w.text-is, w.in-Always.is) w.in_ok-push_bytes-in-Always.ensures
+          rw (w.self-is, w.in-Count.is) w.in_ok-push_number-in-Count.ensures
+      | in-Always+in_ok-push_str-in-Always w ↦
+          rw (w.self-is, w.in-Always.is) w.in_ok-push_str-in-Always.ensures
     ] in
-    of_each c.push_bytes-4.result labels c.args.at.now c.args.take.now c.args.text.now.bytes
-    c.push_bytes-4.new.self.bytes c.args.turns
-    (line_written c.push_bytes-4.result (codes "at") (spaced_places labels c.args.at.now) (codes " for")
+    of_each c.push_str-4.result labels c.args.at.now c.args.take.now c.args.self.now.bytes
+    c.push_str-4.new.self.bytes c.args.turns
+    (line_written c.push_str-4.result (codes "at") (spaced_places labels c.args.at.now) (codes " for")
     (32 ∷ turns_text c.args.turns)
     (codes " take") (spaced_places labels c.args.take.now) _ _ _ _ _ _ _ _
-    c.in_ok-push_bytes.ensures c.in_ok-write_places.ensures c.in_ok-push_bytes-2.ensures turns
-    c.in_ok-push_bytes-3.ensures c.in_ok-write_places-2.ensures c.push_bytes-4.ensures)
+    c.in_ok-push_str.ensures c.in_ok-push_places.ensures c.in_ok-push_str-2.ensures turns
+    c.in_ok-push_str-3.ensures c.in_ok-push_places-2.ensures c.push_str-4.ensures)
