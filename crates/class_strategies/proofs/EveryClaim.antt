@@ -22,8 +22,8 @@ use Rattle.strategies.proofs.BestRequests.{best_request}
 use Rattle.strategies.proofs.RowTurns.{Keeps, enough_left}
 use Rattle.strategies.proofs.DocumentRows.{each_number, answers_one}
 use Rattle.proof_text.specs.Arranged.{arranged}
-use Rattle.class_documents.specs.ClassRules.{MeetsClassRequests, LabellerObeysByClass, asked_pebble}
-use Rattle.class_documents.specs.ClassRules.{MeetsClassAnswers, AdversaryObeysByClass}
+use Rattle.proof_check.specs.ClassRules.{MeetsClassRequests, LabellerObeysByClass, asked_pebble}
+use Rattle.proof_check.specs.ClassRules.{MeetsClassAnswers, AdversaryObeysByClass}
 use Rattle.proof_text.proofs.Cited.{arranged_is}
 use Rattle.class_strategies.proofs.ArrangedAgain.{arranged-again}
 use Rattle.class_strategies.proofs.LikePebbles.{arranged-value, first-best}

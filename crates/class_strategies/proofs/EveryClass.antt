@@ -9,7 +9,7 @@ use Rattle.std.proofs.lemmas.List.Quantifiers.{all_pairs_push}
 use lib.Pointwise.{pointwise, bytes_decides}
 use Rattle.board_text.specs.PlainBoard.{PlainBoard, IsConfiguration, places}
 use Rattle.proof_text.specs.Arranged.{arranged, order_number, IsClassBefore}
-use Rattle.class_documents.specs.ClassFaults.{HasClassRow}
+use Rattle.proof_check.specs.FirstFaults.{HasRow}
 use Rattle.class_strategies.specs.Inside.ReachedClasses.{class_numbered}
 use Rattle.class_strategies.proofs.ClassNumbers.{class_numbered-order}
 
@@ -61,7 +61,7 @@ pub record RowsBelow {X : Type 0} (board : PlainBoard) (IsRow : X → Type 0) (a
   pub below : All (λ x. order_number board.labels (at x) < bound) rows
   pub ascending : AllPairs (λ first second. IsClassBefore board.labels (at first) (at second)) rows
   pub covers : (c : List ℕ) → IsArrangedAt board c → Wants c → order_number board.labels c < bound
-      → HasClassRow at rows c
+      → HasRow at rows c
 
 module _ {X : Type 0} (board : PlainBoard) (IsRow : X → Type 0) (at : X → List ℕ) (Wants : List ℕ → Type 0)
     (make : (c : List ℕ) → IsArrangedAt board c → Wants c → (x : X) × IsRow x × (at x ≡ c))

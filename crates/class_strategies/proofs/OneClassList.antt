@@ -21,9 +21,9 @@ use Rattle.strategies.proofs.BestAnswers.{same_answer}
 use Rattle.strategies.proofs.BestRequests.{same_request}
 use Rattle.strategies.proofs.OneList.{IsAscending, behind_first, tail_ascends}
 use Rattle.proof_text.specs.Arranged.{arranged, order_number}
-use Rattle.class_documents.specs.ClassRules.{asked_pebble}
+use Rattle.proof_check.specs.ClassRules.{asked_pebble}
 use Rattle.proof_text.proofs.Cited.{arranged_is}
-use Rattle.class_documents.proofs.ClassTrees.{asked_below}
+use Rattle.proof_check.proofs.Cited.{asked_below}
 use Rattle.class_strategies.specs.ClassDocument.{AreExactlyClasses, IsAdversaryClassRow, IsClassDocumentOf}
 use Rattle.class_strategies.specs.ClassDocument.{IsLabellerClassRow, LeadsByClasses}
 use Rattle.class_strategies.specs.Inside.ClassSide.{AreOfReachedClasses, class_labeller_side, class_adversary_side}

@@ -30,9 +30,9 @@ use Rattle.proof_text.specs.RowForm.{AreRows}
 use Rattle.proof_text.specs.ClassProof.{IsClassRequestRow}
 use Rattle.proof_text.specs.Documents.{IsClassProof}
 use Rattle.proof_text.specs.Versions.{answers_by_classes, requests_by_classes}
-use Rattle.class_documents.specs.ClassRules.{BreaksNoClassRule}
+use Rattle.proof_check.specs.ClassRules.{BreaksNoClassRule}
 use Rattle.proof_text.specs.declared.class_proof.TheConstants.{MAX_CLASS_ROWS}
-use Rattle.class_documents.proofs.ClassClaims.{start_claim_holds}
+use Rattle.proof_check.proofs.Cited.{start_claim_holds}
 use Rattle.class_strategies.proofs.ArrangedAgain.{one-arranged}
 use Rattle.class_strategies.proofs.EveryClass.{IsArrangedAt, RowsBelow}
 use Rattle.class_strategies.proofs.EveryClaim.{AnswerRows, RequestRows, IsRowFor, IsRequestFor, answer_rows}

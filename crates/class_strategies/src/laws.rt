@@ -10,7 +10,7 @@ ghost use Rattle.positions.specs.declared.value.Value.TheVariants.{Finite};
 ghost use Rattle.proof_text.specs.Proof.{PlainProof, IsClaim};
 ghost use Rattle.proof_text.specs.Documents.{IsClassProof};
 ghost use Rattle.proof_text.specs.ProofText.{class_text};
-ghost use Rattle.class_documents.specs.ClassRules.{BreaksNoClassRule};
+ghost use Rattle.proof_check.specs.ClassRules.{BreaksNoClassRule};
 ghost use Rattle.class_strategies.specs.ClassDocument.{IsClassDocumentOf, FitsFormat};
 
 use proof_text::{MAX_CLASS_ROWS, MOST_TURNS};

@@ -8,7 +8,7 @@ use Rattle.classes.proofs.Cited.{few-of-small}
 use Rattle.proof_text.specs.Proof.{PlainProof, IsClaim}
 use Rattle.proof_text.specs.Documents.{IsProof, IsClassProof}
 use Rattle.proof_text.specs.Rules.{BreaksNoRule}
-use Rattle.class_documents.specs.ClassRules.{BreaksNoClassRule}
+use Rattle.proof_check.specs.ClassRules.{BreaksNoClassRule}
 use Rattle.class_strategies.proofs.Cited.{claims_shown}
 use Rattle.domains.proofs.ShownDocuments.{claims_of_documents, documents_for}
 

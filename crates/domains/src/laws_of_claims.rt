@@ -8,7 +8,7 @@ ghost use Rattle.positions.specs.declared.claim.Claim.{Claim as ClaimData};
 ghost use Rattle.proof_text.specs.Proof.{PlainProof, IsClaim};
 ghost use Rattle.proof_text.specs.Documents.{IsProof, IsClassProof};
 ghost use Rattle.proof_text.specs.Rules.{BreaksNoRule};
-ghost use Rattle.class_documents.specs.ClassRules.{BreaksNoClassRule};
+ghost use Rattle.proof_check.specs.ClassRules.{BreaksNoClassRule};
 
 use positions::MAX_CONFIGURATIONS;
 

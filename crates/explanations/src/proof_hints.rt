@@ -8,9 +8,8 @@ use crate::inputs::{Given, Inputs, Origin};
 use crate::lines::{flaw, spaces_before};
 use crate::parts::{Parts, mistake, number_mistake, words};
 use crate::sizes::Sizes;
-use class_documents::ClassFault;
 use positions::MAX_CONFIGURATIONS;
-use proof_check::{CheckFault, Side};
+use proof_check::{CheckFault, ClassFault, Side};
 use proof_text::{MAX_CLASS_ROWS, MOST_TURNS, ProofFault, ProofKind};
 use runs::board_length;
 

@@ -1,93 +1,50 @@
 -- The fault of a document: it has one at most, which names ranks of the board, and one that breaks
 -- no rule has none.
-use Rattle.std.proofs.Common.{◌≡◌, ◌≢◌, ◌⊎◌, ℕ, suc, ◌<◌, List, Option, Some, None, slice_get, MatchOption, sym, ◌∙◌}
-use Rattle.std.proofs.Common.{subst, arith, inl}
-use Rattle.std.proofs.Common.{inr}
+use Rattle.std.proofs.Common.{◌≡◌, ◌≢◌, ℕ, ◌<◌, List, Option, Some, None, MatchOption, sym, subst, inl, inr}
 use Rattle.std.specs.List.{All, Contains}
 use Rattle.std.proofs.lemmas.List.Elements.{All-contains}
-use Rattle.std.proofs.lemmas.Option.{same_Some}
 use Rattle.board_text.specs.PlainBoard.{PlainBoard, IsConfiguration}
 use Rattle.positions.specs.Game.{Legal, moved}
 use Rattle.positions.specs.Ranks.{rank_of, configurations}
 use Rattle.positions.specs.Table.{AnswerRow, RequestRow}
-use Rattle.positions.specs.declared.claim.Claim.{Claim}
-use Rattle.positions.specs.declared.claim.Claim.TheVariants.{Exactly, AtLeast, AtMost, Forever}
+use Rattle.positions.specs.declared.side.Side.TheVariants.{Labeller, Adversary}
 use Rattle.positions.proofs.Cited.{rank_below}
 use Rattle.proof_text.specs.Proof.{PlainProof}
 use Rattle.proof_text.specs.Documents.{IsProof}
-use Rattle.proof_text.specs.Rules.{BreaksNoRule, Serves, IsListedBelow, LabellerObeys, AdversaryObeys, MeetsRequest}
-use Rattle.proof_text.specs.Rules.{MeetsRequests}
-use Rattle.proof_text.specs.Rules.{MeetsAnswer, MeetsAnswers, one_less, wanted_of, StartIsBelow}
+use Rattle.proof_text.specs.Rules.{BreaksNoRule, LabellerObeys, AdversaryObeys, MeetsRequest, MeetsRequests}
+use Rattle.proof_text.specs.Rules.{MeetsAnswers, wanted_of}
 use Rattle.proof_check.specs.declared.fault.CheckFault.{CheckFault}
 use Rattle.proof_check.specs.declared.fault.CheckFault.TheVariants as faults
-use Rattle.proof_check.specs.CheckFaults.{LabellerBreach, AdversaryBreach, IsWrongAt, IsWrongAfter, IsWrongAnswer}
-use Rattle.proof_check.specs.CheckFaults.{IsWrongRequest}
-use Rattle.proof_check.specs.CheckFaults.{IsWrongStart, IsWrongBound, bound_of, StartServes, IsFirstFault, IsCheckFault}
-use Rattle.proof_check.specs.CheckFaults.{NamesRanks}
-use Rattle.proof_check.proofs.Steps.{IsStep, kind, narrowed, where_so, either, unserved, of_some, first_turn, first_row}
+use Rattle.proof_check.specs.CheckFaults.{LabellerBreach, AdversaryBreach, IsWrongAnswer, IsWrongRequest}
+use Rattle.proof_check.specs.CheckFaults.{StartServes, IsFirstFault, IsCheckFault, NamesRanks}
+use Rattle.proof_check.proofs.Steps.{IsStep, narrowed, first_turn, first_row}
+use Rattle.proof_check.proofs.DocumentSteps.{request_step, answer_step, start_step, bound_step, document_step}
 
--- ---- a labeller's row
+-- ---- rows
 
-module _ (board : PlainBoard) {Ranked : Type 0} (rows : List AnswerRow) (row : AnswerRow)
-    (low : Ranked → rank_of board row.at < configurations board) where
-  request_step : (pebble : ℕ)
-      → IsStep board Ranked (MeetsRequest board rows row pebble) (IsWrongAt board rows row pebble)
-  request_step pebble = of_some _ (slice_get row.answers pebble) (λ label is.
-      let same = λ (meets : MeetsRequest board rows row pebble). same_Some meets.label label (sym meets.answer ∙ is) in
-      let result : ℕ → List ℕ = λ l. moved row.at pebble l in
-      let legal = λ (meets : MeetsRequest board rows row pebble). subst (Legal board row.at pebble)
-      (same meets) meets.legal in
-      either (kind (faults.IllegalAnswer (rank_of board row.at) pebble) (λ no meets. no (legal meets)) low)
-      (narrowed (λ meets. subst (λ l. Serves rows (result l) (one_less row.turns)) (same meets) meets.serves)
-      (λ fault w. (w.1, w.2))
-      (where_so (unserved _ _ (λ listed. (listed.row, listed.among, listed.at)) low low)))
-      (λ fault other a b. a.0 b.0))
+module _ (board : PlainBoard) {Ready : Type 0} (rows : List AnswerRow) (row : AnswerRow)
+    (low : Ready → rank_of board row.at < configurations board) where
+  pub labeller_row : IsStep (NamesRanks board) Ready (MeetsRequests board rows row) (IsWrongAnswer board rows row)
+  labeller_row = first_turn (λ pebble below.
+      request_step rows row.answers row.turns pebble (Legal board row.at pebble) (λ label. moved row.at pebble label)
+      (faults.IllegalAnswer (rank_of board row.at) pebble) (faults.Unlisted Labeller (rank_of board row.at) pebble)
+      (faults.TooSmall (rank_of board row.at) pebble)
+      (λ (meets : MeetsRequest board rows row pebble). (meets.label, meets.answer, meets.legal, meets.serves))
+      low low low)
 
-  pub labeller_row : IsStep board Ranked (MeetsRequests board rows row) (IsWrongAnswer board rows row)
-  labeller_row = first_turn (λ pebble below. request_step pebble)
-
--- ---- an adversary's row
-
-module _ (board : PlainBoard) {Ranked : Type 0} (rows : List RequestRow) (row : RequestRow)
-    (low : Ranked → rank_of board row.at < configurations board) where
-  answer_step : (label : ℕ) → Legal board row.at row.request label
-      → IsStep board Ranked (MeetsAnswer board rows row label) (IsWrongAfter board rows row label)
-  answer_step label legal =
-      either (kind (faults.NotStuck (rank_of board row.at) label) none_below low)
-      (narrowed (λ meets. meets legal) (λ fault w. w.1)
-      (unserved _ _ (λ listed. (listed.row, listed.among, listed.at)) low low))
-      (λ fault other a b. omega (arith, a.0, b.0))
-    where
-      none_below : row.left ≡ 0 → ¬ MeetsAnswer board rows row label
-      none_below zero meets =
-          let below : (meets legal).row.left < row.left = (meets legal).below in omega (arith, below, zero)
-
-  pub adversary_row : IsStep board Ranked (MeetsAnswers board rows row) (IsWrongRequest board rows row)
-  adversary_row = narrowed (λ meets label legal. meets label) (λ fault w. w) (first_turn answer_step)
+module _ (board : PlainBoard) {Ready : Type 0} (rows : List RequestRow) (row : RequestRow)
+    (low : Ready → rank_of board row.at < configurations board) where
+  pub adversary_row : IsStep (NamesRanks board) Ready (MeetsAnswers board rows row) (IsWrongRequest board rows row)
+  adversary_row = narrowed (λ meets label legal. meets label) (λ fault w. w) (first_turn (λ label legal.
+      answer_step rows row.left (moved row.at row.request label) (faults.NotStuck (rank_of board row.at) label)
+      (faults.Unlisted Adversary (rank_of board row.at) label) (faults.TooLarge (rank_of board row.at) label) legal
+      low low low))
 
 -- ---- the document
 
--- the start is listed as the bound of the claim asks
-bound_listed : (rows : List RequestRow) (start : List ℕ) (claim : Claim) (number : ℕ) → bound_of claim ≡ Some number
-    → StartIsBelow rows start claim → IsListedBelow rows start (suc number)
-bound_listed rows start (Exactly most) number is below =
-    subst (λ n. IsListedBelow rows start (suc n)) (same_Some most number is) below
-bound_listed rows start (AtMost most) number is below =
-    subst (λ n. IsListedBelow rows start (suc n)) (same_Some most number is) below
-bound_listed rows start (AtLeast least) number is below = absurd cc
-bound_listed rows start Forever number is below = absurd cc
-
 module _ (board : PlainBoard) (proof : PlainProof) where
   abbrev Step : Type 0 → (CheckFault → Type 0) → Type 0
-  Step = IsStep board (IsProof board proof)
-
-  start_step : Step (Serves proof.labeller board.start (wanted_of proof.claim)) (IsWrongStart board proof)
-  start_step = where_so (unserved _ _ (λ listed. (listed.row, listed.among, listed.at)) (λ _. tt) (λ _. tt))
-
-  bound_step : Step (StartIsBelow proof.adversary board.start proof.claim) (IsWrongBound board proof)
-  bound_step = of_some _ (bound_of proof.claim) (λ number is.
-      narrowed (bound_listed proof.adversary board.start proof.claim number is) (λ fault w. w)
-      (unserved _ _ (λ listed. (listed.row, listed.among, listed.at)) (λ _. tt) (λ _. tt)))
+  Step = IsStep (NamesRanks board) (IsProof board proof)
 
   low_rank : {X : Type 0} (at : X → List ℕ) (rows : List X) (row : X) → All (λ r. IsConfiguration board (at r)) rows
       → Contains rows row
@@ -103,30 +60,16 @@ module _ (board : PlainBoard) (proof : PlainProof) where
   adversary_step = first_row proof.adversary (λ row among. adversary_row board proof.adversary row (λ is.
       low_rank (λ r. r.at) proof.adversary row (λ k d lt. (is.adversary.each k d lt).at) among))
 
-  -- a fault of rows, after the start's numbers
-  abbrev InRows : CheckFault → Type 0
-  InRows fault = (StartServes board proof × LabellerBreach board proof.labeller fault)
-      ⊎ (StartServes board proof × LabellerObeys board proof.labeller × AdversaryBreach board proof.adversary fault)
-
-  starts_of : (fault : CheckFault) → InRows fault → StartServes board proof
-  starts_of fault (inl (starts, w)) = starts
-  starts_of fault (inr (starts, obeys, w)) = starts
-
-  serves_of : (fault : CheckFault)
-      → (Serves proof.labeller board.start (wanted_of proof.claim) × IsWrongBound board proof fault) ⊎ InRows fault
-      → Serves proof.labeller board.start (wanted_of proof.claim)
-  serves_of fault (inl (serves, w)) = serves
-  serves_of fault (inr rows) = (starts_of fault rows).labeller
-
   pub document : Step (BreaksNoRule board proof) (IsFirstFault board proof)
   document =
-      either (narrowed (λ rules. rules.start_serves) (λ fault w. w) start_step)
-      (either (narrowed (λ rules. rules.start_below) (λ fault w. w.1) bound_step)
-      (either (narrowed (λ rules. rules.labeller) (λ fault w. w.1) labeller_step)
-      (narrowed (λ rules. rules.adversary) (λ fault w. w.2) adversary_step)
-      (λ fault other a b. labeller_step.apart fault a.1 b.1))
-      (λ fault other a b. bound_step.apart fault a.1 (starts_of other b).adversary))
-      (λ fault other a b. start_step.apart fault a (serves_of other b))
+      document_step (λ (starts : StartServes board proof). starts.labeller) (λ starts. starts.adversary)
+      (λ (rules : BreaksNoRule board proof). rules.start_serves) (λ rules. rules.start_below)
+      (λ rules. rules.labeller) (λ rules. rules.adversary)
+      (start_step proof.labeller board.start (wanted_of proof.claim) (faults.StartMissing Labeller)
+      (faults.StartNumber Labeller) (λ _. tt) (λ _. tt))
+      (bound_step proof.adversary board.start proof.claim (faults.StartMissing Adversary)
+      (faults.StartNumber Adversary) (λ _. tt) (λ _. tt))
+      labeller_step adversary_step
 
   pub only_memory : (fault : CheckFault) → BreaksNoRule board proof → IsCheckFault board proof fault
       → fault ≡ faults.Memory

@@ -5,8 +5,7 @@ use Rattle.std.specs.List.{All, AllZip}
 use Rattle.std.proofs.lemmas.List.{map-append}
 use Rattle.std.proofs.lemmas.List.Elements.{All-nil, All-cons, All-map}
 use Rattle.rayon.specs.Lists.{filter_by_mask}
-use Rattle.proof_check.specs.declared.fault.CheckFault.{CheckFault}
-use Rattle.proof_check.specs.CheckFaults.{FirstWrong, FirstFault}
+use Rattle.proof_check.specs.FirstFaults.{FirstWrong, FirstFault}
 
 -- the row is the first that isn't right
 pub record IsFirst {R : Type 0} (IsRight : R → Type 0) (rows : List R) (row : R) : Type 0 where
@@ -59,16 +58,16 @@ module _ {R : Type 0} (IsRight : R → Type 0) where
       (subst (λ l. Found l (slice_get (filter_by_mask xs answers) 0)) (shown ∙ same) first)
 
 -- the fault of the first faulty row is the fault of the rows
-pub fault_of_first : {R : Type 0} (IsRight : R → Type 0) (IsWrong : R → CheckFault → Type 0) (rows : List R) (row : R)
-    (found : Option CheckFault)
+pub fault_of_first : {R F : Type 0} (IsRight : R → Type 0) (IsWrong : R → F → Type 0) (rows : List R) (row : R)
+    (found : Option F)
     → IsFirst IsRight rows row → MatchOption found (IsRight row) (IsWrong row)
     → MatchOption found (All IsRight rows) (FirstFault IsRight IsWrong rows)
 fault_of_first IsRight IsWrong rows row None is right = absurd (is.faulty right)
 fault_of_first IsRight IsWrong rows row (Some fault) is wrong = record { row = row; first = is.first; wrong = wrong }
 
 -- the fault of rows is the fault of the rows that they show
-pub fault_of_seen : {R X : Type 0} (f : R → X) (IsRight : X → Type 0) (IsWrong : X → CheckFault → Type 0)
-    (rows : List R) (seen : List X) (found : Option CheckFault)
+pub fault_of_seen : {R X F : Type 0} (f : R → X) (IsRight : X → Type 0) (IsWrong : X → F → Type 0)
+    (rows : List R) (seen : List X) (found : Option F)
     → map f rows ≡ seen
     → MatchOption found (All (λ r. IsRight (f r)) rows) (FirstFault (λ r. IsRight (f r)) (λ r. IsWrong (f r)) rows)
     → MatchOption found (All IsRight seen) (FirstFault IsRight IsWrong seen)

@@ -8,15 +8,17 @@ use Rattle.std.proofs.lemmas.List.Elements.{All-contains}
 use Rattle.board_text.specs.PlainBoard.{IsConfiguration, PlainBoard}
 use Rattle.positions.specs.Ranks.{rank_of, configuration_at, configurations}
 use Rattle.positions.proofs.Cited.{rank_of-configuration_at, configuration_at-rank_of}
-use Rattle.proof_check.specs.CheckFaults.{HasRow}
-use Rattle.proof_check.specs.Inside.Checker.{IsRowFor}
+use Rattle.proof_check.specs.FirstFaults.{HasRow}
+use Rattle.proof_check.specs.Inside.FoundRow.{IsRowFor}
 use Rattle.proof_check.specs.Inside.RowIndex.{AreRanked, HasNone, IsRowOf}
 
-Contains-map : {R X : Type 0} (f : R → X) (rows : List R) (row : R) → Contains rows row → Contains (map f rows) (f row)
+-- rows that are shown
+pub Contains-map : {R X : Type 0} (f : R → X) (rows : List R) (row : R) → Contains rows row
+    → Contains (map f rows) (f row)
 Contains-map f rows row is =
     (is.0, omega (arith, length-map rows f, is.1), get_or-map f rows is.0 row (f row) is.1 ∙ ap f is.2)
 
-Contains-map_cases : {R X : Type 0} (f : R → X) (rows : List R) (x : X) → Contains (map f rows) x
+pub Contains-map_cases : {R X : Type 0} (f : R → X) (rows : List R) (x : X) → Contains (map f rows) x
     → (row : R) × Contains rows row × (f row ≡ x)
 Contains-map_cases f [] x (k, inside, is) = absurd (omega (arith, inside))
 Contains-map_cases f (row ∷ rows) x (zero, inside, is) = (row, (zero, omega arith, refl), is)

@@ -8,6 +8,15 @@ pub mod LabellerTables
 pub mod AdversaryTables
 pub mod ShownClaims
 pub mod Steps
+pub mod DocumentSteps
 pub mod DocumentFaults
 pub mod FirstRow
+pub mod ComparedPlaces
+pub mod InsertedPlaces
+pub mod RowSearch
+pub mod CheckedRows
+pub mod NamedClasses
+pub mod ClassTrees
+pub mod ClassClaims
+pub mod ClassDocumentFaults
 pub mod Cited

@@ -1,53 +1,19 @@
 -- Why a document is refused: the first rule that is broken, in the order of checking.
-use Rattle.std.specs.Prelude.{◌≡◌, ℕ, suc, ◌<◌, ◌⊎◌, List, ◌∷◌, ◌++◌, Option, Some, None, slice_get}
-use Rattle.std.specs.List.{All, Contains}
+use Rattle.std.specs.Prelude.{◌≡◌, ℕ, suc, ◌<◌, ◌⊎◌, List, Some, slice_get}
 use Rattle.board_text.specs.PlainBoard.{PlainBoard}
 use Rattle.positions.specs.Game.{Legal, moved}
 use Rattle.positions.specs.Ranks.{rank_of, configurations}
 use Rattle.positions.specs.Table.{AnswerRow, RequestRow}
-use Rattle.positions.specs.declared.claim.Claim.{Claim}
-use Rattle.positions.specs.declared.claim.Claim.TheVariants.{Exactly, AtLeast, AtMost, Forever}
 use Rattle.proof_text.specs.Proof.{PlainProof}
 use Rattle.proof_text.specs.Rules.{IsListedFor, Serves, IsWanted, one_less, MeetsRequest}
 use Rattle.proof_text.specs.Rules.{MeetsRequests, LabellerObeys, IsListedBelow}
 use Rattle.proof_text.specs.Rules.{MeetsAnswer, MeetsAnswers, wanted_of, StartIsBelow}
 use Rattle.positions.specs.declared.side.Side.TheVariants.{Labeller, Adversary}
+use Rattle.proof_check.specs.FirstFaults.{HasRow, IsUnserved, FirstFault, FirstTurn, bound_of}
 use Rattle.proof_check.specs.declared.fault.CheckFault.{CheckFault}
 use Rattle.proof_check.specs.declared.fault.CheckFault.TheVariants as faults
 
--- a row is for the configuration
-abbrev pub HasRow : {X : Type 0} → (X → List ℕ) → List X → List ℕ → Type 0
-HasRow {X} at rows configuration = (row : X) × Contains rows row × (at row ≡ configuration)
-
--- no row: the fault `missing`; a row that doesn't serve: the fault `short`
-abbrev pub IsUnserved : Type 0 → Type 0 → CheckFault → CheckFault → CheckFault → Type 0
-IsUnserved Listed Served missing short fault =
-    (¬ Listed × (fault ≡ missing)) ⊎ (Listed × ¬ Served × (fault ≡ short))
-
 -- ---- rows
-
--- the first row that isn't right stands here: those before are, and this one
-pub record FirstWrong {X : Type 0} (IsRight : X → Type 0) (rows : List X) (row : X) : Type 0 where
-  pub before : List X
-  pub after : List X
-  pub parts : rows ≡ before ++ row ∷ after
-  pub right : All IsRight before
-
--- the first faulty row has the fault
-pub record FirstFault {X : Type 0} (IsRight : X → Type 0) (IsWrong : X → CheckFault → Type 0)
-    (rows : List X)
-    (fault : CheckFault) : Type 0 where
-  pub row : X
-  pub first : FirstWrong IsRight rows row
-  pub wrong : IsWrong row fault
-
--- the first turn of a row that isn't met has the fault
-pub record FirstTurn (IsTurn Meets : ℕ → Type 0) (IsWrong : ℕ → CheckFault → Type 0)
-    (fault : CheckFault) : Type 0 where
-  pub turn : ℕ
-  pub is_turn : IsTurn turn
-  pub before : (earlier : ℕ) → earlier < turn → Meets earlier
-  pub wrong : IsWrong turn fault
 
 -- the rows don't serve the turns that a labeller's row leaves after the pebble's answer
 abbrev pub IsWrongResult : PlainBoard → List AnswerRow → AnswerRow → ℕ → List ℕ → CheckFault
@@ -107,13 +73,6 @@ IsWrongStart board proof fault = IsWanted (wanted_of proof.claim)
     × IsUnserved (HasRow (λ r. r.at) proof.labeller board.start)
     (IsListedFor proof.labeller board.start (wanted_of proof.claim))
     (faults.StartMissing Labeller) (faults.StartNumber Labeller) fault
-
--- the bound of the claim from above, if it has one
-abbrev pub bound_of : Claim → Option ℕ
-bound_of (Exactly number) = Some number
-bound_of (AtLeast number) = None
-bound_of (AtMost number) = Some number
-bound_of Forever = None
 
 -- the fault of the start's number in the adversary's rows
 abbrev pub IsWrongBound : PlainBoard → PlainProof → CheckFault → Type 0

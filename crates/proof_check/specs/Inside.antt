@@ -1,3 +1,6 @@
 -- Definitions that clauses of this crate's own functions cite, and no public contract.
 pub mod Checker
+pub mod ClassChecker
+pub mod FoundRow
 pub mod RowIndex
+pub mod RowSearch

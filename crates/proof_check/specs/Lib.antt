@@ -1,2 +1,5 @@
+pub mod FirstFaults
 pub mod CheckFaults
+pub mod ClassRules
+pub mod ClassFaults
 pub mod Inside

@@ -6,7 +6,8 @@ ghost use Rattle.positions.specs.Ranks.{configuration_at, rank_of};
 ghost use Rattle.proof_text.specs.Proof.{request_row};
 ghost use Rattle.proof_text.specs.Rules.{IsListedBelow, MeetsAnswer, MeetsAnswers, StartIsBelow};
 ghost use Rattle.proof_check.specs.CheckFaults.{IsWrongAfter, IsWrongRequest, IsWrongBound};
-ghost use Rattle.proof_check.specs.Inside.Checker.{IsRequesting, HoldsAtRank, IsUnservedBelow};
+ghost use Rattle.proof_check.specs.Inside.Checker.{IsRequesting, HoldsAtRank};
+ghost use Rattle.proof_check.specs.Inside.FoundRow.{IsUnservedBelow};
 
 use crate::checked_row::CheckedRow;
 use crate::checker::Checker;
@@ -14,8 +15,8 @@ use crate::fault::CheckFault;
 use positions::Side;
 use proof_text::{AdversaryRow, Claim};
 
-impl CheckedRow for AdversaryRow {
-    ghost is_ready = { IsRequesting };
+impl<'a> CheckedRow<Checker<'a>, CheckFault> for AdversaryRow {
+    ghost is_ready = { λ c row. IsRequesting c.board row };
 
     ghost meets = { λ c row. MeetsAnswers c.board c.proof.adversary (request_row c.board row) };
 
@@ -23,7 +24,7 @@ impl CheckedRow for AdversaryRow {
         (request_row c.board row) };
 
     /// The fault of the row's first faulty label, if it has one.
-    fn fault(&self, checker: &Checker<'_>) -> Option<CheckFault> {
+    fn fault(&self, checker: &Checker<'a>) -> Option<CheckFault> {
         let moves = checker.moves(self.at);
         let mut answers = moves.answers(self.ask).walk();
         let results = moves.results(self.ask);

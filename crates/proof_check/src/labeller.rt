@@ -4,46 +4,27 @@ ghost use Rattle.std.specs.Prelude.{◌≡◌, ◌<◌, MatchOption};
 ghost use Rattle.positions.specs.Position.{position_at};
 ghost use Rattle.proof_text.specs.Proof.{answer_row};
 ghost use Rattle.proof_text.specs.Rules as rules;
-ghost use Rattle.proof_text.specs.Rules.{one_less, Serves, MeetsRequest, MeetsRequests};
+ghost use Rattle.proof_text.specs.Rules.{Serves, MeetsRequest, MeetsRequests};
 ghost use Rattle.proof_check.specs.CheckFaults.{IsWrongAnswer, IsWrongAt, IsWrongStart};
-ghost use Rattle.proof_check.specs.Inside.Checker.{IsAnswering, HoldsAtRank, IsUnservedFor};
+ghost use Rattle.proof_check.specs.Inside.Checker.{IsAnswering, HoldsAtRank};
+ghost use Rattle.proof_check.specs.Inside.FoundRow.{IsUnservedFor};
 
 use crate::checked_row::CheckedRow;
 use crate::checker::Checker;
 use crate::fault::CheckFault;
+use crate::turns::{after_one, wanted_of};
 use positions::{Moves, Side, Turns};
-use proof_text::{Claim, LabellerRow};
+use proof_text::LabellerRow;
 
-/// The turns that are left after one of `turns`.
-fn after_one(turns: Turns) -> Turns
-    ensures { result ≡ one_less turns }
-{
-    match turns {
-        Turns::Count(turns) => Turns::Count(turns.saturating_sub(1)),
-        Turns::Always => Turns::Always,
-    }
-}
-
-/// The turns that `claim` wants of the start.
-fn wanted_of(claim: Claim) -> Turns
-    ensures { result ≡ rules.wanted_of claim }
-{
-    match claim {
-        Claim::Exactly(number) | Claim::AtLeast(number) => Turns::Count(number),
-        Claim::AtMost(_) => Turns::Count(0),
-        Claim::Forever => Turns::Always,
-    }
-}
-
-impl CheckedRow for LabellerRow {
-    ghost is_ready = { IsAnswering };
+impl<'a> CheckedRow<Checker<'a>, CheckFault> for LabellerRow {
+    ghost is_ready = { λ c row. IsAnswering c.board row };
 
     ghost meets = { λ c row. MeetsRequests c.board c.proof.labeller (answer_row c.board row) };
 
     ghost is_wrong = { λ c row. IsWrongAnswer c.board c.proof.labeller (answer_row c.board row) };
 
     /// The fault of the row's first faulty pebble, if it has one.
-    fn fault(&self, checker: &Checker<'_>) -> Option<CheckFault> {
+    fn fault(&self, checker: &Checker<'a>) -> Option<CheckFault> {
         let moves = checker.moves(self.at);
         for pebble in 0..checker.pebbles() {
             if let Some(fault) = checker.answer_fault(self, &moves, pebble) {

@@ -1,16 +1,32 @@
-//! Checks whether the rows of a strategy document show its claim, without the board's values.
+//! Checks whether the rows of a strategy document show its claim, without the board's values: of a
+//! document by configurations, and of one by classes.
 #![tactic(auto)]
 
 mod adversary;
 mod checked_row;
 mod checker;
 mod checking;
+mod class_adversary;
+mod class_checking;
+mod class_fault;
+mod class_labeller;
+mod class_laws;
+mod class_writing;
 mod fault;
 mod labeller;
 mod laws;
 mod row_index;
+mod row_search;
+mod turns;
 
 pub use checking::{Shown, check};
+pub use class_checking::check_classes;
+pub use class_fault::ClassFault;
+pub use class_laws::{
+    class_rules_show, classes_are_told_by_their_numbers, one_class_fault,
+    unbroken_class_rules_leave_no_fault,
+};
+pub use class_writing::write_class;
 pub use fault::CheckFault;
 pub use laws::{one_check_fault, rules_show, unbroken_rules_leave_no_fault};
 pub use positions::Side;

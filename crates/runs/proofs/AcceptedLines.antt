@@ -14,7 +14,7 @@ use Rattle.proof_text.specs.Proof.{PlainProof, IsClaim}
 use Rattle.proof_text.specs.declared.proof.TheConstants.{MOST_TURNS}
 use Rattle.proof_check.specs.declared.checking.Shown.{Shown}
 use Rattle.proof_check.specs.declared.fault.CheckFault.{CheckFault}
-use Rattle.class_documents.specs.declared.fault.ClassFault.{ClassFault}
+use Rattle.proof_check.specs.declared.class_fault.ClassFault.{ClassFault}
 use Rattle.graphs.specs.declared.graph.Numbering.{Numbering}
 use Rattle.graphs.specs.declared.graph.Numbering.TheVariants.{Ordered, Classes}
 use Rattle.positions.specs.Game.{LabellerTree}

@@ -2,7 +2,7 @@
 use Rattle.std.proofs.Common.{◌≡◌, ◌-◌, ◌≤◌, ◌⊎◌, ℕ, List, length, refl, sym, ap, ◌∙◌, subst, arith, inl, inr}
 use Rattle.board_text.specs.PlainBoard.{PlainBoard, places}
 use Rattle.board_text.proofs.Cited.{one_board}
-use Rattle.class_documents.proofs.Cited.{no_fault as no_class_fault}
+use Rattle.proof_check.proofs.Cited.{no_class_fault}
 use Rattle.class_strategies.proofs.Cited.{breaks_no_rule, has_form as is_formed, one_document as one_made}
 use Rattle.class_strategies.proofs.Cited.{short_text_fits}
 use Rattle.proof_text.proofs.Cited.{no_class_text_fault as faultless_document, one_class_document}

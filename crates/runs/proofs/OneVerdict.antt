@@ -1,13 +1,11 @@
 -- The text of a document has one verdict or one fault.
 use Rattle.std.proofs.Common.{◌≡◌, ℕ, inl, inr, List, refl, sym, ap, ◌∙◌, subst}
 use Rattle.board_text.specs.PlainBoard.{PlainBoard, IsBoard}
-use Rattle.class_documents.proofs.Cited.{no_fault as no_class_fault, one_fault as one_class_fault}
+use Rattle.proof_check.proofs.Cited.{no_class_fault, one_class_fault, one_check_fault, only_memory}
 use Rattle.proof_text.proofs.Cited.{no_class_text_fault as faultless_class_document, one_class_document}
 use Rattle.proof_text.proofs.Cited.{one_class_text_fault, one_document, no_fault as faultless_document}
 use Rattle.graphs.specs.declared.graph.Numbering.{Numbering}
 use Rattle.graphs.specs.declared.graph.Numbering.TheVariants.{Ordered, Classes}
-use Rattle.proof_check.proofs.Cited.{only_memory}
-use Rattle.proof_check.proofs.DocumentFaults.{one_fault as one_check_fault}
 use Rattle.proof_text.specs.Proof.{PlainProof}
 use Rattle.proof_text.specs.declared.fault.ProofFault.{ProofFault}
 use Rattle.proof_text.proofs.OneDocument.{one_fault as one_proof_fault}

@@ -5,8 +5,8 @@ use Rattle.board_text.specs.LineForms.{with_line_feed}
 use Rattle.board_text.specs.PlaceForms.{spaced_places}
 use Rattle.board_text.specs.PlainBoard.{PlainBoard}
 use Rattle.proof_text.specs.Arranged.{arranged_at}
-use Rattle.class_documents.specs.declared.fault.ClassFault.{ClassFault}
-use Rattle.class_documents.specs.declared.fault.ClassFault.TheVariants as class_faults
+use Rattle.proof_check.specs.declared.class_fault.ClassFault.{ClassFault}
+use Rattle.proof_check.specs.declared.class_fault.ClassFault.TheVariants as class_faults
 use Rattle.command_line.specs.Reading.{side_word}
 use Rattle.positions.specs.Ranks.{configuration_at}
 use Rattle.proof_text.specs.ProofText.{claim_words}

@@ -4,10 +4,10 @@ use Rattle.board_text.specs.PlainBoard.{PlainBoard, IsBoard, IsConfiguration}
 use Rattle.board_text.specs.BoardText.{board_text}
 use Rattle.board_text.specs.BoardFaults as board_faults
 use Rattle.board_text.specs.declared.fault.BoardKind.TheVariants as board_kinds
-use Rattle.class_documents.specs.ClassFaults.{IsFirstClassFault}
+use Rattle.proof_check.specs.ClassFaults.{IsFirstClassFault}
 use Rattle.proof_text.specs.Documents.{IsClassProof, IsProof}
 use Rattle.proof_text.specs.ProofText.{class_text, proof_text}
-use Rattle.class_documents.specs.ClassRules.{BreaksNoClassRule}
+use Rattle.proof_check.specs.ClassRules.{BreaksNoClassRule}
 use Rattle.classes.specs.Classes.{class_of}
 use Rattle.graphs.specs.declared.graph.Numbering.{Numbering}
 use Rattle.graphs.specs.declared.graph.Numbering.TheVariants.{Ordered, Classes}

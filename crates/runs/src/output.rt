@@ -1,7 +1,7 @@
 //! The one line that a check writes.
 
 ghost use Rattle.std.specs.Prelude.{◌≡◌, ◌<◌, ◌++◌, IfOk, OnOk, string_bytes};
-ghost use Rattle.class_documents.specs.ClassFaults.{IsOrderNumber, NamesClass};
+ghost use Rattle.proof_check.specs.ClassFaults.{IsOrderNumber, NamesClass};
 ghost use Rattle.positions.specs.Ranks.{configurations};
 ghost use Rattle.proof_check.specs.CheckFaults.{NamesRanks};
 ghost use Rattle.command_line.specs.Reading.{side_word as word_of_side};
@@ -12,9 +12,8 @@ ghost use Rattle.runs.specs.Inside.Verdicts.{NamesRows};
 
 use crate::verdicts::Verdict;
 use board_text::{Board, Memory};
-use class_documents::{ClassFault, write_class};
 use positions::{Space, write_labels};
-use proof_check::{CheckFault, Side};
+use proof_check::{CheckFault, ClassFault, Side, write_class};
 use proof_text::write_claim;
 use std::alloc::{AllocError, Global};
 use std::fmt::Write;

@@ -1,17 +1,12 @@
--- A checker's board and rows, and the faults that its functions return.
+-- A checker's board and rows.
 use Rattle.std.specs.Prelude.{◌≡◌, ℕ, ◌<◌, List, slice_index}
-use Rattle.std.specs.List.{All, Contains}
+use Rattle.std.specs.List.{All}
 use Rattle.board_text.specs.PlainBoard.{PlainBoard, IsBoard, IsConfiguration}
 use Rattle.positions.specs.Ranks.{rank_of, configurations}
-use Rattle.positions.specs.Table.{AnswerRow, RequestRow}
 use Rattle.positions.specs.declared.claim.Claim.{Claim}
-use Rattle.positions.specs.declared.turns.Turns.{Turns}
 use Rattle.proof_text.specs.declared.proof.LabellerRow.{LabellerRow}
 use Rattle.proof_text.specs.declared.proof.AdversaryRow.{AdversaryRow}
 use Rattle.proof_text.specs.Proof.{PlainProof, answer_rows, request_rows}
-use Rattle.proof_text.specs.Rules.{IsListedFor, IsListedBelow, IsWanted}
-use Rattle.proof_check.specs.CheckFaults.{HasRow, IsUnserved}
-use Rattle.proof_check.specs.declared.fault.CheckFault.{CheckFault}
 use Rattle.proof_check.specs.Inside.RowIndex.{AreRanked}
 
 -- a board, and a document for it
@@ -67,28 +62,7 @@ pub record IsChecker (board space : PlainBoard) (labeller : List LabellerRow)
   pub answering : AreAnswering board labeller
   pub requesting : AreRequesting board adversary
 
--- the row is the only one for the configuration
-pub record IsRowFor {X : Type 0} (at : X → List ℕ) (rows : List X) (configuration : List ℕ)
-    (row : X) : Type 0 where
-  pub among : Contains rows row
-  pub at_is : at row ≡ configuration
-  pub only : (other : X) → Contains rows other → at other ≡ configuration → other ≡ row
-
 -- P holds of the configuration of the rank
 abbrev pub HoldsAtRank : PlainBoard → ℕ → (List ℕ → Type 0) → Type 0
 HoldsAtRank board rank P = (configuration : List ℕ) → IsConfiguration board configuration
     → rank ≡ rank_of board configuration → P configuration
-
--- some turns are wanted, and the labeller's rows don't serve them
-abbrev pub IsUnservedFor : List AnswerRow → List ℕ → Turns → CheckFault → CheckFault → CheckFault
-    → Type 0
-IsUnservedFor rows configuration wanted missing short fault =
-    IsWanted wanted × IsUnserved (HasRow (λ row. row.at) rows configuration)
-    (IsListedFor rows configuration wanted) missing short fault
-
--- the adversary's rows don't list the configuration with a number below the bound
-abbrev pub IsUnservedBelow : List RequestRow → List ℕ → ℕ → CheckFault → CheckFault → CheckFault
-    → Type 0
-IsUnservedBelow rows configuration bound missing large fault =
-    IsUnserved (HasRow (λ row. row.at) rows configuration)
-    (IsListedBelow rows configuration bound) missing large fault

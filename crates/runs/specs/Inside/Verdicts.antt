@@ -1,7 +1,7 @@
 -- Clauses of this crate's own functions, beside `Verdicts`.
 use Rattle.std.specs.Prelude.{◌≤◌}
 use Rattle.board_text.specs.PlainBoard.{PlainBoard}
-use Rattle.class_documents.specs.ClassFaults.{NamesClass}
+use Rattle.proof_check.specs.ClassFaults.{NamesClass}
 use Rattle.positions.specs.Ranks.{configurations}
 use Rattle.positions.specs.declared.space.TheConstants.{MAX_CONFIGURATIONS}
 use Rattle.proof_check.specs.CheckFaults.{NamesRanks}

@@ -11,7 +11,7 @@ fault-requires g c =
     let row = c.in_ok-faulty.field-0 in
     let found = first_of_slice (g.R.CheckedRow.meets checker) rows _
     (Some row) c.par_iter.ensures c.in_ok-faulty.ensures in
-    All-contains (g.R.CheckedRow.is_ready checker.board) rows row.now c.requires (among found.first)
+    All-contains (g.R.CheckedRow.is_ready checker) rows row.now c.requires (among found.first)
 
 pub returns : goal.returns
 returns g c =

@@ -15,7 +15,7 @@ returns-then-not-is_legal c =
     let legal = rw c.requires.moves at c.is_legal.ensures in
     let rank_is = sym (rank_of-configuration_at board row.at c.requires.row.is_rank) in (
       slice_index row.take c.args.pebble,
-      answer_is board row c.args.pebble c.requires.pebble fits,
+      answer_is board.pebbles row.take c.args.pebble c.requires.pebble fits,
       inl (iff_false legal c.if-not-is_legal.true, ap (λ at. faults.IllegalAnswer at c.args.pebble) rank_is),
     )
 
@@ -26,7 +26,7 @@ returns c =
     let pebble = c.args.pebble in
     let label = slice_index row.take pebble in
     let fits : pebble < length row.take = search rules in
-    let answer = answer_is v.board row pebble c.requires.pebble fits in
+    let answer = answer_is v.board.pebbles row.take pebble c.requires.pebble fits in
     let legal = (rw c.requires.moves at c.is_legal.ensures).0 c.if-not-is_legal.false in
     let result = moved (configuration_at v.board row.at) pebble label in
     let is = result_is v.board row.at pebble label c.requires.row.is_rank legal.is_label in

@@ -51,7 +51,8 @@ invariant_of-self c =
     let n = length c.as_bytes-bytes.result.now in
     let room = fits at in
     gathered_more s.count (s.count + n - s.count) n s.written.items s.room c.copy_from_slice.new.self c.self-2.invariant
-    (omega (arith, room)) c.copy_from_slice.ensures.len (omega arith) (subst IsUtf8 (sym (whole at)) c.as_bytes-bytes.ensures.utf8)
+    (omega (arith, room)) c.copy_from_slice.ensures.len (omega arith)
+    (subst IsUtf8 (sym (whole at)) c.as_bytes-bytes.ensures.utf8)
 
 pub returns : goal.returns
 returns c =

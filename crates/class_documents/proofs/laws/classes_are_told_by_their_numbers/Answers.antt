@@ -1,5 +1,0 @@
-use Rattle.class_documents.proofs.NamedClasses.{class_at_order}
-use Rattle.class_documents.proofs.laws.classes_are_told_by_their_numbers.Goals as goal
-
-pub returns : goal.returns
-returns c = class_at_order

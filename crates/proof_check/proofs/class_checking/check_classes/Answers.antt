@@ -1,0 +1,26 @@
+use Rattle.proof_text.specs.ClassProof.{plain_class_proof}
+use Rattle.proof_check.proofs.ClassClaims.{claim_holds, start_claim_holds}
+use Rattle.proof_check.proofs.ClassDocumentFaults.{no_fault, names_class}
+use Rattle.proof_check.proofs.class_checking.check_classes.Goals as goal
+
+pub returns-in-Some-clause-accepts : goal.returns-in-Some-clause-accepts
+returns-in-Some-clause-accepts g c =
+    λ rules. absurd (no_fault c.args.board.now
+    (plain_class_proof c.args.board.now c.args.proof.now) c.in-Some.fault rules
+    c.in-Some.ensures.fault)
+
+pub returns-in-Some-clause-named : goal.returns-in-Some-clause-named
+returns-in-Some-clause-named g c =
+    names_class c.args.board.now
+    (plain_class_proof c.args.board.now c.args.proof.now) c.in-Some.fault c.requires.is_proof
+    c.in-Some.ensures.fault
+
+pub returns-in-None-clause-holds : goal.returns-in-None-clause-holds
+returns-in-None-clause-holds g c =
+    start_claim_holds c.args.board.now (plain_class_proof c.args.board.now c.args.proof.now) c.in-None.ensures.start
+    c.in-None.ensures.fault
+
+pub returns-in-None-clause-each : goal.returns-in-None-clause-each
+returns-in-None-clause-each g c = λ configuration is same.
+    claim_holds c.args.board.now (plain_class_proof c.args.board.now c.args.proof.now) configuration
+    c.in-None.ensures.start is same c.in-None.ensures.fault

@@ -1,0 +1,14 @@
+use Rattle.std.proofs.Common.{arith, below_more}
+use Rattle.proof_text.specs.ClassProof.{class_answer_row, class_answer_rows}
+use Rattle.proof_check.specs.ClassRules.{MeetsClassRequest}
+use Rattle.proof_check.proofs.class_labeller.LabellerClassRowCheckedRowClassCheckerClassFault.fault.Goals as goal
+
+pub loop-pebble-init : goal.loop-pebble-init
+loop-pebble-init c = λ earlier low. absurd (omega (arith, low))
+
+pub loop-pebble-preserved : goal.loop-pebble-preserved
+loop-pebble-preserved c =
+    below_more (MeetsClassRequest c.args.checker.now.board.now
+    (class_answer_rows c.args.checker.now.board.now c.args.checker.now.proof.now.labeller.items)
+    (class_answer_row c.args.checker.now.board.now c.args.self.now))
+    c.loop-pebble.pebble c.loop-pebble.invariant c.in_default.ensures

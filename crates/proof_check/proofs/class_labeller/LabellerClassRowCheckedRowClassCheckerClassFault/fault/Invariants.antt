@@ -1,0 +1,9 @@
+use Rattle.std.proofs.Common.{ℕ, ◌<◌}
+use Rattle.proof_text.specs.ClassProof.{class_answer_row, class_answer_rows}
+use Rattle.proof_check.specs.ClassRules.{MeetsClassRequest}
+use Rattle.proof_check.proofs.class_labeller.LabellerClassRowCheckedRowClassCheckerClassFault.fault.Given as goal
+
+abbrev pub invariant-loop-pebble : goal.invariant-loop-pebble
+invariant-loop-pebble l = (earlier : ℕ) → earlier < l.pebble
+    → MeetsClassRequest l.checker.board.now (class_answer_rows l.checker.board.now l.checker.proof.now.labeller.items)
+    (class_answer_row l.checker.board.now l.self) earlier

@@ -1,0 +1,5 @@
+use Rattle.proof_check.proofs.NamedClasses.{class_at_order}
+use Rattle.proof_check.proofs.class_laws.classes_are_told_by_their_numbers.Goals as goal
+
+pub returns : goal.returns
+returns c = class_at_order

@@ -1,0 +1,5 @@
+use Rattle.proof_check.proofs.ClassDocumentFaults.{one_fault}
+use Rattle.proof_check.proofs.class_laws.one_class_fault.Goals as goal
+
+pub returns : goal.returns
+returns c = one_fault

@@ -1,0 +1,5 @@
+use Rattle.proof_check.proofs.ClassDocumentFaults.{no_fault}
+use Rattle.proof_check.proofs.class_laws.unbroken_class_rules_leave_no_fault.Goals as goal
+
+pub returns : goal.returns
+returns c = no_fault

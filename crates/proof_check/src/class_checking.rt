@@ -1,0 +1,84 @@
+//! The order of checking a document by classes.
+
+ghost use Rattle.std.specs.Prelude.{◌≡◌, ℕ, List, IsOk, OnOk, IfErr, MatchOption};
+ghost use Rattle.board_text.specs.PlainBoard.{IsConfiguration};
+ghost use Rattle.positions.specs.Claim.{Holds, HoldsAt};
+ghost use Rattle.classes.specs.Classes.{class_of};
+ghost use Rattle.proof_text.specs.Documents.{IsClassDocument};
+ghost use Rattle.proof_text.specs.ClassProof.{plain_class_proof};
+ghost use Rattle.proof_check.specs.ClassRules.{BreaksNoClassRule};
+ghost use Rattle.proof_check.specs.ClassFaults.{IsFirstClassFault, NamesClass};
+
+use crate::checked_row::first_fault;
+use crate::class_adversary::bound_fault;
+use crate::class_fault::ClassFault;
+use crate::class_labeller::start_fault;
+use board_text::Board;
+use proof_text::ClassProof;
+use std::thread::Threads;
+
+/// A board, and a document by classes for it.
+#[derive(Clone, Copy)]
+pub(crate) struct ClassChecker<'a> {
+    pub(crate) board: &'a Board,
+    pub(crate) proof: &'a ClassProof,
+}
+
+/// Whether the rows of `proof` break no rule, or the first fault in the order of checking. It takes
+/// no memory, and the board may have any number of classes.
+pub fn check_classes(
+    rt: &(impl Threads + Sync),
+    board: &Board,
+    proof: &ClassProof,
+) -> Result<(), ClassFault>
+    requires { IsClassDocument board.now proof.now }
+    // The claim of an accepted document holds of the start.
+    ensures holds { OnOk result (Holds board.now proof.now.claim) }
+    // It holds of each configuration of the start's class.
+    ensures each { OnOk result ((configuration : List ℕ) → IsConfiguration board.now configuration
+        → class_of configuration ≡ class_of board.now.start
+        → HoldsAt board.now configuration proof.now.claim) }
+    // Only a document that breaks no rule is accepted.
+    ensures rules { OnOk result (BreaksNoClassRule board.now
+        (plain_class_proof board.now proof.now)) }
+    // Each that breaks none is accepted.
+    ensures accepts { BreaksNoClassRule board.now (plain_class_proof board.now proof.now)
+        → IsOk result }
+    // The fault is the first in the order of checking.
+    ensures fault { IfErr result (IsFirstClassFault board.now
+        (plain_class_proof board.now proof.now)) }
+    // A row that it names has the number of places of the board.
+    ensures named { IfErr result (NamesClass board.now) }
+{
+    match document_fault(rt, board, proof) {
+        Some(fault) => Err(fault),
+        None => Ok(()),
+    }
+}
+
+/// The first fault of `proof` in the order of checking, if there is one.
+fn document_fault(
+    rt: &(impl Threads + Sync),
+    board: &Board,
+    proof: &ClassProof,
+) -> Option<ClassFault>
+    requires { IsClassDocument board.now proof.now }
+    ensures fault { MatchOption result
+        (BreaksNoClassRule board.now (plain_class_proof board.now proof.now))
+        (IsFirstClassFault board.now (plain_class_proof board.now proof.now)) }
+    ensures start { IsConfiguration board.now board.now.start }
+{
+    // That this is a configuration is the clause `start`.
+    let _ = board.start();
+    if let Some(fault) = start_fault(board, proof) {
+        return Some(fault);
+    }
+    if let Some(fault) = bound_fault(board, proof) {
+        return Some(fault);
+    }
+    let checker = ClassChecker { board, proof };
+    if let Some(fault) = first_fault(rt, &checker, &proof.labeller) {
+        return Some(fault);
+    }
+    first_fault(rt, &checker, &proof.adversary)
+}

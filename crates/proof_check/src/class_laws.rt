@@ -1,0 +1,42 @@
+//! Laws of documents by classes, each the contract of a function without a body.
+
+ghost use Rattle.std.specs.Prelude.{◌≡◌, ℕ, List};
+ghost use Rattle.board_text.specs.PlainBoard.{PlainBoard, IsConfiguration};
+ghost use Rattle.positions.specs.Claim.{Holds, HoldsAt};
+ghost use Rattle.classes.specs.Classes.{class_of};
+ghost use Rattle.proof_text.specs.Proof.{PlainProof};
+ghost use Rattle.proof_text.specs.Arranged.{arranged_at, order_number};
+ghost use Rattle.proof_check.specs.ClassFaults.{IsFirstClassFault};
+ghost use Rattle.proof_check.specs.ClassRules.{BreaksNoClassRule};
+ghost use Rattle.proof_check.specs.declared.class_fault.ClassFault.{ClassFault as Fault};
+
+/// The claim of a document by classes that breaks no rule holds of the start, and of each
+/// configuration of the start's class.
+pub fn class_rules_show()
+    ensures start { (board : PlainBoard) → (proof : PlainProof) → IsConfiguration board board.start
+        → BreaksNoClassRule board proof → Holds board proof.claim }
+    ensures each { (board : PlainBoard) → (proof : PlainProof) → (configuration : List ℕ)
+        → IsConfiguration board board.start → IsConfiguration board configuration
+        → class_of configuration ≡ class_of board.start
+        → BreaksNoClassRule board proof → HoldsAt board configuration proof.claim }
+{}
+
+/// A document by classes that breaks no rule has no fault.
+pub fn unbroken_class_rules_leave_no_fault()
+    ensures { (board : PlainBoard) → (proof : PlainProof) → (fault : Fault)
+        → BreaksNoClassRule board proof → IsFirstClassFault board proof fault → ⊥ }
+{}
+
+/// A document by classes has one fault at most.
+pub fn one_class_fault()
+    ensures { (board : PlainBoard) → (proof : PlainProof) → (fault : Fault) → (other : Fault)
+        → IsFirstClassFault board proof fault → IsFirstClassFault board proof other
+        → fault ≡ other }
+{}
+
+/// The places of a configuration are those of its number in the order of documents. So a row that a
+/// fault names by its number is the row with the places that are written for it.
+pub fn classes_are_told_by_their_numbers()
+    ensures { (board : PlainBoard) → (at : List ℕ) → IsConfiguration board at
+        → arranged_at board (order_number board.labels at) ≡ at }
+{}
