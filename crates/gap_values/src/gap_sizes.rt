@@ -6,8 +6,9 @@ ghost use Rattle.std.specs.Prelude.{slice_index};
 ghost use Rattle.board_text.specs.Domination.{has_bit};
 ghost use Rattle.board_text.specs.PlainBoard.{PlainBoard};
 ghost use Rattle.classes.specs.ClassGaps.{member_with};
-ghost use Rattle.gap_values.specs.Inside.Counts.{IsAboveRounds, HaveRoom, AreMore, AreSmallWeights};
-ghost use Rattle.gap_values.specs.Inside.Counts.{class_word, once, made_by, made_by_bits, made_among};
+ghost use Rattle.gap_values.specs.Inside.Counts.{IsAboveRounds, HaveRoom, AreMore};
+ghost use Rattle.gap_values.specs.Inside.Counts.{AreSmallWeights, class_word, once, made_by};
+ghost use Rattle.gap_values.specs.Inside.Counts.{made_by_bits, made_among};
 ghost use Rattle.gap_values.specs.Inside.Families.{IsFamilyOf};
 ghost use Rattle.gap_values.specs.Inside.Sets.{AreAtMost, AreGapRounds, AreLabelsUpTo, AreSets};
 ghost use Rattle.gap_values.specs.Inside.Sets.{TellClosed};
@@ -110,8 +111,8 @@ fn unclosed(
 }
 
 /// Adds the configurations of the classes that a gap with the least place `least` makes with the
-/// labels up to it: those that aren't `positive` have the value 0, and those that are `lasting` last
-/// for ever.
+/// labels up to it: those that aren't `positive` have the value 0, and those that are `lasting`
+/// last for ever.
 fn count_by_bits(
     positive: LabelSet,
     lasting: LabelSet,
