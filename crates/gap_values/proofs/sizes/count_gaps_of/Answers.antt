@@ -112,8 +112,11 @@ module _ (c : After-of-own) (begun : IsFamilyOf c.args.numbers.now (length c.arg
         (c.gap_weights-weights.ensures.before c.args.numbers.now made.own
         (c.loop-number.number - c.args.family.now.start) is-gap more)
     | inr end ↦
-        let last : c.loop-number.number - c.args.family.now.start + 1 ≡ c.args.family.now.size = omega (arith, low,
-        end) in
+        let last : c.loop-number.number - c.args.family.now.start + 1 ≡ c.args.family.now.size = omega (
+          arith,
+          low,
+          end,
+        ) in
         subst (AreFamilyWeights c.args.numbers.now (length c.args.family.now.held + 1) made.own)
         (sym (c.of-own.ensures.last last))
         (c.gap_weights-weights.ensures.last c.args.numbers.now made.own

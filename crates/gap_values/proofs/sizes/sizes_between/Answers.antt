@@ -110,7 +110,7 @@ pub count_gaps_of-requires-clause-low : goal.count_gaps_of-requires-clause-low
 count_gaps_of-requires-clause-low c =
     let here = (goal.at.count_gaps_of-requires-clause-low c).After-family_size-size in
     let b = c.args.numbers.now in
-    let start = walk-start b (b.pebbles - 2) c.loop-number.number c.family_size-size.result c.loop-number.walk 
+    let start = walk-start b (b.pebbles - 2) c.loop-number.number c.family_size-size.result c.loop-number.walk
     (low here)
     (at here) (size_is here) c.family-family.result
     (subst (λ n. IsFamilyOf b n c.family-family.result) c.loop-number.invariant.count c.family-family.ensures.family)
@@ -123,7 +123,7 @@ count_gaps_of-requires-clause-high c =
     let b = c.args.numbers.now in
     let family = subst (λ n. IsFamilyOf b n c.family-family.result) c.loop-number.invariant.count
     c.family-family.ensures.family in
-    let start = walk-start b (b.pebbles - 2) c.loop-number.number c.family_size-size.result c.loop-number.walk 
+    let start = walk-start b (b.pebbles - 2) c.loop-number.number c.family_size-size.result c.loop-number.walk
     (low here)
     (at here) (size_is here) c.family-family.result family c.family-family.ensures.number in
     let size = family-size b (b.pebbles - 2) c.loop-number.number c.family_size-size.result c.family-family.result
