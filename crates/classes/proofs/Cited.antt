@@ -11,6 +11,7 @@ pub use Rattle.classes.proofs.Places.{all-class_of, of-all-class_of, class_of-ow
 pub use Rattle.classes.proofs.Places.{length-class_of, length-put, place-cancel, put-cancel, put-here, put-is}
 pub use Rattle.classes.proofs.Places.{put-none, put-past, HasPebble, IsIn, in-put, pebble_of_place, all-put}
 pub use Rattle.classes.proofs.Places.{falls-more, index-here, index-past, of-all-put, others-put}
+pub use Rattle.classes.proofs.PlacesWithout.{all-remove, class-push, remove-last, remove-past}
 pub use Rattle.classes.proofs.Sums.{sum-add, sum-same, sum-suc, sum-zero}
 pub use Rattle.classes.proofs.TableNumbers.{few-of-small, lists-fit, place-below, number-more, ways-fit}
 pub use Rattle.classes.proofs.Values.{AreLike, class_of-class, dominator-answers, labeller-like, legal-answers}

@@ -136,7 +136,7 @@ fn solution(alloc: Global, moves: &BestMoves<'_>) -> Result<Solved, Memory>
     Ok(Solved { value, text })
 }
 
-/// The same, with the rows of the document made in this number of `parts`.
+/// The same, with the lines of the document's rows made in this number of `parts`.
 fn solution_in_parts(
     rt: &(impl Threads + Sync),
     alloc: Global,
@@ -147,7 +147,7 @@ fn solution_in_parts(
     ensures { IfOk result (λ solved. IsSolved moves.now solved.value (string_bytes solved.text)) }
 {
     let value = start_value(moves);
-    let document = moves.document_in_parts(rt, alloc, parts as u32)?;
+    let document = moves.document(alloc)?;
     let text = print_in_parts(rt, alloc, moves.space(), &document, parts as u32)?;
     Ok(Solved { value, text })
 }

@@ -8,12 +8,11 @@ use Rattle.board_text.specs.PlainBoard.{PlainBoard}
 use Rattle.board_text.specs.declared.board.TheConstants.{MAX_PEBBLES}
 use Rattle.strategies.specs.declared.gap_best.Best.{Best}
 use Rattle.strategies.specs.Best.{IsBestFor}
+use Rattle.strategies.specs.Inside.Walks.{AreFoundBelow}
 
--- the best answers to requests of the pebbles below a bound are in their places
-pub record AreFoundBelow (board : PlainBoard) (held : List ℕ) (bound : ℕ) (answers : List (Option Best))
-    : Type 0 where
-  pub room : length answers ≡ MAX_PEBBLES
-  pub best : (pebble : ℕ) → pebble < bound → IsBestFor board held pebble (slice_index_or answers pebble None)
+pub found_none : (board : PlainBoard) (held : List ℕ) (answers : List (Option Best)) → length answers ≡ MAX_PEBBLES
+    → AreFoundBelow board held 0 answers
+found_none board held answers room = record { room = room; best = λ pebble below. absurd (omega arith) }
 
 pub found_more : (board : PlainBoard) (held : List ℕ) (pebble : ℕ) (answer : Option Best) (answers : List (Option Best))
     → pebble < MAX_PEBBLES → AreFoundBelow board held pebble answers → IsBestFor board held pebble answer

@@ -1,6 +1,6 @@
 -- The best answer of a gap of places is the best answer to each request in it.
 use Rattle.std.proofs.Common.{◌≡◌, ℕ, suc, ◌+◌, ◌-◌, ◌<◌, ◌≤◌, ◌↔◌, ◌∙◌, List, [], ◌∷◌, length, drop, get_or}
-use Rattle.std.proofs.Common.{Some, inl, inr, refl, sym, ap, subst, arith}
+use Rattle.std.proofs.Common.{Option, None, Some, inl, inr, refl, sym, ap, subst, arith}
 use Rattle.std.proofs.lemmas.Bool.{cases_lt}
 use Rattle.std.proofs.Math.Seq.{drop-cons, drop-length}
 use Rattle.board_text.specs.PlainBoard.{PlainBoard, IsConfiguration, places}
@@ -17,7 +17,14 @@ use Rattle.classes.specs.ClassGaps.{gap_at, member_with}
 use Rattle.classes.proofs.Cited.{falls-more, legal-answers, value-of-class, put-is}
 use Rattle.gap_values.specs.BestOfGap.{HasGreatestMember}
 use Rattle.gap_values.proofs.Cited.{class-configuration, gap-is, member-like}
-use Rattle.strategies.specs.Best.{IsLess, HasGreatestResult, IsBestAnswer}
+use Rattle.strategies.specs.declared.gap_best.Best.{Best}
+use Rattle.strategies.specs.Best.{IsLess, HasGreatestResult, IsBestAnswer, IsBestFor}
+
+-- the smallest label of the members with the greatest value, and that value; or no label may answer
+abbrev IsBestOfGap : PlainBoard → List ℕ → Option Best → Type 0
+IsBestOfGap board gap (Some best) =
+    IsSmallest (HasGreatestMember board gap) (Some best.label) × HasValue board (member_with gap best.label) best.value
+IsBestOfGap board gap None = (label : ℕ) → AnswersGap board gap label → ⊥
 
 module _ (board : PlainBoard) (held : List ℕ) (is : IsConfiguration board held) (pebble : ℕ)
     (inside : pebble < board.pebbles) where
@@ -109,6 +116,26 @@ module _ (board : PlainBoard) (held : List ℕ) (is : IsConfiguration board held
 
   pub none-legal : ((label : ℕ) → AnswersGap board gap label → ⊥) → (label : ℕ) → Legal board held pebble label → ⊥
   none-legal none label may = none label ((legal label).0 may)
+
+  pub best-of-gap : (best : Option Best) → IsBestFor board held pebble best → IsBestOfGap board gap best
+  best-of-gap None none = λ label answers. none label ((legal label).1 answers)
+  best-of-gap (Some best) is = (
+    (greatest-member best.label is.0.0, λ other most. is.0.1 other (greatest-result other most)),
+    (there best.label is.0.0.legal.is_label best.value).0 is.1,
+  )
+
+  pub best-of-request : (best : Option Best) → IsBestOfGap board gap best → IsBestFor board held pebble best
+  best-of-request None none = none-legal none
+  best-of-request (Some best) is =
+      (best-result best.label is.0, (there best.label is.0.0.answers.is_label best.value).1 is.1)
+
+-- one best answer for all requests in a gap
+pub same-best : (board : PlainBoard) (one other : List ℕ) (pebble asked : ℕ) (best : Option Best)
+    → IsConfiguration board one → IsConfiguration board other → pebble < board.pebbles → asked < board.pebbles
+    → gap_at one pebble ≡ gap_at other asked → IsBestFor board one pebble best → IsBestFor board other asked best
+same-best board one other pebble asked best is_one is_other inside there same is =
+    best-of-request board other is_other asked there best
+    (subst (λ gap. IsBestOfGap board gap best) same (best-of-gap board one is_one pebble inside best is))
 
 -- ---- the gap of a pebble, from the last place on
 

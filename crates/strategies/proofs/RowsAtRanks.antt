@@ -1,5 +1,5 @@
 -- The rows at some ranks, one after the other.
-use Rattle.std.proofs.Common.{◌≡◌, ℕ, ◌<◌, List, [], ◌∷◌, ◌++◌, map, Option, Some, None, get_or}
+use Rattle.std.proofs.Common.{◌≡◌, ℕ, ◌<◌, ◌≤◌, Bool, List, [], ◌∷◌, ◌++◌, map, Option, Some, None, get_or}
 use Rattle.std.proofs.Common.{refl, sym, ap, ◌∙◌, subst, inl, inr, arith}
 use Rattle.std.specs.List.{All, AllPairs, Contains, cons_option}
 use Rattle.std.proofs.lemmas.List.Elements.{All-cons, All-nil, Contains-append_cases, Contains-append_left}
@@ -10,7 +10,7 @@ use Rattle.positions.specs.Ranks.{configurations, rank_of, configuration_at}
 use Rattle.positions.proofs.Cited.{rank_below, rank_of-configuration_at}
 use Rattle.proof_text.specs.Proof.{IsBefore}
 use Rattle.strategies.specs.Inside.Side.{Side, AreOfReached, AreReached, AreRowsAt, AreSection, IsRowAt}
-use Rattle.strategies.specs.Inside.ReachedRanks.{AreInOrder}
+use Rattle.strategies.specs.Inside.Marks.{AreListed, IsMarked}
 use Rattle.strategies.proofs.GatheredRows.{at_rank}
 use Rattle.strategies.proofs.OneList.{behind_first, tail_ascends}
 
@@ -137,9 +137,11 @@ module _ {R : Type 0} (board : PlainBoard) (side : Side R) where
         ])
 
   -- the rows at all ranks that were reached, in ascending order, are the section
-  pub section_is : (reached ranks : List ℕ) (rows : List R) → AreReached board side reached → AreInOrder reached ranks
+  pub section_is : (marks : List Bool) (end : ℕ) (ranks : List ℕ) (rows : List R) → AreReached board side marks
+      → configurations board ≤ end
+      → AreListed (IsMarked marks) 0 end ranks
       → AreRowsAt board side ranks rows → AreSection board side rows
-  section_is reached ranks rows are order rows_are = record {
+  section_is marks end ranks rows are enough listed rows_are = record {
     exactly = record {
       each = λ row. (
         λ among. (stands_among ranks rows rows_are row among).2,
@@ -148,16 +150,14 @@ module _ {R : Type 0} (board : PlainBoard) (side : Side R) where
             let at = at_rank board side are.rows row rank is_row refl in
             let below = rank_below board (side.at row) (are.rows.is_configuration row is_row) in
             row_is_there are.rows ranks rows rows_are rank
-            ((order.each rank).1 ((are.each rank).1 (below, are.rows.reached row rank is_row at))) row is_row at,
+            ((listed.each rank).1 (
+              (are.each rank).1 (below, are.rows.reached row rank is_row at),
+              omega arith,
+              omega (arith, below, enough),
+            )) row is_row at,
       );
-      ascending = rows_ascend ranks rows rows_are order.ascending
-          (λ rank among. ((are.each rank).0 ((order.each rank).0 among)).0);
+      ascending = rows_ascend ranks rows rows_are listed.ascending
+          (λ rank among. ((are.each rank).0 ((listed.each rank).0 among).0).0);
     };
     filled = all_filled ranks rows rows_are;
   }
-
-  -- a row may stand at each of the ranks
-  pub may_stand : (reached ranks : List ℕ) → AreReached board side reached → AreInOrder reached ranks
-      → All (λ rank. (rank < configurations board) × side.IsReached rank) ranks
-  may_stand reached ranks are order = λ k d inside.
-      (are.each (get_or ranks k d)).0 ((order.each (get_or ranks k d)).0 (Contains-get_or ranks k d inside))

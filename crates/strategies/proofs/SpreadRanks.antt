@@ -112,22 +112,12 @@ request_moves board = record {
 
 module _ (board : PlainBoard) (IsMove : List ℕ → ℕ → ℕ → Type 0) (Holds : List ℕ → Type 0)
     (Leads : ℕ → ℕ → Type 0) where
-  abbrev IsFound : ℕ → Type 0
+  abbrev pub IsFound : ℕ → Type 0
   IsFound rank = (rank < configurations board) × IsReachedBy board IsMove Holds rank
 
   pub record IsSpreadBy (place : ℕ) (ranks : List ℕ) : Type 0 where
     pub on : IsSpread IsFound Leads place ranks
     pub start : Holds board.start → Contains ranks (rank_of board board.start)
-
-  pub spread_below : (place rank : ℕ) (ranks : List ℕ) → IsSpreadBy place ranks → slice_get ranks place ≡ Some rank
-      → rank < configurations board
-  spread_below place rank ranks spread there = (spread.on.sound rank (get_there ranks place rank there)).0
-
-abbrev pub IsSpreadByAnswers : PlainBoard → ℕ → List ℕ → Type 0
-IsSpreadByAnswers board = IsSpreadBy board (IsAnswerMove board) (IsAnswerable board) (AnswerLeads board)
-
-abbrev pub IsSpreadByRequests : PlainBoard → ℕ → List ℕ → Type 0
-IsSpreadByRequests board = IsSpreadBy board (IsRequestMove board) (λ c. Unit {0}) (RequestLeads board)
 
 module _ (board : PlainBoard) (IsMove : List ℕ → ℕ → ℕ → Type 0) (Holds : List ℕ → Type 0) (Leads : ℕ → ℕ → Type 0)
     (is : IsConfiguration board board.start) where
@@ -153,7 +143,7 @@ module _ (board : PlainBoard) (IsMove : List ℕ → ℕ → ℕ → Type 0) (Ho
   }
 
   module _ (are : AreMoves board IsMove Holds Leads) where
-    keeps : (to rank : ℕ) → IsFound board IsMove Holds Leads rank → Leads rank to → IsFound board IsMove Holds Leads to
+    pub keeps : (to rank : ℕ) → IsFound board IsMove Holds Leads rank → Leads rank to → IsFound board IsMove Holds Leads to
     keeps to rank found leads =
         let c : List ℕ = configuration_at board rank in
         let (pebble, label, move, to_is, holds) = are.move rank to found.1.holds leads in

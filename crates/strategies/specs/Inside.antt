@@ -1,7 +1,10 @@
 -- Definitions that clauses of this crate's own functions cite, and no public contract.
 pub mod GapBest
 pub mod Configuration
+pub mod RankMoves
+pub mod Walks
 pub mod MovesAt
 pub mod Marks
 pub mod Side
 pub mod ReachedRanks
+pub mod ReachedMarks

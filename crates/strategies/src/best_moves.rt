@@ -9,7 +9,6 @@ ghost use Rattle.strategies.specs.Best.{IsBestAnswerIfAny, IsBestRequestIfAny};
 ghost use Rattle.strategies.specs.Inside.MovesAt.{position};
 
 use crate::configuration::Configuration;
-use crate::gap_best::GapBest;
 use crate::moves_at::MovesAt;
 use crate::moves_here::MovesHere;
 use crate::numbered_moves::NumberedMoves;
@@ -44,18 +43,9 @@ impl<'a> BestMoves<'a> {
         requires same_board { values.now ≡ board.now }
         ensures { result ≡ board.now }
     {
-        BestMoves::by(board, values, GapBest::new(values.numbered()))
-    }
-
-    /// The best moves on `board`, whose values are `values`, by the best answers `best` of gaps.
-    pub(crate) fn by(board: &'a Board, values: &'a Values, best: GapBest<'a>) -> BestMoves<'a>
-        requires same_board { values.now ≡ board.now }
-        requires best { best.board ≡ board.now }
-        ensures { result ≡ board.now }
-    {
         BestMoves {
             values,
-            moves: NumberedMoves::by(board, best),
+            moves: NumberedMoves::new(board, values.numbered()),
         }
     }
 
@@ -75,11 +65,11 @@ impl<'a> BestMoves<'a> {
         self.moves.board
     }
 
-    /// The values of the board.
-    pub fn values(&self) -> &'a Values
+    /// The best moves at configurations given by their places.
+    pub(crate) fn moves(&self) -> &NumberedMoves<'a>
         ensures { result.now ≡ self.now }
     {
-        self.values
+        &self.moves
     }
 
     /// The rank of the start.

@@ -70,6 +70,14 @@ impl Configuration {
         self.pebbles
     }
 
+    /// Puts `pebble` on `place`.
+    pub(crate) fn put(&mut self, pebble: u8, place: u16)
+        requires { pebble < length self.old }
+        ensures { self.new ≡ moved self.old pebble place }
+    {
+        self.places[pebble as usize] = place;
+    }
+
     /// The configuration after `pebble` is put on `label`.
     pub fn with(&self, pebble: u8, label: u16) -> Configuration
         requires { pebble < length self.now }

@@ -12,14 +12,15 @@ ghost use Rattle.strategies.specs.Document.{IsDocumentOf};
 ghost use Rattle.strategies.specs.Inside.Side.{AreAdversaryRows, AreSection, labeller_side};
 
 use crate::best_moves::BestMoves;
-use crate::gap_best::GapBest;
-use crate::rows::{section, section_in_parts};
+use crate::moves_here::MovesHere;
+use crate::rank_moves::RankMoves;
+use crate::rows::section;
+use crate::walk::Walk;
 use board_text::{Board, Memory};
 use positions::{Claim, MAX_CONFIGURATIONS, Value};
 use proof_text::{AdversaryRow, LabellerRow, Proof};
 use solver::Values;
 use std::alloc::Global;
-use std::thread::Threads;
 
 impl BestMoves<'_> {
     /// The document of the board: the value of its start, a strategy for the labeller, and one for
@@ -33,9 +34,8 @@ impl BestMoves<'_> {
             (answer_rows self.now proof.labeller.items)
             (request_rows self.now proof.adversary.items) proof.claim) }
     {
-        let best = GapBest::new(self.values().numbered()).listed(alloc)?;
-        let moves = BestMoves::by(self.board(), self.values(), best);
-        let value = moves.value(moves.start());
+        let moves = RankMoves::of(alloc, self.moves(), self.space())?;
+        let value = Walk::at(&moves, moves.start()).value();
         let labeller = section(alloc, &moves, value)?;
         let adversary = match value {
             Value::Finite(_) => section(alloc, &moves, value)?,
@@ -43,35 +43,9 @@ impl BestMoves<'_> {
         };
         Ok(moves.document_of(value, labeller, adversary))
     }
+}
 
-    /// The same as `document`, with each side's rows made in at most `parts` parts. Threads make
-    /// them where each has a thousand rows or more to make, and one can be started.
-    pub fn document_in_parts(
-        &self,
-        rt: &(impl Threads + Sync),
-        alloc: Global,
-        parts: u32,
-    ) -> Result<Proof, Memory>
-        requires { 1 ≤ parts }
-        ensures document { IfOk result (λ proof.
-            IsDocumentOf self.now (plain_proof self.now proof)) }
-        ensures form { IfOk result (IsDocument self.now) }
-        ensures rules { IfOk result (λ proof. BreaksNoRule self.now (plain_proof self.now proof)) }
-        ensures shows { IfOk result (λ proof. Shows self.now
-            (answer_rows self.now proof.labeller.items)
-            (request_rows self.now proof.adversary.items) proof.claim) }
-    {
-        let best = GapBest::new(self.values().numbered()).listed(alloc)?;
-        let moves = BestMoves::by(self.board(), self.values(), best);
-        let value = moves.value(moves.start());
-        let labeller = section_in_parts(rt, alloc, &moves, value, parts)?;
-        let adversary = match value {
-            Value::Finite(_) => section_in_parts(rt, alloc, &moves, value, parts)?,
-            Value::Forever => Vec::new(alloc),
-        };
-        Ok(moves.document_of(value, labeller, adversary))
-    }
-
+impl RankMoves<'_> {
     /// The document of the board, whose start has the value `value`, with the rows of both sides. A
     /// start that lasts forever has no rows for the adversary.
     fn document_of(

@@ -3,7 +3,7 @@
 ghost use Rattle.std.specs.Prelude.{◌≡◌, ◌+◌, ◌^◌, ◌<◌, ◌≤◌, true, false, length, IfOk, IfSome};
 ghost use Rattle.std.specs.Prelude.{replicate, slice_index_or, slice_set};
 ghost use Rattle.positions.specs.Counts.{IsSmallest};
-ghost use Rattle.strategies.specs.Inside.Marks.{AreMarkedNumbers};
+ghost use Rattle.strategies.specs.Inside.Marks.{IsMarked};
 
 use board_text::Memory;
 use std::alloc::Global;
@@ -56,10 +56,17 @@ impl Marks {
         self.words[(number / WORD) as usize] |= 1 << (number % WORD);
     }
 
+    /// Removes the mark of `number`.
+    pub(crate) fn clear(&mut self, number: u32)
+        requires { number < length self.old }
+        ensures { self.new ≡ slice_set self.old number false }
+    {
+        self.words[(number / WORD) as usize] &= !(1 << (number % WORD));
+    }
+
     /// The smallest marked number that is at least `bound`, if there is one.
     pub(crate) fn first_from(&self, bound: u32) -> Option<u32>
-        ensures first { IsSmallest (λ number. (bound ≤ number)
-            × (slice_index_or self.now number false ≡ true)) result }
+        ensures first { IsSmallest (λ number. (bound ≤ number) × IsMarked self.now number) result }
         ensures below { IfSome result (λ number. number + 1 < 2 ^ 32) }
     {
         let size = self.size as usize;
@@ -78,18 +85,5 @@ impl Marks {
             number += word - number % word;
         }
         None
-    }
-
-    /// The marked numbers, in ascending order. There is room for `count` of them.
-    pub(crate) fn list(&self, alloc: Global, count: usize) -> Result<Vec<u32>, Memory>
-        ensures { IfOk result (λ numbers. AreMarkedNumbers self.now numbers.items) }
-    {
-        let mut numbers = Vec::with_capacity(alloc, count)?;
-        let mut from = 0;
-        while let Some(number) = self.first_from(from) {
-            numbers.push(number)?;
-            from = number + 1;
-        }
-        Ok(numbers)
     }
 }

@@ -36,6 +36,13 @@ pub trait Moves: Drop {
         requires pebble { pebble < (board self.now).pebbles }
         ensures { IsBestAnswerIfAny (board self.now) held.now pebble result };
 
+    /// The best answer to a request of `pebble` at the configuration `held`, with the value of its
+    /// result, if a label is legal.
+    fn best(&self, held: &[u16], pebble: u8) -> Option<Best>
+        requires held { IsConfiguration (board self.now) held.now }
+        requires pebble { pebble < (board self.now).pebbles }
+        ensures { IsBestFor (board self.now) held.now pebble result };
+
     /// The value of the configuration `held`, and the best answer to a request of each pebble
     /// there, with the value of its result, if a label is legal. The entries after those of the
     /// pebbles say nothing.

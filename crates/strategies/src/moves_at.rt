@@ -1,8 +1,7 @@
 //! The best moves at one configuration, by the values of its graph.
 
-ghost use Rattle.std.specs.Prelude.{◌≡◌, ◌<◌};
+ghost use Rattle.std.specs.Prelude.{◌≡◌};
 ghost use Rattle.board_text.specs.PlainBoard.{IsBoard, IsConfiguration};
-ghost use Rattle.solver.specs.GapRequests.{IsRequestIn};
 ghost use Rattle.strategies.specs.Inside.MovesAt.{position};
 
 use crate::configuration::Configuration;
@@ -10,7 +9,6 @@ use crate::gap_best::{Best, GapBest};
 use crate::moves_here::MovesHere;
 use classes::Standing;
 use positions::Value;
-use solver::Results;
 use std::marker::Model;
 
 /// The best moves at one configuration. Contracts see the board and the configuration.
@@ -44,18 +42,6 @@ impl<'a> MovesAt<'a> {
             configuration,
             standing,
         }
-    }
-
-    /// The results of the answers to a request of `pebble`.
-    pub(crate) fn results(&self, pebble: u8) -> Results<'a>
-        requires { pebble < self.now.board.pebbles }
-        ensures board { result.game.board ≡ self.now.board }
-        ensures is_board { IsBoard self.now.board }
-        ensures request { IsRequestIn result self.now.held pebble }
-    {
-        self.best
-            .values()
-            .results(self.standing.gaps[pebble as usize])
     }
 }
 

@@ -92,6 +92,10 @@ impl<'a> Moves for NumberedMoves<'a> {
         self.at(held).label(pebble)
     }
 
+    fn best(&self, held: &[u16], pebble: u8) -> Option<Best> {
+        self.at(held).answer(pebble)
+    }
+
     fn answers(&self, held: &[u16]) -> (Value, [Option<Best>; MAX_PEBBLES]) {
         let here = self.at(held);
         (here.value(), here.answers())

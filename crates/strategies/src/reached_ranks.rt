@@ -1,91 +1,75 @@
 //! The results of best answers, and of best requests, at a configuration.
 
-ghost use Rattle.std.specs.Prelude.{◌≡◌, ◌<◌, IfOk};
-ghost use Rattle.positions.specs.Gaps.{gap_of};
-ghost use Rattle.positions.specs.Ranks.{configurations};
-ghost use Rattle.strategies.specs.Inside.ReachedRanks.{AnswerLeads, RequestLeads, IsWithAll};
-ghost use Rattle.strategies.specs.Inside.ReachedRanks.{AreExpanded, IsAnswerOf};
+ghost use Rattle.std.specs.Prelude.{◌≡◌, ◌<◌, length};
+ghost use Rattle.positions.specs.Gaps.{gaps};
+ghost use Rattle.positions.specs.Ranks.{configurations, configuration_at};
+ghost use Rattle.strategies.specs.Inside.MovesAt.{position};
+ghost use Rattle.strategies.specs.Inside.ReachedMarks.{AreExpanded, AreReachedWith};
+ghost use Rattle.strategies.specs.Inside.ReachedRanks.{AnswerLeads, IsAnswerOf, RequestLeads};
 
-use crate::best_moves::BestMoves;
 use crate::marks::Marks;
-use crate::moves_at::MovesAt;
 use crate::moves_here::MovesHere;
+use crate::rank_moves::RankMoves;
 use crate::reached::Reached;
-use board_text::Memory;
+use crate::walk::Walk;
 use positions::Value;
 
-impl BestMoves<'_> {
-    /// Adds the result of the best answer to each request at the configuration of `rank`, if that
-    /// has a value of 1 or more.
-    pub(crate) fn add_answers(&self, rank: u32, reached: &mut Reached) -> Result<(), Memory>
+impl RankMoves<'_> {
+    /// Adds the result of the best answer to each request at the configuration of `rank`, where
+    /// `here` is, if that has a value of 1 or more.
+    pub(crate) fn add_answers(&self, here: &Walk<'_>, rank: u32, reached: &mut Reached)
         requires rank { rank < configurations self.now }
-        requires size { reached.old.size ≡ configurations self.now }
-        ensures size { IfOk result (λ _. reached.new.size ≡ reached.old.size) }
-        ensures added { IfOk result (λ _. IsWithAll reached.old.ranks
-            (AnswerLeads self.now rank) reached.new.ranks) }
+        requires here { here.now ≡ position self.now (configuration_at self.now rank) }
+        requires size { length reached.old.reached ≡ configurations self.now }
+        ensures { AreReachedWith reached.old (AnswerLeads self.now rank) reached.new }
     {
-        let here = self.at(rank);
         for pebble in 0..here.pebbles() {
             if let Some(best) = here.answer(pebble) {
                 if Value::Finite(0) < best.value {
-                    reached.add(self.space().with(rank, pebble, best.label))?;
+                    reached.add(self.space().with(rank, pebble, best.label));
                 }
             }
         }
-        Ok(())
     }
 
-    /// Adds each result of the best request at the configuration of `rank`.
-    /// The results of a gap are added once.
+    /// Adds each result of the best request at the configuration of `rank`, where `here` is. The
+    /// results of a gap are added once.
     pub(crate) fn add_results(
         &self,
+        here: &Walk<'_>,
         rank: u32,
         reached: &mut Reached,
         expanded: &mut Marks,
-    ) -> Result<(), Memory>
+    )
         requires rank { rank < configurations self.now }
-        requires size { reached.old.size ≡ configurations self.now }
-        requires expanded { AreExpanded self.now expanded.old reached.old.ranks }
-        ensures size { IfOk result (λ _. reached.new.size ≡ reached.old.size) }
-        ensures expanded { IfOk result (λ _. AreExpanded self.now expanded.new reached.new.ranks) }
-        ensures added { IfOk result (λ _. IsWithAll reached.old.ranks
-            (RequestLeads self.now rank) reached.new.ranks) }
+        requires here { here.now ≡ position self.now (configuration_at self.now rank) }
+        requires size { length reached.old.reached ≡ configurations self.now }
+        requires expanded { AreExpanded self.now expanded.old reached.old.reached }
+        ensures expanded { AreExpanded self.now expanded.new reached.new.reached }
+        ensures added { AreReachedWith reached.old (RequestLeads self.now rank) reached.new }
     {
-        let here = self.at(rank);
         let Some(pebble) = here.request() else {
-            return Ok(());
+            return;
         };
         let gap = self.space().gap(rank, pebble);
         if expanded.get(gap) {
-            return Ok(());
+            return;
         }
-        self.add_members(&here, pebble, gap, reached)?;
+        self.add_members(gap, reached);
         expanded.set(gap);
-        Ok(())
     }
 
-    /// Adds the results of all answers of `gap`, the gap of `pebble` where the moves `here` are.
-    fn add_members(
-        &self,
-        here: &MovesAt<'_>,
-        pebble: u8,
-        gap: u32,
-        reached: &mut Reached,
-    ) -> Result<(), Memory>
-        requires board { here.now.board ≡ self.now }
-        requires size { reached.old.size ≡ configurations self.now }
-        requires pebble { pebble < self.now.pebbles }
-        requires gap { gap ≡ gap_of self.now here.now.held pebble }
-        ensures size { IfOk result (λ _. reached.new.size ≡ reached.old.size) }
-        ensures added { IfOk result (λ _. IsWithAll reached.old.ranks
-            (IsAnswerOf self.now gap) reached.new.ranks) }
+    /// Adds the results of all answers of `gap`.
+    fn add_members(&self, gap: u32, reached: &mut Reached)
+        requires gap { gap < gaps self.now }
+        requires size { length reached.old.reached ≡ configurations self.now }
+        ensures { AreReachedWith reached.old (IsAnswerOf self.now gap) reached.new }
     {
-        let answers = here.results(pebble).answers();
+        let answers = self.space().answers(self.board(), gap);
         let members = self.space().members(gap);
         let mut labels = answers.walk();
         while let Some(label) = labels.take_next() {
-            reached.add(members.rank(label))?;
+            reached.add(members.rank(label));
         }
-        Ok(())
     }
 }

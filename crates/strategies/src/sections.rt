@@ -1,19 +1,20 @@
 //! The sections of a document: a row for each configuration that was reached.
 
-ghost use Rattle.std.specs.Prelude.{◌≡◌, ◌<◌, ◌≤◌, IfOk};
+ghost use Rattle.std.specs.Prelude.{◌≡◌, IfOk};
 ghost use Rattle.board_text.specs.PlainBoard.{PlainBoard};
-ghost use Rattle.positions.specs.Ranks.{configurations};
+ghost use Rattle.positions.specs.Ranks.{configuration_at};
 ghost use Rattle.positions.specs.declared.value.Value.{Value as ValueData};
 ghost use Rattle.strategies.specs.Document.{turns_of};
-ghost use Rattle.strategies.specs.Inside.Side.{Side, AreReached, AreSection, IsRowAt};
+ghost use Rattle.strategies.specs.Inside.Side.{Side, AreReached, IsRowAt, MayStandAt};
 ghost use Rattle.strategies.specs.Inside.Side.{adversary_side, labeller_side};
 
-use crate::best_moves::BestMoves;
 use crate::marks::Marks;
 use crate::moves_here::MovesHere;
+use crate::rank_moves::RankMoves;
 use crate::reached::Reached;
+use crate::walk::Walk;
 use board_text::{MAX_PEBBLES, Memory};
-use positions::{MAX_CONFIGURATIONS, Turns, Value};
+use positions::{Turns, Value};
 use proof_text::{AdversaryRow, LabellerRow};
 use std::alloc::Global;
 
@@ -21,18 +22,17 @@ use std::alloc::Global;
 pub(crate) trait SectionRow: Copy {
     ghost side: { PlainBoard → ValueData → Side Self };
 
-    /// The configurations that a row may stand at.
-    fn reached(moves: &BestMoves<'_>, alloc: Global) -> Result<Reached, Memory>
-        ensures reached { IfOk result (λ reached. (start : ValueData)
-            → AreReached moves.now (side moves.now start) reached.ranks) }
-        ensures few { configurations moves.now ≤ MAX_CONFIGURATIONS };
+    /// Marks of the configurations that a row may stand at.
+    fn reached(moves: &RankMoves<'_>, alloc: Global) -> Result<Marks, Memory>
+        ensures { IfOk result (λ marks. (start : ValueData)
+            → AreReached moves.now (side moves.now start) marks) };
 
-    /// The row of the reached configuration of `rank`,
-    /// if it has one. The start has the value `start`.
-    fn at(moves: &BestMoves<'_>, start: Value, rank: u32) -> Option<Self>
-        requires rank { rank < configurations moves.now }
-        requires reached { (side moves.now start).IsReached rank }
-        ensures { IsRowAt moves.now (side moves.now start) rank result };
+    /// The row of the reached configuration of `rank`, where `here` is, if it has one. The start
+    /// has the value `start`.
+    fn at(here: &Walk<'_>, rank: u32, start: Value) -> Option<Self>
+        requires here { here.now.held ≡ configuration_at here.now.board rank }
+        requires may_stand { MayStandAt here.now.board (side here.now.board start) rank }
+        ensures { IsRowAt here.now.board (side here.now.board start) rank result };
 }
 
 impl SectionRow for LabellerRow {
@@ -40,22 +40,23 @@ impl SectionRow for LabellerRow {
 
     /// The configurations of value 1 or more that best answers reach
     /// from the start, through such configurations only.
-    fn reached(moves: &BestMoves<'_>, alloc: Global) -> Result<Reached, Memory> {
-        let mut reached = Reached::new(alloc, moves.space().configurations())?;
+    fn reached(moves: &RankMoves<'_>, alloc: Global) -> Result<Marks, Memory> {
         let start = moves.start();
-        if Value::Finite(0) < moves.value(start) {
-            reached.add(start)?;
+        let mut walk = Walk::at(moves, start);
+        let mut reached = Reached::new(alloc, moves.space().configurations())?;
+        if Value::Finite(0) < walk.value() {
+            reached.add(start);
         }
-        let mut index = 0;
-        while let Some(rank) = reached.at(index) {
-            moves.add_answers(rank, &mut reached)?;
-            index += 1;
+        let mut from = 0;
+        while let Some(rank) = reached.take_next(from) {
+            walk.move_to(rank);
+            moves.add_answers(&walk, rank, &mut reached);
+            from = rank + 1;
         }
-        Ok(reached)
+        Ok(reached.into_marks())
     }
 
-    fn at(moves: &BestMoves<'_>, start: Value, rank: u32) -> Option<LabellerRow> {
-        let here = moves.at(rank);
+    fn at(here: &Walk<'_>, rank: u32, start: Value) -> Option<LabellerRow> {
         let mut take = [0; MAX_PEBBLES];
         for pebble in 0..here.pebbles() {
             if let Some(best) = here.answer(pebble) {
@@ -74,21 +75,22 @@ impl SectionRow for AdversaryRow {
     ghost side = { adversary_side };
 
     /// The configurations that legal answers to best requests lead to from the start.
-    fn reached(moves: &BestMoves<'_>, alloc: Global) -> Result<Reached, Memory> {
-        let space = moves.space();
-        let mut reached = Reached::new(alloc, space.configurations())?;
-        let mut expanded = Marks::new(alloc, space.gaps())?;
-        reached.add(moves.start())?;
-        let mut index = 0;
-        while let Some(rank) = reached.at(index) {
-            moves.add_results(rank, &mut reached, &mut expanded)?;
-            index += 1;
+    fn reached(moves: &RankMoves<'_>, alloc: Global) -> Result<Marks, Memory> {
+        let start = moves.start();
+        let mut walk = Walk::at(moves, start);
+        let mut reached = Reached::new(alloc, moves.space().configurations())?;
+        let mut expanded = Marks::new(alloc, moves.space().gaps())?;
+        reached.add(start);
+        let mut from = 0;
+        while let Some(rank) = reached.take_next(from) {
+            walk.move_to(rank);
+            moves.add_results(&walk, rank, &mut reached, &mut expanded);
+            from = rank + 1;
         }
-        Ok(reached)
+        Ok(reached.into_marks())
     }
 
-    fn at(moves: &BestMoves<'_>, _start: Value, rank: u32) -> Option<AdversaryRow> {
-        let here = moves.at(rank);
+    fn at(here: &Walk<'_>, rank: u32, _start: Value) -> Option<AdversaryRow> {
         let Value::Finite(left) = here.value() else {
             return None;
         };

@@ -1,10 +1,9 @@
 -- Steps from one configuration to another, by ranks, and the ranks reached from the start.
-use Rattle.std.specs.Prelude.{◌≡◌, ℕ, ◌<◌, ◌↔◌, ◌⊎◌, ◌++◌, ◌≢◌, Bool, true, false, List, [], ◌∷◌}
-use Rattle.std.specs.Prelude.{Contains, AllPairs, length, slice_index_or}
+use Rattle.std.specs.Prelude.{◌≡◌, ℕ, ◌<◌, ◌↔◌, ◌⊎◌, ◌++◌, List, [], ◌∷◌, Contains, AllPairs}
 use Rattle.board_text.specs.PlainBoard.{PlainBoard}
 use Rattle.positions.specs.Game.{Legal, moved}
 use Rattle.positions.specs.Ranks.{configurations, rank_of, configuration_at}
-use Rattle.positions.specs.Gaps.{gaps, member_of, IsAnswer}
+use Rattle.positions.specs.Gaps.{member_of, IsAnswer}
 use Rattle.strategies.specs.Best.{IsBestAnswer, IsBestRequest}
 use Rattle.strategies.specs.Document.{IsAnswerable, IsAnswerMove, IsRequestMove, LeadsBy}
 
@@ -52,16 +51,6 @@ abbrev pub AreRanksOf : PlainBoard → (ℕ → Type 0) → List ℕ → Type 0
 AreRanksOf board P ranks =
     (rank : ℕ) → Contains ranks rank ↔ ((rank < configurations board) × P rank)
 
--- the ranks that were reached, in order, and the number of all ranks
-pub record ReachedRanks : Type 0 where
-  pub size : ℕ
-  pub ranks : List ℕ
-
--- a mark for each rank that was reached, and each is there once
-pub record AreMarked (marks : List Bool) (ranks : List ℕ) : Type 0 where
-  pub marked : (rank : ℕ) → (slice_index_or marks rank false ≡ true) ↔ Contains ranks rank
-  pub once : AllPairs (λ first second. first ≢ second) ranks
-
 -- the same ranks, in ascending order
 pub record AreInOrder (ranks ordered : List ℕ) : Type 0 where
   pub each : (rank : ℕ) → Contains ordered rank ↔ Contains ranks rank
@@ -85,10 +74,3 @@ IsAnswerLeadingTo board gap label rank =
 -- some answer of the gap leads to the rank
 abbrev pub IsAnswerOf : PlainBoard → ℕ → ℕ → Type 0
 IsAnswerOf board gap rank = (label : ℕ) × IsAnswerLeadingTo board gap label rank
-
--- the results of all answers of each expanded gap are among the ranks
-pub record AreExpanded (board : PlainBoard) (expanded : List Bool) (ranks : List ℕ) : Type 0 where
-  pub one_each : length expanded ≡ gaps board
-  pub there : (gap : ℕ) → gap < gaps board → slice_index_or expanded gap false ≡ true → (rank : ℕ)
-      → IsAnswerOf board gap rank
-      → Contains ranks rank

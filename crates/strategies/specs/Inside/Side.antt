@@ -1,5 +1,5 @@
 -- The sides of a document: the rows of a side's section, and their configurations.
-use Rattle.std.specs.Prelude.{◌≡◌, ℕ, ◌<◌, List, [], ◌∷◌, map, Option, Some, None, All}
+use Rattle.std.specs.Prelude.{◌≡◌, ℕ, ◌<◌, Bool, List, [], ◌∷◌, map, Option, Some, None, All}
 use Rattle.std.specs.List.{cons_option}
 use Rattle.board_text.specs.PlainBoard.{PlainBoard, IsConfiguration}
 use Rattle.positions.specs.declared.value.Value.{Value}
@@ -11,7 +11,7 @@ use Rattle.proof_text.specs.declared.proof.AdversaryRow.{AdversaryRow}
 use Rattle.proof_text.specs.Proof.{IsPadded, answer_row, request_row}
 use Rattle.strategies.specs.Document.{AreExactly, IsLabellerRow, IsAdversaryRow}
 use Rattle.strategies.specs.Inside.ReachedRanks.{IsReachedByAnswers, IsReachedByRequests}
-use Rattle.strategies.specs.Inside.ReachedRanks.{AreRanksOf}
+use Rattle.strategies.specs.Inside.ReachedMarks.{AreMarksOf}
 
 -- the rows of one side, which name their configurations by ranks
 pub record Side (R : Type 0) : Type 1 where
@@ -57,10 +57,10 @@ pub record AreOfReached {R : Type 0} (board : PlainBoard) (side : Side R) : Type
   pub one : (first second : side.Row) → side.IsRow first → side.IsRow second
       → side.at first ≡ side.at second → first ≡ second
 
--- exactly the ranks that a row may stand at, and rows stand at no others
-pub record AreReached {R : Type 0} (board : PlainBoard) (side : Side R) (ranks : List ℕ)
+-- exactly the ranks that a row may stand at are marked, and rows stand at no others
+pub record AreReached {R : Type 0} (board : PlainBoard) (side : Side R) (marks : List Bool)
     : Type 0 where
-  pub each : AreRanksOf board side.IsReached ranks
+  pub each : AreMarksOf board side.IsReached marks
   pub rows : AreOfReached board side
 
 -- the row at the configuration of a rank, or none if the side has none there

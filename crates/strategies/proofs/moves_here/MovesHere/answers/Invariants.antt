@@ -1,4 +1,4 @@
-use Rattle.strategies.proofs.FoundAnswers.{AreFoundBelow}
+use Rattle.strategies.specs.Inside.Walks.{AreFoundBelow}
 use Rattle.strategies.proofs.moves_here.MovesHere.answers.Given as goal
 
 abbrev pub invariant-loop-pebble : goal.invariant-loop-pebble

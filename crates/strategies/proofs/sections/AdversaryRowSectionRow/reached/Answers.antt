@@ -1,60 +1,61 @@
-use Rattle.std.proofs.Common.{refl, sym, ◌∙◌, arith}
+use Rattle.std.proofs.Common.{◌≡◌, ℕ, false, length, sym, ap, ◌∙◌, arith}
+use Rattle.std.proofs.Math.ListN.{length-replicate, replicate}
+use Rattle.positions.specs.Ranks.{configurations}
+use Rattle.strategies.specs.Inside.MovesAt.{HeldPosition}
+use Rattle.strategies.specs.Inside.ReachedMarks.{none_reached}
 use Rattle.strategies.proofs.AddedSteps.{none_expanded}
-use Rattle.std.proofs.lemmas.Option.{slice_get_within}
-use Rattle.strategies.proofs.AddedRanks.{added_one}
 use Rattle.strategies.proofs.GatheredRows.{adversarys}
-use Rattle.strategies.proofs.SpreadRanks.{spread_begins, spread_more, spread_ends, spread_below, request_moves}
+use Rattle.strategies.proofs.MarkedRanks.{reached_one}
+use Rattle.strategies.proofs.SpreadRanks.{request_moves}
+use Rattle.strategies.proofs.Sweeps.{left_below, sweep_begins, sweep_ends, sweep_more, sweep_smaller}
 use Rattle.strategies.proofs.sections.AdversaryRowSectionRow.reached.Goals as goal
 
 pub loop-rank-init : goal.loop-rank-init
 loop-rank-init c =
     let b = c.args.moves.now in
-    let is = c.start.ensures.is_board in
+    let is = c.start-start.ensures.is_board.start in
+    let size : ℕ = c.configurations.result in
+    let size_is : size ≡ configurations b = rw c.space.ensures.value at c.configurations.ensures.value in
+    let long : length (replicate size false) ≡ size = length-replicate size false in
     record {
-      size = c.in_ok-add.ensures.size ∙ c.in_ok-reached.ensures.size
-          ∙ (rw c.space-space.ensures.value at c.configurations.ensures.value);
+      here = ap (λ (p : HeldPosition). p.board) c.at-walk.ensures;
       expanded = rw c.in_ok-expanded.ensures
-          (none_expanded b c.gaps.result _ (rw c.space-space.ensures.value at c.gaps.ensures.value));
-      spread = spread_begins b _ _ _ is.start _
-          (added_one _ _ _ _ (rw (c.start.ensures.rank, c.in_ok-reached.ensures.empty) at c.in_ok-add.ensures.added)
-          (tt, refl)
-          (λ rank starts. starts.1));
+          (none_expanded b c.gaps.result _ (rw c.space-2.ensures.value at c.gaps.ensures.value));
+      swept = sweep_begins b _ _ _ is size _ size_is
+          (reached_one (none_reached size) _ c.start-start.result _
+          (omega (arith, long, size_is, c.start-start.ensures.below)) c.add.ensures.size
+          (rw c.in_ok-reached.ensures at c.add.ensures.reached) (tt, c.start-start.ensures.rank)
+          (λ rank starts. starts.1 ∙ sym c.start-start.ensures.rank)) long;
     }
-
-pub add_results-requires-clause-rank : goal.add_results-requires-clause-rank
-add_results-requires-clause-rank c =
-    spread_below _ _ _ _ _ _ _ c.loop-rank.invariant.spread (sym c.in-Some.ensures.rank)
-
-pub overflow_add-index : goal.overflow_add-index
-overflow_add-index c =
-    let place = slice_get_within c.loop-rank.reached.ranks c.loop-rank.index c.in-Some.rank
-    (sym c.in-Some.ensures.rank) in
-    omega (arith, place, c.in-Some.ensures.few, c.loop-rank.invariant.size, c.start.ensures.few)
 
 pub loop-rank-smaller : goal.loop-rank-smaller
 loop-rank-smaller c =
-    let place = slice_get_within c.loop-rank.reached.ranks c.loop-rank.index c.in-Some.rank
-    (sym c.in-Some.ensures.rank) in
-    omega (arith, place, c.in-Some.ensures.few, c.loop-rank.invariant.size)
+    let b = c.args.moves.now in
+    let swept = c.loop-rank.invariant.swept in
+    let taken = c.in-Some.ensures.taken in
+    sweep_smaller _ _ c.loop-rank.reached c.add_results.new.reached c.in-Some.rank (configurations b)
+    (left_below b _ _ _ c.loop-rank.reached c.in-Some.rank swept taken.0) taken.0 swept.on
+    (rw taken.1 at c.add_results.ensures.added)
 
 pub loop-rank-preserved : goal.loop-rank-preserved
 loop-rank-preserved c =
-    let is = c.start.ensures.is_board in
+    let b = c.args.moves.now in
+    let taken = c.in-Some.ensures.taken in
     record {
-      size = c.in_ok-add_results.ensures.size ∙ c.loop-rank.invariant.size;
-      expanded = c.in_ok-add_results.ensures.expanded;
-      spread = spread_more c.args.moves.now _ _ _ is.start
-          (request_moves c.args.moves.now) c.loop-rank.index c.in-Some.rank _ _
-          c.loop-rank.invariant.spread (sym c.in-Some.ensures.rank)
-          c.in_ok-add_results.ensures.added;
+      here = ap (λ (p : HeldPosition). p.board) c.move_to.ensures ∙ c.loop-rank.invariant.here;
+      expanded = c.add_results.ensures.expanded;
+      swept = sweep_more b _ _ _ c.start-start.ensures.is_board.start (request_moves b) c.loop-rank.reached
+          c.add_results.new.reached c.in-Some.rank c.loop-rank.invariant.swept taken.0
+          (rw taken.1 at c.add_results.ensures.added);
     }
 
-pub returns-clause-reached : goal.returns-clause-reached
-returns-clause-reached c = λ start.
-    let is = c.start.ensures.is_board.start in
+pub returns : goal.returns
+returns c = λ start.
+    let b = c.args.moves.now in
+    let is = c.start-start.ensures.is_board.start in
+    let taken = c.in_default.ensures.taken in
     record {
-      each = spread_ends c.args.moves.now _ _ _ is
-          (request_moves c.args.moves.now) c.loop-rank.index _ c.loop-rank.invariant.spread
-          (sym c.in_default.ensures.rank);
-      rows = adversarys c.args.moves.now start is;
+      each = rw (c.into_marks.ensures, taken.1)
+          (sweep_ends b _ _ _ is (request_moves b) c.loop-rank.reached c.loop-rank.invariant.swept taken.0);
+      rows = adversarys b start is;
     }

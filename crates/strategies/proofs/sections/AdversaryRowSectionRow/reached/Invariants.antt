@@ -1,15 +1,15 @@
-use Rattle.std.proofs.Common.{◌≡◌, ◌-◌}
+use Rattle.std.proofs.Common.{◌≡◌}
 use Rattle.positions.specs.Ranks.{configurations}
-use Rattle.strategies.specs.Inside.ReachedRanks.{AreExpanded}
-use Rattle.strategies.proofs.SpreadRanks.{IsSpreadByRequests}
+use Rattle.strategies.specs.Inside.ReachedMarks.{AreExpanded}
+use Rattle.strategies.proofs.Sweeps.{IsSweptByRequests, undone}
 use Rattle.strategies.proofs.sections.AdversaryRowSectionRow.reached.Given as goal
 
 abbrev pub invariant-loop-rank : goal.invariant-loop-rank
 invariant-loop-rank l = record {
-  size : l.reached.size ≡ configurations l.moves;
-  expanded : AreExpanded l.moves l.expanded l.reached.ranks;
-  spread : IsSpreadByRequests l.moves l.index l.reached.ranks;
+  here : l.walk.board ≡ l.moves;
+  expanded : AreExpanded l.moves l.expanded l.reached.reached;
+  swept : IsSweptByRequests l.moves l.reached;
 }
 
 abbrev pub decreases-loop-rank : goal.decreases-loop-rank
-decreases-loop-rank l = configurations l.moves - l.index
+decreases-loop-rank l = undone l.reached (configurations l.moves)

@@ -6,28 +6,28 @@ use Rattle.strategies.proofs.sections.LabellerRowSectionRow.at.Goals.{in-Some, i
 
 pub loop-pebble-preserved : goal.loop-pebble-preserved
 loop-pebble-preserved c =
-    let b = c.args.moves.now in
-    let pebbles = rw c.at-here.ensures at c.pebbles-pebble-end.ensures in
+    let b = c.args.here.now.board in
+    let pebbles = c.pebbles-pebble-end.ensures in
     let is_pebble : c.loop-pebble.pebble < b.pebbles = omega (arith, pebbles.value, c.loop-pebble-test.true) in
     let low : c.loop-pebble.pebble < MAX_PEBBLES = omega (arith, is_pebble, pebbles.is_board.pebbles) in
     elim c.match-answer.branch [
       | in-Some w ↦
           rw w.take-is
           (taken_more b _ c.loop-pebble.pebble w.in-Some.best.label c.loop-pebble.take low c.loop-pebble.invariant
-          (rw c.at-here.ensures at w.in-Some.ensures.0))
-      | in_default w ↦ absurd (has_answer b c.args.rank c.loop-pebble.pebble c.requires.reached is_pebble
-          (rw c.at-here.ensures at w.in_default.ensures))
+          (rw c.requires.here at w.in-Some.ensures.0))
+      | in_default w ↦ absurd (has_answer b c.args.rank c.loop-pebble.pebble c.requires.may_stand.1 is_pebble
+          (rw c.requires.here at w.in_default.ensures))
     ]
 
 pub returns : goal.returns
 returns c =
-    let b = c.args.moves.now in
-    let pebbles = rw c.at-here.ensures at c.pebbles-pebble-end.ensures in
+    let b = c.args.here.now.board in
+    let pebbles = c.pebbles-pebble-end.ensures in
     let end : b.pebbles ≤ c.loop-pebble.pebble = omega (arith, pebbles.value, c.loop-pebble-test.false) in
     rw c.turns.ensures (
       labeller_row_is b c.args.start c.value.result c.args.rank c.loop-pebble.pebble c.loop-pebble.take
           pebbles.is_board end
-          c.requires.reached (rw c.at-here.ensures at c.value.ensures) c.loop-pebble.invariant,
+          c.requires.may_stand.1 (rw c.requires.here at c.value.ensures) c.loop-pebble.invariant,
       refl,
       λ pebble above. c.loop-pebble.invariant.rest pebble (omega (arith, pebbles.value)),
     )

@@ -3,4 +3,4 @@ use Rattle.strategies.proofs.MadeRows.{AreTaken}
 use Rattle.strategies.proofs.sections.LabellerRowSectionRow.at.Given as goal
 
 abbrev pub invariant-loop-pebble : goal.invariant-loop-pebble
-invariant-loop-pebble l = AreTaken l.moves (configuration_at l.moves l.rank) l.pebble l.take
+invariant-loop-pebble l = AreTaken l.here.board (configuration_at l.here.board l.rank) l.pebble l.take

@@ -1,0 +1,50 @@
+use Rattle.std.proofs.Common.{◌≡◌, ◌-◌, ◌<◌, ◌++◌, ◌∷◌, [], ◌∙◌, arith, rules}
+use Rattle.board_text.specs.PlainBoard.{places}
+use Rattle.board_text.proofs.Cited.{some_places}
+use Rattle.classes.specs.Numbers.{class_with, ways}
+use Rattle.classes.proofs.Cited.{with-is}
+use Rattle.strategies.proofs.TabledAnswers.{asked, best-more}
+use Rattle.strategies.proofs.rank_moves.best_of_gaps.Given.{Over}
+use Rattle.strategies.proofs.rank_moves.best_of_gaps.Goals as goal
+use Rattle.strategies.proofs.rank_moves.best_of_gaps.Goals.{After-places}
+
+module _ (g : Over) (c : After-places g) where
+  inside : c.loop-index.index < ways (c.args.classes.now.pebbles - 1) (places c.args.classes.now)
+  inside =
+      let lists = rw c.pebbles.ensures.value at c.in_ok-lists.ensures in
+      omega (arith, c.loop-index-test.true, c.len-index-end.ensures, lists.size)
+
+  listed : c.index.result.now
+      ≡ class_with (places c.args.classes.now) (c.args.classes.now.pebbles - 1) c.loop-index.index
+  listed =
+      let lists = rw c.pebbles.ensures.value at c.in_ok-lists.ensures in
+      c.index.ensures ∙ lists.each c.loop-index.index c.index.result.now inside
+
+  some : 0 < c.args.classes.now.pebbles
+  some = omega (arith, c.places.ensures.is_board.pebbles)
+
+  low : c.places.result - 1 < places c.args.classes.now
+  low = omega (arith, c.places.ensures.value, some_places c.args.classes.now c.places.ensures.is_board)
+
+pub with_greatest-held-requires : goal.with_greatest-held-requires
+with_greatest-held-requires g c =
+    let at = goal.at.with_greatest-held-requires g c in
+    let board = c.args.classes.now in
+    let class = (with-is (places board) (board.pebbles - 1) c.loop-index.index (inside g c)).is in
+    rw (listed g c) (omega (arith, class.size, c.places.ensures.is_board.pebbles))
+
+pub best-requires-clause-held : goal.best-requires-clause-held
+best-requires-clause-held g c =
+    let at = (goal.at.best-requires-clause-held g c).After-places in
+    rw (c.as_slice.ensures.value, c.with_greatest-held.ensures, listed g at, ← c.requires)
+    (asked c.args.classes.now (some g at) (c.places.result - 1) c.loop-index.index (low g at) (inside g at))
+
+pub loop-index-preserved : goal.loop-index-preserved
+loop-index-preserved g c =
+    let at = (goal.at.loop-index-preserved g c).After-places in
+    let board = c.args.classes.now in
+    let items : c.push.new.self.items ≡ c.loop-index.best.items ++ c.best.result ∷ [] = search rules in
+    rw items
+    (best-more board (some g at) (c.places.result - 1) c.loop-index.index c.loop-index.best.items c.best.result (low g at)
+    (inside g at) c.loop-index.invariant
+    (rw (c.as_slice.ensures.value, c.with_greatest-held.ensures, listed g at, ← c.requires) at c.best.ensures))

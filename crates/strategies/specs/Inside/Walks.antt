@@ -1,0 +1,48 @@
+-- Walks over configurations by ranks: those that differ in the last pebble's place alone.
+use Rattle.std.specs.Prelude.{◌≡◌, ℕ, ◌+◌, ◌-◌, ◌<◌, List, length, Option, None, slice_index, take}
+use Rattle.std.specs.Prelude.{slice_index_or}
+use Rattle.std.specs.List.{remove}
+use Rattle.board_text.specs.PlainBoard.{PlainBoard, IsConfiguration, places}
+use Rattle.board_text.specs.declared.board.TheConstants.{MAX_PEBBLES}
+use Rattle.positions.specs.Game.{moved}
+use Rattle.positions.specs.Ranks.{configuration_at}
+use Rattle.classes.specs.Classes.{class_of}
+use Rattle.classes.specs.Numbers.{class_number}
+use Rattle.strategies.specs.declared.gap_best.Best.{Best}
+use Rattle.strategies.specs.Best.{IsBestFor}
+use Rattle.strategies.specs.Inside.MovesAt.{HeldPosition}
+
+-- the places of all pebbles but the last
+abbrev pub others_held : PlainBoard → List ℕ → List ℕ
+others_held board held = take (board.pebbles - 1) held
+
+-- for each pebble below a bound, the number of the class of these places without its own
+pub record AreOthers (board : PlainBoard) (held : List ℕ) (bound : ℕ) (others : List ℕ)
+    : Type 0 where
+  pub room : length others ≡ MAX_PEBBLES
+  pub numbers : (pebble : ℕ) → pebble < bound
+      → slice_index others pebble
+      ≡ class_number (class_of (remove (others_held board held) pebble))
+
+-- tables for the same board, and from the first rank on its configurations that differ in the last
+-- pebble's place alone, by that place
+pub record IsGapWalk (board members : PlainBoard) (held : List ℕ) (first : ℕ) (others : List ℕ)
+    : Type 0 where
+  pub same_board : members ≡ board
+  pub is_configuration : IsConfiguration board held
+  pub ranks : (place : ℕ) → place < places board
+      → configuration_at board (first + place) ≡ moved held (board.pebbles - 1) place
+  pub numbers : AreOthers board held board.pebbles others
+
+-- the best answers to requests of the pebbles below a bound are in their places
+pub record AreFoundBelow (board : PlainBoard) (held : List ℕ) (bound : ℕ)
+    (answers : List (Option Best)) : Type 0 where
+  pub room : length answers ≡ MAX_PEBBLES
+  pub best : (pebble : ℕ) → pebble < bound
+      → IsBestFor board held pebble (slice_index_or answers pebble None)
+
+-- the best answers to requests of all pebbles at a configuration of the board
+pub record IsWalk (board : PlainBoard) (position : HeldPosition) (answers : List (Option Best))
+    : Type 0 where
+  pub same_board : position.board ≡ board
+  pub found : AreFoundBelow board position.held board.pebbles answers
