@@ -102,7 +102,8 @@ module _ (b : PlainBoard) (words : List ℕ) (sets : List (List ℕ)) (f : Famil
     unclosed-none none less empty upto x x_low =
         let small : x < MAX_LABELS = (let most = is_board.labels.1 in omega (arith, x_low, most)) in
         let own : IsClosedBefore (gap_table words gap) bound =
-        subst (λ w. IsClosedBefore (round_of_word w) bound) (sym own-word) (before-from word bound less (omega arith)) in
+        subst (λ w. IsClosedBefore (round_of_word w) bound) (sym own-word) (before-from word bound less (omega arith))
+        in
         let closed = (closed-word x x_low).1
         ((closed-parts b is_board gap gap-is x x_low (gap_table words) bound).1 (inl own)) in
         let is = before-to (class_word b words gap x) bound closed in (

@@ -1,5 +1,6 @@
 -- The value of a configuration is the least of what the best answers there leave.
-use Rattle.std.proofs.Common.{◌≡◌, ℕ, zero, suc, ◌+◌, ◌<◌, ◌≤◌, ◌⊎◌, List, Option, None, Some, inl, inr, refl, sym, subst}
+use Rattle.std.proofs.Common.{◌≡◌, ℕ, zero, suc, ◌+◌, ◌<◌, ◌≤◌, ◌⊎◌, List, Option, None, Some, inl, inr, refl, sym}
+use Rattle.std.proofs.Common.{subst}
 use Rattle.std.proofs.Common.{arith}
 use Rattle.std.proofs.lemmas.Bool.{cases_lt}
 use Rattle.board_text.specs.PlainBoard.{PlainBoard, IsConfiguration}
@@ -42,7 +43,8 @@ module _ (board : PlainBoard) (held : List ℕ) where
     least = λ other low. elim (cases_lt other pebble) [
       | inl before ↦
           let known = was.least other before in
-          (known.0, known.1, λ below. known.2 (IsLess-trans (answered_with known.0) (answered_with best) value below less))
+          (known.0, known.1, λ below. known.2 (IsLess-trans (answered_with known.0) (answered_with best) value below
+          less))
       | inr last ↦
           let same : pebble ≡ other = omega arith in
           subst (IsLeft board held (answered_with best)) same (best, is, IsLess-irrefl (answered_with best))

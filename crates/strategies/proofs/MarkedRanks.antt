@@ -41,7 +41,8 @@ is_set marks rank inside = get_or-set_same marks rank true false inside
 
 pub is_cleared : (marks : List Bool) (rank : ℕ) → rank < length marks → IsMarked (slice_set marks rank false) rank → ⊥
 is_cleared marks rank inside is =
-    both_ways (slice_index_or (slice_set marks rank false) rank false) (get_or-set_same marks rank false false inside) is
+    both_ways (slice_index_or (slice_set marks rank false) rank false) (get_or-set_same marks rank false false inside)
+    is
 
 module _ (marks : List Bool) (rank other : ℕ) (bit : Bool) (differ : other ≢ rank) where
   pub still_set : IsMarked marks other → IsMarked (slice_set marks rank bit) other

@@ -63,7 +63,8 @@ module _ (board : PlainBoard) (some : 0 < board.pebbles) where
       let number = number-last (places board) held last place (omega arith) in
       let same : first + place ≡ rank_of board (moved held last place) =
       ap (λ n. n + place) first_is ∙ sym number in
-      ap (configuration_at board) same ∙ configuration_at-rank_of board (moved held last place) (placed held is place low)
+      ap (configuration_at board) same
+      ∙ configuration_at-rank_of board (moved held last place) (placed held is place low)
 
   -- the same after a step to another of them
   pub others-moved : (held : List ℕ) (place : ℕ) → others_held board (moved held last place) ≡ others_held board held
@@ -106,7 +107,8 @@ module _ (board : PlainBoard) (held : List ℕ) (is : IsConfiguration board held
   last-gap =
       ap class_of (remove-past (others_held board held) (board.pebbles - 1) (omega (arith, others-size)))
       ∙ sym (ap (λ l. class_of (remove l (board.pebbles - 1))) whole
-      ∙ ap (λ n. class_of (remove (others_held board held ++ get_or held (board.pebbles - 1) 0 ∷ []) n)) (sym others-size)
+      ∙ ap (λ n. class_of (remove (others_held board held ++ get_or held (board.pebbles - 1) 0 ∷ []) n)) (sym
+      others-size)
       ∙ ap class_of (remove-last (others_held board held) (get_or held (board.pebbles - 1) 0)))
 
   -- another pebble's has the last one's place

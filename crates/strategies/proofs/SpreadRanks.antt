@@ -143,7 +143,8 @@ module _ (board : PlainBoard) (IsMove : List ℕ → ℕ → ℕ → Type 0) (Ho
   }
 
   module _ (are : AreMoves board IsMove Holds Leads) where
-    pub keeps : (to rank : ℕ) → IsFound board IsMove Holds Leads rank → Leads rank to → IsFound board IsMove Holds Leads to
+    pub keeps : (to rank : ℕ) → IsFound board IsMove Holds Leads rank → Leads rank to
+        → IsFound board IsMove Holds Leads to
     keeps to rank found leads =
         let c : List ℕ = configuration_at board rank in
         let (pebble, label, move, to_is, holds) = are.move rank to found.1.holds leads in

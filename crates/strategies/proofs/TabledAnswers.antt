@@ -1,5 +1,6 @@
 -- The best answers of all gaps in a table, made gap by gap.
-use Rattle.std.proofs.Common.{◌≡◌, ℕ, zero, suc, ◌+◌, ◌-◌, ◌<◌, List, [], ◌∷◌, ◌++◌, length, get_or, Option, None, inl, inr}
+use Rattle.std.proofs.Common.{◌≡◌, ℕ, zero, suc, ◌+◌, ◌-◌, ◌<◌, List, [], ◌∷◌, ◌++◌, length, get_or, Option, None, inl}
+use Rattle.std.proofs.Common.{inr}
 use Rattle.std.proofs.Common.{sym, ap, ◌∙◌, subst, arith}
 use Rattle.std.proofs.lemmas.Bool.{cases_lt}
 use Rattle.std.proofs.lemmas.List.{get_or_append_left, get_or_push, length_push}
@@ -58,7 +59,8 @@ module _ (board : PlainBoard) (some : 0 < board.pebbles) where
           class_of-class (places board) (gap number) class.falls in
           subst (IsBestFor board held pebble)
           (sym (get_or_push answers best None (class_number (gap_at held pebble)) (omega (arith, last, long))))
-          (same-best board (place ∷ gap number) held 0 pebble best (asked place number low inside) configuration some asks
+          (same-best board (place ∷ gap number) held 0 pebble best (asked place number low inside) configuration some
+          asks
           (first ∙ sym own) is)
     ];
   }

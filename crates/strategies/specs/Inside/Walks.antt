@@ -42,7 +42,7 @@ pub record AreFoundBelow (board : PlainBoard) (held : List ℕ) (bound : ℕ)
       → IsBestFor board held pebble (slice_index_or answers pebble None)
 
 -- the best answers to requests of all pebbles at a configuration of the board
-pub record IsWalk (board : PlainBoard) (position : HeldPosition) (answers : List (Option Best))
+pub record IsBestWalk (board : PlainBoard) (position : HeldPosition) (answers : List (Option Best))
     : Type 0 where
   pub same_board : position.board ≡ board
   pub found : AreFoundBelow board position.held board.pebbles answers

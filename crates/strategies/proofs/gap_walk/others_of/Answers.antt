@@ -15,5 +15,6 @@ pub loop-pebble-preserved : goal.loop-pebble-preserved
 loop-pebble-preserved c =
     others-more c.args.members.now c.args.held.now c.loop-pebble.others c.loop-pebble.pebble c.number_without.result
     (omega (arith, c.loop-pebble-test.true, c.requires.few)) c.loop-pebble.invariant
-    (c.number_without.ensures ∙ ap (λ n. class_number (class_of (remove (take (n - 1) c.args.held.now) c.loop-pebble.pebble)))
+    (c.number_without.ensures ∙ ap (λ n. class_number (class_of (remove (take (n - 1) c.args.held.now)
+    c.loop-pebble.pebble)))
     c.requires.held.each_pebble)

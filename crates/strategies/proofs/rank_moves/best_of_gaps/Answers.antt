@@ -45,6 +45,7 @@ loop-index-preserved g c =
     let board = c.args.classes.now in
     let items : c.push.new.self.items ≡ c.loop-index.best.items ++ c.best.result ∷ [] = search rules in
     rw items
-    (best-more board (some g at) (c.places.result - 1) c.loop-index.index c.loop-index.best.items c.best.result (low g at)
+    (best-more board (some g at) (c.places.result - 1) c.loop-index.index c.loop-index.best.items c.best.result (low g
+    at)
     (inside g at) c.loop-index.invariant
     (rw (c.as_slice.ensures.value, c.with_greatest-held.ensures, listed g at, ← c.requires) at c.best.ensures))

@@ -16,7 +16,8 @@ loop-pebble-preserved c =
     let best = rw c.self.view_is at c.self.invariant.best in
     let gap = rw c.requires.same_board at c.gap.ensures in
     let read : c.index.result.now ≡ get_or answers c.gap.result None =
-    get_or_read answers c.gap.result c.index.result.now (omega (arith, gap.below, best.one_each)) c.index.ensures None in
+    get_or_read answers c.gap.result c.index.result.now (omega (arith, gap.below, best.one_each)) c.index.ensures None
+    in
     let same : get_or answers (class_number (gap_at held pebble)) None ≡ c.index.result.now =
     ap (λ n. get_or answers n None) (sym gap.number) ∙ sym read in
     found_more c.args.self.now held pebble c.index.result.now c.loop-pebble.answers
