@@ -5,7 +5,6 @@ ghost use Rattle.board_text.specs.Ranges.{InRange};
 ghost use Rattle.classes.specs.Numbers.{class_count};
 ghost use Rattle.graphs.specs.Numbered.{numbered};
 ghost use Rattle.positions.specs.Ranks.{configurations};
-ghost use Rattle.positions.specs.Value.{HasValue};
 ghost use Rattle.runs.specs.Run.{Ran, Fails, TellsStreams, bytes_of, stream_of};
 ghost use Rattle.runs.specs.SolveRun.{CannotSolve, IsSolution, IsSolved};
 ghost use Rattle.runs.specs.Inside.SolveRun.{IsRefused};
@@ -17,16 +16,16 @@ use crate::reading::{MAX_BOARD_BYTES, read_text};
 use crate::writing::write_text;
 use board_text::{Board, Memory, Sink, Source};
 use classes::MAX_CLASSES;
+use gap_values::GapValues;
 use graphs::Numbering;
-use index_lists::PlainLists;
-use positions::{MAX_CONFIGURATIONS, Value};
+use positions::{MAX_CONFIGURATIONS, Space, Value};
 use proof_text::{print, print_in_parts};
 use round_workers::{MAX_WORKERS, NoGate, solve_classes};
-use solver::{NumberedValues, Solver, Values};
+use solver::NumberedValues;
 use std::alloc::Global;
 use std::sync::Wait;
 use std::thread::Threads;
-use strategies::BestMoves;
+use strategies::{GapMoves, Moves, NumberedMoves, document_by};
 
 /// Reads a board, finds the value of its start on this thread and writes the document that shows
 /// it.
@@ -100,8 +99,8 @@ pub fn solve_text_alone(alloc: Global, text: &[u8]) -> Result<Solved, RunFault>
     ensures fault { IfErr result (HasNoBoard text.now) }
 {
     let board = small_board(alloc, text)?;
-    let values = values_of(alloc, &board)?;
-    Ok(solution(alloc, &BestMoves::new(&board, &values))?)
+    let values = GapValues::of(alloc, &board)?;
+    Ok(solution(alloc, &GapMoves::new(&board, &values))?)
 }
 
 /// The same as `solve_text_alone`, found by this number of `workers`, 1 to `MAX_WORKERS`. It may
@@ -121,83 +120,43 @@ pub fn solve_text(
         return solve_text_alone(alloc, text);
     }
     let board = small_board(alloc, text)?;
-    let values = values_by(rt, alloc, workers, &board)?;
-    let moves = BestMoves::new(&board, &values);
+    let values = numbered_by(rt, alloc, workers, &board)?;
+    let moves = NumberedMoves::new(&board, &values);
     Ok(solution_in_parts(rt, alloc, &moves, workers)?)
 }
 
-/// The value of the start of a board with these best moves, and the text of the board's document.
-fn solution(alloc: Global, moves: &BestMoves<'_>) -> Result<Solved, Memory>
-    ensures { IfOk result (λ solved. IsSolved moves.now solved.value (string_bytes solved.text)) }
+/// The value of the start of the board of `moves`, and the text of the board's document.
+fn solution<M: Moves>(alloc: Global, moves: &M) -> Result<Solved, Memory>
+    requires few { configurations (M.board moves.now) ≤ MAX_CONFIGURATIONS }
+    ensures { IfOk result (λ solved.
+        IsSolved (M.board moves.now) solved.value (string_bytes solved.text)) }
 {
-    let value = start_value(moves);
-    let document = moves.document(alloc)?;
-    let text = print(alloc, moves.space(), &document)?;
+    let board = moves.board();
+    let space = Space::new(board);
+    let value = moves.value(board.start());
+    let document = document_by(alloc, moves, &space)?;
+    let text = print(alloc, &space, &document)?;
     Ok(Solved { value, text })
 }
 
 /// The same, with the lines of the document's rows made in this number of `parts`.
-fn solution_in_parts(
+fn solution_in_parts<M: Moves>(
     rt: &(impl Threads + Sync),
     alloc: Global,
-    moves: &BestMoves<'_>,
+    moves: &M,
     parts: u8,
 ) -> Result<Solved, Memory>
-    requires { 1 ≤ parts }
-    ensures { IfOk result (λ solved. IsSolved moves.now solved.value (string_bytes solved.text)) }
+    requires few { configurations (M.board moves.now) ≤ MAX_CONFIGURATIONS }
+    requires parts { 1 ≤ parts }
+    ensures { IfOk result (λ solved.
+        IsSolved (M.board moves.now) solved.value (string_bytes solved.text)) }
 {
-    let value = start_value(moves);
-    let document = moves.document(alloc)?;
-    let text = print_in_parts(rt, alloc, moves.space(), &document, parts as u32)?;
+    let board = moves.board();
+    let space = Space::new(board);
+    let value = moves.value(board.start());
+    let document = document_by(alloc, moves, &space)?;
+    let text = print_in_parts(rt, alloc, &space, &document, parts as u32)?;
     Ok(Solved { value, text })
-}
-
-/// The value of the start of a board with these best moves.
-fn start_value(moves: &BestMoves<'_>) -> Value
-    ensures { HasValue moves.now moves.now.start result }
-{
-    moves.value(moves.start())
-}
-
-/// The values of a small board by its ranks, by this number of workers, which share the work.
-fn values_by(
-    rt: &(impl Threads + Wait + Sync),
-    alloc: Global,
-    workers: u8,
-    board: &Board,
-) -> Result<Values, RunFault>
-    requires few { configurations board.now ≤ MAX_CONFIGURATIONS }
-    requires workers { InRange 1 MAX_WORKERS workers }
-    ensures values { IfOk result (λ values. values ≡ board.now) }
-    ensures refused { IfErr result (IsRefused BoardLimit.Small workers board.now) }
-{
-    let values = numbered_by(rt, alloc, workers, board)?;
-    values_with_tables(alloc, board, values)
-}
-
-/// The values of a small board by its ranks, by as many rounds as it takes.
-fn values_of(alloc: Global, board: &Board) -> Result<Values, RunFault>
-    requires { configurations board.now ≤ MAX_CONFIGURATIONS }
-    ensures values { IfOk result (λ values. values ≡ board.now) }
-    ensures memory { IfErr result IsMemory }
-{
-    let values = numbered_of(alloc, board)?;
-    values_with_tables(alloc, board, values)
-}
-
-/// The same values of a small board, with tables for the standings of its ranks.
-fn values_with_tables(
-    alloc: Global,
-    board: &Board,
-    values: NumberedValues,
-) -> Result<Values, RunFault>
-    requires few { configurations board.now ≤ MAX_CONFIGURATIONS }
-    requires values { values ≡ numbered board.now Numbering.Classes }
-    ensures values { IfOk result (λ values. values ≡ board.now) }
-    ensures memory { IfErr result IsMemory }
-{
-    let values = values.with_tables(alloc, board)?;
-    Ok(Values::new(values, board))
 }
 
 /// The values of a board, by this number of workers, which share the rounds over its graph.
@@ -213,14 +172,4 @@ pub(crate) fn numbered_by(
     ensures refused { IfErr result (IsRefused BoardLimit.Small workers board.now) }
 {
     Ok(solve_classes(rt, alloc, board, workers as u32, &NoGate)?)
-}
-
-/// The values of a board, by as many rounds as it takes.
-fn numbered_of(alloc: Global, board: &Board) -> Result<NumberedValues, RunFault>
-    requires { class_count board.now ≤ MAX_CLASSES }
-    ensures values { IfOk result (λ values. values ≡ numbered board.now Numbering.Classes) }
-    ensures memory { IfErr result IsMemory }
-{
-    let solver = Solver::<PlainLists>::of_classes(alloc, board)?;
-    Ok(solver.solve_numbered())
 }

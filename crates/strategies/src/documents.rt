@@ -12,12 +12,13 @@ ghost use Rattle.strategies.specs.Document.{IsDocumentOf};
 ghost use Rattle.strategies.specs.Inside.Side.{AreAdversaryRows, AreSection, labeller_side};
 
 use crate::best_moves::BestMoves;
+use crate::moves::Moves;
 use crate::moves_here::MovesHere;
 use crate::rank_moves::RankMoves;
 use crate::rows::section;
 use crate::walk::Walk;
 use board_text::{Board, Memory};
-use positions::{Claim, MAX_CONFIGURATIONS, Value};
+use positions::{Claim, MAX_CONFIGURATIONS, Space, Value};
 use proof_text::{AdversaryRow, LabellerRow, Proof};
 use solver::Values;
 use std::alloc::Global;
@@ -34,15 +35,32 @@ impl BestMoves<'_> {
             (answer_rows self.now proof.labeller.items)
             (request_rows self.now proof.adversary.items) proof.claim) }
     {
-        let moves = RankMoves::of(alloc, self.moves(), self.space())?;
-        let value = Walk::at(&moves, moves.start()).value();
-        let labeller = section(alloc, &moves, value)?;
-        let adversary = match value {
-            Value::Finite(_) => section(alloc, &moves, value)?,
-            Value::Forever => Vec::new(alloc),
-        };
-        Ok(moves.document_of(value, labeller, adversary))
+        document_by(alloc, self.moves(), self.space())
     }
+}
+
+/// The document of the board of `moves`, whose configurations and gaps are those of `space`: the
+/// value of its start, a strategy for the labeller, and one for the adversary if the value is
+/// finite.
+pub fn document_by<M: Moves>(alloc: Global, moves: &M, space: &Space) -> Result<Proof, Memory>
+    requires same_board { space.now ≡ M.board moves.now }
+    ensures document { IfOk result (λ proof.
+        IsDocumentOf (M.board moves.now) (plain_proof (M.board moves.now) proof)) }
+    ensures form { IfOk result (IsDocument (M.board moves.now)) }
+    ensures rules { IfOk result (λ proof.
+        BreaksNoRule (M.board moves.now) (plain_proof (M.board moves.now) proof)) }
+    ensures shows { IfOk result (λ proof. Shows (M.board moves.now)
+        (answer_rows (M.board moves.now) proof.labeller.items)
+        (request_rows (M.board moves.now) proof.adversary.items) proof.claim) }
+{
+    let ranked = RankMoves::of(alloc, moves, space)?;
+    let value = Walk::at(&ranked, ranked.start()).value();
+    let labeller = section(alloc, &ranked, value)?;
+    let adversary = match value {
+        Value::Finite(_) => section(alloc, &ranked, value)?,
+        Value::Forever => Vec::new(alloc),
+    };
+    Ok(ranked.document_of(value, labeller, adversary))
 }
 
 impl RankMoves<'_> {

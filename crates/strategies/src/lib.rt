@@ -23,7 +23,7 @@ mod walk;
 
 pub use best_moves::{BestMoves, best_answer, best_request};
 pub use configuration::Configuration;
-pub use documents::document;
+pub use documents::{document, document_by};
 pub use gap_best::Best;
 pub use gap_moves::GapMoves;
 pub use laws::{best_answers_last, best_requests_end, one_best_answer, one_best_request};

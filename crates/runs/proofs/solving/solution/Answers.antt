@@ -1,9 +1,9 @@
 use Rattle.runs.proofs.solving.solution.Goals as goal
 
 pub returns : goal.returns
-returns c = record {
-  has_value = c.start_value-value.ensures;
+returns g c = record {
+  has_value = c.value-value.ensures;
   document = _;
   is_document = c.in_ok-document.ensures.document;
-  text_is = rw c.space.ensures.value at c.in_ok-text.ensures;
+  text_is = rw c.new-space.ensures at c.in_ok-text.ensures;
 }
