@@ -42,9 +42,12 @@ module _ (board : PlainBoard) (held : List ℕ) where
   least-less pebble value best was is less = record {
     least = λ other low. elim (cases_lt other pebble) [
       | inl before ↦
-          let known = was.least other before in
-          (known.0, known.1, λ below. known.2 (IsLess-trans (answered_with known.0) (answered_with best) value below
-          less))
+          let known = was.least other before in (
+            known.0,
+            known.1,
+            λ below. known.2 (IsLess-trans (answered_with known.0) (answered_with best) value below
+                less),
+          )
       | inr last ↦
           let same : pebble ≡ other = omega arith in
           subst (IsLeft board held (answered_with best)) same (best, is, IsLess-irrefl (answered_with best))

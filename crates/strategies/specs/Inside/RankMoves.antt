@@ -13,12 +13,12 @@ use Rattle.strategies.specs.Best.{IsBestFor}
 
 -- the best answers of the gaps with numbers below a bound, by number
 pub record AreBestBelow (board : PlainBoard) (bound : ℕ) (answers : List (Option Best)) : Type 0
-    where
-  pub one_each : length answers ≡ bound
-  pub best : (held : List ℕ) (pebble : ℕ) → IsConfiguration board held → pebble < board.pebbles
-      → class_number (gap_at held pebble) < bound
-      → IsBestFor board held pebble (slice_index_or answers (class_number (gap_at held pebble))
-      None)
+  where
+    pub one_each : length answers ≡ bound
+    pub best : (held : List ℕ) (pebble : ℕ) → IsConfiguration board held → pebble < board.pebbles
+        → class_number (gap_at held pebble) < bound
+        → IsBestFor board held pebble (slice_index_or answers (class_number (gap_at held pebble))
+        None)
 
 -- the best answers of all gaps, by number
 abbrev pub AreBestOfAll : PlainBoard → List (Option Best) → Type 0

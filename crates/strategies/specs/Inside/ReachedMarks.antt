@@ -29,8 +29,11 @@ NoneIsLeft marks = (rank : ℕ) → IsMarked marks.left rank → ⊥
 pub record IsReachedWith (before : ReachedMarks) (rank : ℕ) (after : ReachedMarks) : Type 0 where
   pub known : IsMarked before.reached rank → after ≡ before
   pub other : ¬ IsMarked before.reached rank → after
-      ≡ record { reached = slice_set before.reached rank true; left = slice_set before.left rank
-      true }
+      ≡ record {
+        reached = slice_set before.reached rank true;
+        left = slice_set before.left rank
+            true;
+      }
 
 -- the ranks of which the fact holds are reached too, and those that weren't reached before are left
 pub record AreReachedWith (before : ReachedMarks) (P : ℕ → Type 0) (after : ReachedMarks)

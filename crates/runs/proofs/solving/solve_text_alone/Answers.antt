@@ -2,8 +2,8 @@ use Rattle.runs.specs.declared.boards.BoardLimit.TheVariants.{Small}
 use Rattle.runs.proofs.BoardLimits.{few_gaps}
 use Rattle.runs.proofs.solving.solve_text_alone.Goals as goal
 
-pub of-values-requires : goal.of-values-requires
-of-values-requires c =
+pub of-requires : goal.of-requires
+of-requires c =
     few_gaps Small c.in_ok-board.board c.in_ok-board.ensures.found.is_board c.in_ok-board.ensures.found.few
 
 pub returns-clause-ok : goal.returns-clause-ok

@@ -5,8 +5,12 @@ use Rattle.strategies.proofs.gap_walk.GapWalk.move_to.Goals as goal
 
 pub put-requires : goal.put-requires
 put-requires c =
-    omega (arith, c.pebbles.ensures.value, c.pebbles.ensures.is_board.pebbles,
-    c.self.invariant.is_configuration.each_pebble)
+    omega (
+      arith,
+      c.pebbles.ensures.value,
+      c.pebbles.ensures.is_board.pebbles,
+      c.self.invariant.is_configuration.each_pebble,
+    )
 
 pub invariant_of-self-2 : goal.invariant_of-self-2
 invariant_of-self-2 c =
