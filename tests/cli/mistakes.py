@@ -367,7 +367,7 @@ def of_streams(work):
     yield Mistake('a folder for a joined check', [], unread, before, 'it is a folder', before=folder)
     opening = fault(5, 'read fault', b'value 2\nat 0 0\n')
     yield Mistake('a folder for a play', ['play', '--side', 'adversary', CHAIN], opening, before, 'it is a folder', before=folder)
-    large = written(work, 'mistake-memory.board', empty(32))
+    large = written(work, 'mistake-memory.board', chain(32, 4))
     little = ['sh', '-c', 'ulimit -v 4096; exec "$0" "$@"']
     yield Mistake('too little memory', ['solve', large], fault(4, 'out of memory'), 'memory', 'smaller board', before=little)
     full = ['sh', '-c', 'exec "$0" "$@" > /dev/full']
