@@ -28,6 +28,7 @@ IsBelow board words gap label bound = (word : ℕ) × HasWord board words gap la
 pub record IsBestBefore (board : PlainBoard) (words gap : List ℕ) (labels label best bound : ℕ) : Type 0 where
   pub all : (other : ℕ) → other < label → AnswersGap board gap other → IsBelow board words gap other bound
   pub low : best ≤ labels
+  pub few : bound ≤ 4294967295
   pub found : (best ≡ labels × (bound ≡ 0)) ⊎ ((best < label)
       × AnswersGap board gap best × HasWord board words gap best (bound - 1) × (0 < bound)
       × ((other : ℕ) → other < best → AnswersGap board gap other → IsBelow board words gap other (bound - 1)))
@@ -42,15 +43,16 @@ pub best-begins : (board : PlainBoard) (words gap : List ℕ) (labels : ℕ)
 best-begins board words gap labels = record {
   all = λ other none. absurd (omega arith);
   low = omega arith;
+  few = omega arith;
   found = inl (refl, refl);
 }
 
 -- a better answer
 pub best-more : (board : PlainBoard) (words gap : List ℕ) (labels label best bound word : ℕ) → label < labels
     → IsBestBefore board words gap labels label best bound → AnswersGap board gap label
-    → HasWord board words gap label word → bound ≤ word → IsBestBefore board words gap labels (label + 1) label
-    (word + 1)
-best-more board words gap labels label best bound word inside was answer has most = record {
+    → HasWord board words gap label word → bound ≤ word → word < 4294967295
+    → IsBestBefore board words gap labels (label + 1) label (word + 1)
+best-more board words gap labels label best bound word inside was answer has most finite = record {
   all = λ other low answers. elim (cases_lt other label) [
     | inl before ↦ below-more board words gap other bound (word + 1) (omega arith) (was.all other before answers)
     | inr last ↦
@@ -58,6 +60,7 @@ best-more board words gap labels label best bound word inside was answer has mos
         subst (λ n. IsBelow board words gap n (word + 1)) same (word, has, omega arith)
   ];
   low = omega arith;
+  few = omega arith;
   found =
       let one : word ≡ word + 1 - 1 = omega arith in
       inr (
@@ -83,6 +86,7 @@ kept-more board words gap labels label best bound was here = record {
         (here (subst (AnswersGap board gap) (sym same) answers))
   ];
   low = was.low;
+  few = was.few;
   found = elim was.found [
     | inl none ↦ inl none
     | inr some ↦ inr (let low : best < label = some.0 in omega arith, some.1, some.2, some.3, some.4)
@@ -168,3 +172,30 @@ module _ (board : PlainBoard) (words gap : List ℕ) (is_board : IsBoard board) 
           ],
         )
   ]
+
+  -- the first answer whose result lasts for ever
+  pub best-lasting : (labels label best bound word : ℕ) → word ≡ 4294967295
+      → IsBestBefore board words gap labels label best bound
+      → AnswersGap board gap label → HasWord board words gap label word
+      → IsSmallest (HasGreatestMember board gap) (Some label)
+  best-lasting labels label best bound word top was answer has =
+      let lasts : (most : ℕ) → HasValueAtMost board (member_with gap label) most → ⊥ = λ most value.
+      let finite : word < 4294967295 = (before-to word (suc most)
+      ((has.is (suc most)).1 ((at-most label most answer).0 value))).1 in
+      omega arith
+      in (
+        record {
+          answers = answer;
+          greatest = λ other answers most value. absurd (lasts most value);
+        },
+        λ other greatest. elim (cases_lt other label) [
+          | inr least ↦ least
+          | inl before ↦
+              let is = was.all other before greatest.answers in
+              let less : is.0 < bound = is.2 in
+              let few = was.few in
+              let value = (at-most other is.0 greatest.answers).1
+              ((is.1.is (suc is.0)).0 (before-from is.0 (suc is.0) (omega arith) (omega (arith, less, few)))) in
+              absurd (lasts is.0 (greatest.greatest label answer is.0 value))
+        ],
+      )
