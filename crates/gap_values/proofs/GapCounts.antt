@@ -534,6 +534,37 @@ once-add word one other wanted = elim (cases_eq wanted word) [
       omega (arith, first, second, both)
 ]
 
+-- the weights of a gap's classes if all have the word 0
+pub made-at-zero : (word : ℕ → ℕ) (weights : FamilyWeights) (least wanted : ℕ)
+    → ((x : ℕ) → x < least + 1 → word x ≡ 0)
+    → once 0 (weights.each * least + weights.last) wanted
+    ≡ sum_below (least + 1) (λ x. cond (nat_eq (word x) wanted) (weight_with weights (least + 1) x) 0)
+made-at-zero word weights least wanted none =
+    let term : ℕ → ℕ = λ x. cond (nat_eq (word x) wanted) (weight_with weights (least + 1) x) 0 in
+    let own : (x : ℕ) → x < least + 1 → term x ≡ once 0 (weight_with weights (least + 1) x) wanted =
+    λ x low. ap (λ n. cond (nat_eq n wanted) (weight_with weights (least + 1) x) 0) (none x low)
+    ∙ sym (once-is 0 (weight_with weights (least + 1) x) wanted) in
+    let last : term least ≡ once 0 weights.last wanted =
+    own least (omega arith) ∙ ap (λ n. once 0 n wanted) (weight-is-last weights (least + 1) least refl) in
+    let before = each-before term weights.each least wanted (λ x low. own x (omega arith)
+    ∙ ap (λ n. once 0 n wanted) (weight-is-each weights (least + 1) x (λ same. omega (arith, same, low)))) in
+    let more : sum_below (suc least) term ≡ sum_below least term + term least = sum-suc least term in
+    let next : sum_below (suc least) term ≡ sum_below (least + 1) term = ap (λ n. sum_below n term) (omega arith) in
+    let all = once-add 0 (weights.each * least) weights.last wanted in
+    omega (arith, last, before, more, next, all)
+  where
+    each-before : (term : ℕ → ℕ) (each bound wanted : ℕ) → ((x : ℕ) → x < bound → term x ≡ once 0 each wanted)
+        → sum_below bound term ≡ once 0 (each * bound) wanted
+    each-before term each zero wanted are =
+        let few = once-few 0 (each * 0) wanted in
+        let nothing : each * 0 ≡ 0 = grind arith in
+        omega (arith, sum-zero term, few, nothing)
+    each-before term each (suc bound) wanted are =
+        let before = each-before term each bound wanted (λ x low. are x (omega arith)) in
+        let product : each * bound + each ≡ each * suc bound = grind arith in
+        let all = once-add 0 (each * bound) each wanted in
+        omega (arith, before, sum-suc bound term, are bound (omega arith), all, ap (λ n. once 0 n wanted) product)
+
 -- how many of the labels below a bound are in the set
 abbrev pub bits_below : List ℕ → ℕ → ℕ
 bits_below marks bound = sum_below bound (λ x. cond (has_bit marks x) 1 0)

@@ -4,6 +4,7 @@ mod WaysTables
 mod TableNumbers
 mod NextLists
 mod FamilyMembers
+mod FamilyRests
 mod ClosedParts
 mod ClosingSteps
 mod TellingSteps

@@ -95,20 +95,23 @@ module _ (b : PlainBoard) (words : List ℕ) (sets : List (List ℕ)) (f : Famil
     closed-word x x_low = least-is b words (member_with gap x) (result-is b gap x is_board gap-is x_low) bound
 
     -- if the gap itself has such a word, so has each class
+    pub word-below : word < bound → (x : ℕ) → x < b.labels → class_word b words gap x < bound
+    word-below less x x_low =
+        let own : IsClosedBefore (gap_table words gap) bound =
+        subst (λ w. IsClosedBefore (round_of_word w) bound) (sym own-word) (before-from word bound less (omega arith))
+        in
+        (before-to (class_word b words gap x) bound ((closed-word x x_low).1
+        ((closed-parts b is_board gap gap-is x x_low (gap_table words) bound).1 (inl own)))).0
+
     pub unclosed-none : (none : List ℕ) → word < bound
         → ((x : ℕ) → x < MAX_LABELS → (has_bit none x ≡ true) ↔ (x < 0))
         → (upto : List ℕ) (x : ℕ) → x < b.labels
         → (has_bit none x ≡ true) ↔ ((has_bit upto x ≡ true) × (bound ≤ class_word b words gap x))
     unclosed-none none less empty upto x x_low =
         let small : x < MAX_LABELS = (let most = is_board.labels.1 in omega (arith, x_low, most)) in
-        let own : IsClosedBefore (gap_table words gap) bound =
-        subst (λ w. IsClosedBefore (round_of_word w) bound) (sym own-word) (before-from word bound less (omega arith))
-        in
-        let closed = (closed-word x x_low).1
-        ((closed-parts b is_board gap gap-is x x_low (gap_table words) bound).1 (inl own)) in
-        let is = before-to (class_word b words gap x) bound closed in (
+        let below = word-below less x x_low in (
           λ has. (let under : x < 0 = (empty x small).0 has in absurd (omega arith)),
-          λ both. (let most = both.1 in absurd (omega (arith, most, is.0))),
+          λ both. (let most = both.1 in absurd (omega (arith, most, below))),
         )
 
     pub unclosed-labels : (upto part common left : List ℕ) → bound ≤ word

@@ -41,12 +41,13 @@ impl Sizes {
 }
 
 /// Adds the configurations of the classes that the gap of `family` with the least place `least`
-/// makes with a place that isn't above it, which have these `weights`. The labels of `upto` are
-/// those up to `least`.
+/// makes with a place that isn't above it, which have these `weights`. The family of the gap with
+/// the least place 0 is `lowest`. The labels of `upto` are those up to `least`.
 pub(crate) fn count_gap(
     numbers: &GapNumbers,
     rounds: &GapRounds,
     family: &Family,
+    lowest: &Family,
     least: u16,
     upto: LabelSet,
     weights: &FamilyWeights,
@@ -55,6 +56,8 @@ pub(crate) fn count_gap(
     requires some { 2 ≤ numbers.now.pebbles }
     requires rounds { AreGapRounds numbers.now rounds.now }
     requires family { IsFamilyOf numbers.now (numbers.now.pebbles - 2) family.now }
+    requires lowest { IsFamilyOf numbers.now (numbers.now.pebbles - 1) lowest.now }
+    requires lowest_held { lowest.now.held ≡ member_with family.now.held 0 }
     requires least { least < family.now.size }
     requires upto { AreLabelsUpTo least upto }
     requires weights { AreSmallWeights weights.now }
@@ -66,17 +69,22 @@ pub(crate) fn count_gap(
 {
     if least + 1 == numbers.places() {
         // The place without a label is in no set.
-        let gap = numbers.member_family(family, least);
+        let gap = numbers.member_family(family, lowest, least);
         count_each(numbers, &rounds.words, &gap, weights, sizes);
         return;
     }
     let word = rounds.words[(family.start + least as u64) as usize];
+    if word == 0 {
+        // All these classes are lost at once, as the gap is closed.
+        sizes.count(0, weights.each * least as u64 + weights.last);
+        return;
+    }
     let positive = unclosed(family, least, upto, word, 1, &rounds.first);
     let lasting = unclosed(family, least, upto, word, OPEN, &rounds.closed);
     count_by_bits(positive, lasting, least, weights, sizes);
     let middle = positive.without(&lasting);
     if !middle.is_empty() {
-        let gap = numbers.member_family(family, least);
+        let gap = numbers.member_family(family, lowest, least);
         count_among(numbers, &rounds.words, &gap, middle, weights, sizes);
     }
 }

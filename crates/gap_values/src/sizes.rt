@@ -223,6 +223,7 @@ fn count_gaps_of(
         (length sizes.old.finite.items) from high sizes.new }
 {
     let weights = gap_weights(family);
+    let lowest = numbers.lowest_member(family);
     let mut upto = LabelSet::below((low - family.start) as u16);
     for number in low..high {
         let least = (number - family.start) as u16;
@@ -230,7 +231,7 @@ fn count_gaps_of(
             upto = upto.with(least);
         }
         let own = weights.of(least, family.size);
-        count_gap(numbers, rounds, family, least, upto, own, sizes);
+        count_gap(numbers, rounds, family, &lowest, least, upto, own, sizes);
     }
 }
 

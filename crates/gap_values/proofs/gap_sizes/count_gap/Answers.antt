@@ -1,4 +1,4 @@
-use Rattle.std.proofs.Common.{◌≡◌, ◌+◌, ◌-◌, ◌<◌, ◌≤◌, ◌↔◌, ℕ, List, suc, true, cond, nat_eq, length, ap, sym}
+use Rattle.std.proofs.Common.{◌≡◌, ◌+◌, ◌-◌, ◌*◌, ◌<◌, ◌≤◌, ◌↔◌, ℕ, List, suc, true, cond, nat_eq, length, ap, sym}
 use Rattle.std.proofs.Common.{subst, inl, inr, arith, rules}
 use Rattle.std.proofs.lemmas.Bool.{cases_lt}
 use Rattle.std.proofs.lemmas.List.{get_or_read}
@@ -10,12 +10,14 @@ use Rattle.classes.specs.Classes.{IsClass}
 use Rattle.classes.specs.ClassGaps.{member_with}
 use Rattle.classes.specs.Numbers.{ways}
 use Rattle.gap_values.specs.declared.families.Family.{Family}
-use Rattle.gap_values.specs.Inside.Counts.{AreMore, class_word, made_among, made_by, made_by_bits, weight_with}
+use Rattle.gap_values.specs.Inside.Counts.{AreMore, class_word, made_among, made_by, made_by_bits, once, weight_with}
 use Rattle.gap_values.specs.Inside.Families.{IsFamilyOf, IsGapOf}
 use Rattle.gap_values.specs.Inside.Sets.{TellClosed}
 use Rattle.gap_values.proofs.ClassCounts.{word-low}
 use Rattle.gap_values.proofs.FamilyMembers.{held-long, member-below, member-class, member-few, place-low}
-use Rattle.gap_values.proofs.GapCounts.{all-places, bits-made-few, more-joined, more-same, none-among, room-more}
+use Rattle.gap_values.proofs.GapCounts.{all-places, bits-made-few, made-at-zero, more-joined, more-same, none-among}
+use Rattle.gap_values.proofs.GapCounts.{room-more}
+use Rattle.gap_values.proofs.UnclosedLabels.{word-below}
 use Rattle.gap_values.proofs.Weighing.{gap-size}
 use Rattle.gap_values.proofs.Words.{least-few, result-is}
 use Rattle.gap_values.proofs.gap_sizes.count_gap.Goals as goal
@@ -49,6 +51,11 @@ member_family-gap-requires-clause-small c = few (goal.at.member_family-gap-requi
 
 pub member_family-gap-requires-clause-family : goal.member_family-gap-requires-clause-family
 member_family-gap-requires-clause-family c = own (goal.at.member_family-gap-requires-clause-family c).Start
+
+pub member_family-gap-requires-clause-lowest : goal.member_family-gap-requires-clause-lowest
+member_family-gap-requires-clause-lowest c =
+    subst (λ n. IsFamilyOf c.args.numbers.now n c.args.lowest.now)
+    (sym (one (goal.at.member_family-gap-requires-clause-lowest c).Start)) c.requires.lowest
 
 pub count_each-requires-clause-gap : goal.count_each-requires-clause-gap
 count_each-requires-clause-gap c =
@@ -101,6 +108,37 @@ label c differs =
 small : (c : After-places) → (c.args.least + 1 ≡ c.places.result → ⊥) → c.args.least < MAX_LABELS
 small c differs =
     let low = label c differs in let most = c.requires.family.is_board.labels.1 in omega (arith, low, most)
+
+-- the word of the gap is 0
+pub count-requires-clause-word : goal.count-requires-clause-word
+count-requires-clause-word c = λ some.
+    let low = inside (goal.at.count-requires-clause-word c).Start in
+    let words = c.args.rounds.now.words.items in
+    let read = get_or_read words (c.args.family.now.start + c.args.least) c.index-word.result.now low
+    c.index-word.ensures 0 in
+    let under = c.requires.above.above (c.args.family.now.start + c.args.least) low
+    (omega (arith, read, c.if-word-eq0.true)) in
+    inr (omega (arith, under))
+
+pub returns-then-word-eq0 : goal.returns-then-word-eq0
+returns-then-word-eq0 c =
+    let at = goal.at.returns-then-word-eq0 c in
+    let b = c.args.numbers.now in
+    let words : List ℕ = c.args.rounds.now.words.items in
+    let gap : List ℕ = member_with c.args.family.now.held c.args.least in
+    let some = c.requires.some in
+    let label = label at.After-places c.if-least-places.false in
+    let none : (x : ℕ) → x < c.args.least + 1 → class_word b words gap x ≡ 0 = λ x low.
+    let below = word-below b words c.args.rounds.now.first.items c.args.family.now c.args.least
+    c.index-word.result.now 1 some c.requires.family c.requires.least (c.requires.rounds.first some) (omega arith)
+    (get_or_read words (c.args.family.now.start + c.args.least) c.index-word.result.now (inside at.Start)
+    c.index-word.ensures 0) (omega (arith, c.if-word-eq0.true)) x (omega (arith, low, label)) in
+    omega (arith, below)
+    in
+    more-same c.args.sizes.now c.count.new.self
+    (once 0 (c.args.weights.now.each * c.args.least + c.args.weights.now.last))
+    (made_by b words gap (c.args.least + 1) c.args.weights.now) c.count.ensures
+    (λ wanted. made-at-zero (class_word b words gap) c.args.weights.now c.args.least wanted none)
 
 pub count_by_bits-requires-clause-least : goal.count_by_bits-requires-clause-least
 count_by_bits-requires-clause-least c =
@@ -195,6 +233,12 @@ pub member_family-gap-requires-then-not-is_empty-clause-family :
     goal.member_family-gap-requires-then-not-is_empty-clause-family
 member_family-gap-requires-then-not-is_empty-clause-family c =
     own (goal.at.member_family-gap-requires-then-not-is_empty-clause-family c).Start
+
+pub member_family-gap-requires-then-not-is_empty-clause-lowest :
+    goal.member_family-gap-requires-then-not-is_empty-clause-lowest
+member_family-gap-requires-then-not-is_empty-clause-lowest c =
+    subst (λ n. IsFamilyOf c.args.numbers.now n c.args.lowest.now)
+    (sym (one (goal.at.member_family-gap-requires-then-not-is_empty-clause-lowest c).Start)) c.requires.lowest
 
 pub count_among-requires-clause-gap : goal.count_among-requires-clause-gap
 count_among-requires-clause-gap c =

@@ -40,6 +40,17 @@ pub gap_weights-weights-requires : goal.gap_weights-weights-requires
 gap_weights-weights-requires c =
     let at = (goal.at.gap_weights-weights-requires c).Start in (c.args.numbers.now, few at, own at)
 
+pub lowest_member-lowest-requires-clause-small : goal.lowest_member-lowest-requires-clause-small
+lowest_member-lowest-requires-clause-small c = few (goal.at.lowest_member-lowest-requires-clause-small c).Start
+
+pub lowest_member-lowest-requires-clause-family : goal.lowest_member-lowest-requires-clause-family
+lowest_member-lowest-requires-clause-family c = own (goal.at.lowest_member-lowest-requires-clause-family c).Start
+
+pub count_gap-requires-clause-lowest : goal.count_gap-requires-clause-lowest
+count_gap-requires-clause-lowest c =
+    subst (λ n. IsFamilyOf c.args.numbers.now n c.lowest_member-lowest.result)
+    (one (goal.at.count_gap-requires-clause-lowest c).Start) c.lowest_member-lowest.ensures.family
+
 pub overflow_cast-low : goal.overflow_cast-low
 overflow_cast-low c =
     let most = size-few (goal.at.overflow_cast-low c).Start in
