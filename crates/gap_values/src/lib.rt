@@ -9,6 +9,7 @@ mod examples;
 mod families;
 mod gap_numbers;
 mod gap_sizes;
+mod held_places;
 mod laws;
 mod rounds;
 mod sizes;
