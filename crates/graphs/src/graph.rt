@@ -112,27 +112,6 @@ impl Graph {
         Ok(Graph::with_classes(numbers, struck))
     }
 
-    /// The same graph, with tables by which `standing` takes a quarter of its time. The error is
-    /// that memory ran out.
-    ///
-    /// The board is the one that the graph was made for.
-    pub fn with_tables(self, alloc: Global, board: &Board) -> Result<Graph, Memory>
-        requires { self.board ≡ board.now }
-        ensures { IfOk result (λ graph. graph ≡ self) }
-    {
-        let Graph { finder, tables } = self;
-        match finder {
-            Finder::Ranks(numbers) => Ok(Graph {
-                finder: Finder::Ranks(numbers),
-                tables,
-            }),
-            Finder::Classes(numbers) => Ok(Graph {
-                finder: Finder::Classes(numbers.with_tables(alloc, board)?),
-                tables,
-            }),
-        }
-    }
-
     /// The graph of these classes, of which this is the table `struck`.
     fn with_classes(numbers: ClassNumbers, struck: Vec<u32>) -> Graph
         requires { IsStruckTable (graph_of (numbered numbers ClassesData)) struck.items }

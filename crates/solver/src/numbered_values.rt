@@ -1,6 +1,6 @@
 //! The values of a board by the numbers of its graph.
 
-ghost use Rattle.std.specs.Prelude.{◌≡◌, ◌<◌, ℕ, List, IfOk, slice_index};
+ghost use Rattle.std.specs.Prelude.{◌≡◌, ◌<◌, ℕ, List, slice_index};
 ghost use Rattle.board_text.specs.PlainBoard.{IsBoard, IsConfiguration};
 ghost use Rattle.positions.specs.Laws.{Occurs};
 ghost use Rattle.positions.specs.Value.{HasValue};
@@ -13,11 +13,9 @@ ghost use Rattle.solver.specs.Inside.Values.{AreNumberedValues};
 
 use crate::results::Results;
 use crate::word::value_with;
-use board_text::{Board, Memory};
 use classes::Standing;
 use graphs::Graph;
 use positions::Value;
-use std::alloc::Global;
 use std::marker::Model;
 
 /// The values of a board by the numbers of its graph, which are those of configurations and of
@@ -64,21 +62,6 @@ impl NumberedValues {
             sizes,
             forever,
         }
-    }
-
-    /// The same values, with tables for `standing`. The error is that memory ran out.
-    ///
-    /// The board is the one whose values they are.
-    pub fn with_tables(self, alloc: Global, board: &Board) -> Result<NumberedValues, Memory>
-        requires { self.board ≡ board.now }
-        ensures { IfOk result (λ values. values ≡ self) }
-    {
-        Ok(NumberedValues {
-            graph: self.graph.with_tables(alloc, board)?,
-            words: self.words,
-            sizes: self.sizes,
-            forever: self.forever,
-        })
     }
 
     /// The value of the configuration `held`.
