@@ -60,7 +60,7 @@ few_rows rank bound (row ∷ rows) ascends each =
     omega arith
 
 -- the rows of a section are as the format has them, if each row is
-section : {X : Type 0} (board : PlainBoard) (IsRow IsFormed : X → Type 0) (at : X → List ℕ) (rows : List X)
+pub section : {X : Type 0} (board : PlainBoard) (IsRow IsFormed : X → Type 0) (at : X → List ℕ) (rows : List X)
     → configurations board ≤ MAX_CONFIGURATIONS
     → ((row : X) → IsRow row → IsConfiguration board (at row)) → ((row : X) → IsRow row → IsFormed row)
     → AreExactly board IsRow at rows → (length rows ≤ MAX_CONFIGURATIONS) × All IsFormed rows

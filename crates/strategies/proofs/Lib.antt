@@ -36,4 +36,6 @@ pub mod GapMembers
 pub mod LeastValues
 pub mod TabledAnswers
 pub mod SiblingRanks
+pub mod WrittenLines
+pub mod JoinedLines
 pub mod Cited

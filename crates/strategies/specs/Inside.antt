@@ -8,3 +8,4 @@ pub mod Marks
 pub mod Side
 pub mod ReachedRanks
 pub mod ReachedMarks
+pub mod Lines

@@ -89,6 +89,13 @@ impl<'a> GapWalk<'a> {
         Some(place as u16)
     }
 
+    /// The places of the configuration.
+    pub(crate) fn held(&self) -> &[u16]
+        ensures { result.now ≡ self.now.held }
+    {
+        self.configuration.as_slice()
+    }
+
     /// The number of pebbles.
     pub(crate) fn pebbles(&self) -> u8
         ensures value { result ≡ self.now.board.pebbles }

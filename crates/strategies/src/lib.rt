@@ -9,6 +9,7 @@ mod gap_moves;
 mod gap_walk;
 mod laws;
 mod laws_of_documents;
+mod lines;
 mod marks;
 mod moves;
 mod moves_at;
@@ -19,6 +20,7 @@ mod reached;
 mod reached_ranks;
 mod rows;
 mod sections;
+mod text;
 mod walk;
 
 pub use best_moves::{BestMoves, best_answer, best_request};
@@ -34,3 +36,4 @@ pub use laws_of_documents::{
 };
 pub use moves::Moves;
 pub use numbered_moves::NumberedMoves;
+pub use text::{DocumentText, document_text, document_text_in_parts};

@@ -64,6 +64,19 @@ impl Marks {
         self.words[(number / WORD) as usize] &= !(1 << (number % WORD));
     }
 
+    /// The smallest marked number that is at least `bound` and less than `end`, if there is one.
+    pub(crate) fn first_between(&self, bound: u32, end: u32) -> Option<u32>
+        ensures first { IsSmallest (λ number. (bound ≤ number) × (number < end)
+            × IsMarked self.now number) result }
+        ensures below { IfSome result (λ number. number + 1 < 2 ^ 32) }
+    {
+        let number = self.first_from(bound)?;
+        if number >= end {
+            return None;
+        }
+        Some(number)
+    }
+
     /// The smallest marked number that is at least `bound`, if there is one.
     pub(crate) fn first_from(&self, bound: u32) -> Option<u32>
         ensures first { IsSmallest (λ number. (bound ≤ number) × IsMarked self.now number) result }

@@ -1,10 +1,11 @@
 //! The sections of a document: a row for each configuration that was reached.
 
-ghost use Rattle.std.specs.Prelude.{◌≡◌, IfOk};
+ghost use Rattle.std.specs.Prelude.{◌≡◌, ◌++◌, ℕ, List, IfOk, OnOk};
 ghost use Rattle.board_text.specs.PlainBoard.{PlainBoard};
 ghost use Rattle.positions.specs.Ranks.{configuration_at};
 ghost use Rattle.positions.specs.declared.value.Value.{Value as ValueData};
 ghost use Rattle.strategies.specs.Document.{turns_of};
+ghost use Rattle.strategies.specs.Inside.Lines.{adversary_line, labeller_line};
 ghost use Rattle.strategies.specs.Inside.Side.{Side, AreReached, IsRowAt, MayStandAt};
 ghost use Rattle.strategies.specs.Inside.Side.{adversary_side, labeller_side};
 
@@ -15,12 +16,15 @@ use crate::reached::Reached;
 use crate::walk::Walk;
 use board_text::{MAX_PEBBLES, Memory};
 use positions::{Turns, Value};
-use proof_text::{AdversaryRow, LabellerRow};
-use std::alloc::Global;
+use proof_text::{AdversaryRow, LabellerRow, PlaceWords, RowText};
+use std::alloc::{AllocError, Global};
 
 /// A row of one side's section.
 pub(crate) trait SectionRow: Copy {
     ghost side: { PlainBoard → ValueData → Side Self };
+
+    // The line of a row.
+    ghost line: { PlainBoard → Self → List ℕ };
 
     /// Marks of the configurations that a row may stand at.
     fn reached(moves: &RankMoves<'_>, alloc: Global) -> Result<Marks, Memory>
@@ -33,10 +37,26 @@ pub(crate) trait SectionRow: Copy {
         requires here { here.now.held ≡ configuration_at here.now.board rank }
         requires may_stand { MayStandAt here.now.board (side here.now.board start) rank }
         ensures { IsRowAt here.now.board (side here.now.board start) rank result };
+
+    /// Appends the row's line to `text`. The row is at the configuration where `here` is, and the
+    /// `words` are those of the board's places.
+    fn write(
+        &self,
+        here: &Walk<'_>,
+        words: &PlaceWords,
+        text: &mut RowText,
+    ) -> Result<(), AllocError>
+        requires words { words.now ≡ here.now.board.labels }
+        requires here { (start : ValueData) × ((side here.now.board start).at
+            ((side here.now.board start).shown self.now) ≡ here.now.held) }
+        ensures { OnOk result
+            (text.new.bytes ≡ text.old.bytes ++ line here.now.board self.now) };
 }
 
 impl SectionRow for LabellerRow {
     ghost side = { labeller_side };
+
+    ghost line = { labeller_line };
 
     /// The configurations of value 1 or more that best answers reach
     /// from the start, through such configurations only.
@@ -69,10 +89,22 @@ impl SectionRow for LabellerRow {
             take,
         })
     }
+
+    fn write(
+        &self,
+        here: &Walk<'_>,
+        words: &PlaceWords,
+        text: &mut RowText,
+    ) -> Result<(), AllocError> {
+        let pebbles = here.pebbles() as usize;
+        text.push_answer(words, here.held(), self.turns, &self.take[..pebbles])
+    }
 }
 
 impl SectionRow for AdversaryRow {
     ghost side = { adversary_side };
+
+    ghost line = { adversary_line };
 
     /// The configurations that legal answers to best requests lead to from the start.
     fn reached(moves: &RankMoves<'_>, alloc: Global) -> Result<Marks, Memory> {
@@ -100,6 +132,15 @@ impl SectionRow for AdversaryRow {
             left,
             ask,
         })
+    }
+
+    fn write(
+        &self,
+        here: &Walk<'_>,
+        words: &PlaceWords,
+        text: &mut RowText,
+    ) -> Result<(), AllocError> {
+        text.push_request(words, here.held(), self.left, self.ask)
     }
 }
 

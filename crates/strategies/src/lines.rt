@@ -1,0 +1,143 @@
+//! The lines of a section's rows, written as configurations are walked.
+
+ghost use Rattle.std.specs.Prelude.{◌≡◌, ◌+◌, ◌*◌, ◌^◌, ◌<◌, ◌≤◌, IfOk};
+ghost use Rattle.strategies.specs.Inside.Lines.{AreLinesBetween, AreSectionLines};
+ghost use Rattle.strategies.specs.Inside.Side.{AreReached};
+
+use crate::marks::Marks;
+use crate::rank_moves::RankMoves;
+use crate::sections::SectionRow;
+use crate::walk::Walk;
+use board_text::Memory;
+use positions::{MAX_CONFIGURATIONS, Value};
+use proof_text::{PlaceWords, RowText};
+use rayon::prelude::*;
+use std::alloc::Global;
+use std::thread::Threads;
+
+/// The least number of ranks that are worth a thread.
+const LEAST_SPAN: u32 = 16_384;
+
+/// The lines of rows, and how many rows these are.
+#[derive(Drop)]
+pub(crate) struct Lines {
+    pub(crate) bytes: Vec<u8>,
+    pub(crate) rows: u32,
+}
+
+/// The lines of one side's rows of the document of a board whose start has the value `start`, in
+/// ascending rank. They are one part.
+pub(crate) fn section_lines<R: SectionRow>(
+    alloc: Global,
+    moves: &RankMoves<'_>,
+    words: &PlaceWords,
+    start: Value,
+) -> Result<Vec<Lines>, Memory>
+    requires { words.now ≡ moves.now.labels }
+    ensures { IfOk result (λ parts. AreSectionLines moves.now (R.side moves.now start)
+        (R.line moves.now) parts.items) }
+{
+    let marks = R::reached(moves, alloc)?;
+    let end = moves.space().configurations();
+    let mut parts = Vec::new(alloc);
+    parts.push(lines_between::<R>(alloc, moves, words, start, &marks, 0, end)?)?;
+    Ok(parts)
+}
+
+/// The same, in at most `parts` parts of consecutive ranks. Threads make them if each has
+/// `LEAST_SPAN` ranks or more, and one can be started.
+pub(crate) fn section_lines_in_parts<R: SectionRow + Send + Sync>(
+    rt: &(impl Threads + Sync),
+    alloc: Global,
+    moves: &RankMoves<'_>,
+    words: &PlaceWords,
+    start: Value,
+    parts: u32,
+) -> Result<Vec<Lines>, Memory>
+    requires words { words.now ≡ moves.now.labels }
+    requires parts { 1 ≤ parts }
+    ensures { IfOk result (λ parts. AreSectionLines moves.now (R.side moves.now start)
+        (R.line moves.now) parts.items) }
+{
+    let marks = R::reached(moves, alloc)?;
+    let size = moves
+        .space()
+        .configurations()
+        .div_ceil(parts)
+        .max(LEAST_SPAN);
+    lines_of_spans::<R>(rt, alloc, moves, words, start, &marks, size)
+}
+
+/// The lines of one side's rows at the configurations of the marked ranks, which are those that
+/// were reached, a part for each `size` ranks.
+fn lines_of_spans<R: SectionRow + Send + Sync>(
+    rt: &(impl Threads + Sync),
+    alloc: Global,
+    moves: &RankMoves<'_>,
+    words: &PlaceWords,
+    start: Value,
+    marks: &Marks,
+    size: u32,
+) -> Result<Vec<Lines>, Memory>
+    requires words { words.now ≡ moves.now.labels }
+    requires reached { AreReached moves.now (R.side moves.now start) marks.now }
+    requires some { 0 < size }
+    requires few { size ≤ MAX_CONFIGURATIONS }
+    ensures { IfOk result (λ parts. AreSectionLines moves.now (R.side moves.now start)
+        (R.line moves.now) parts.items) }
+{
+    let count = moves.space().configurations().div_ceil(size);
+    let lines: Result<Vec<Lines>, Memory> = (0..count)
+        .into_par_iter()
+        .with_min_len(1)
+        .map(
+            |span: u32| -> Result<Lines, Memory>
+                requires words { words.now ≡ moves.now.labels }
+                requires reached { AreReached moves.now (R.side moves.now start) marks.now }
+                requires end { span * size + size < 2 ^ 32 }
+                ensures { IfOk result (AreLinesBetween moves.entry.now
+                    (R.side moves.entry.now start) (R.line moves.entry.now) marks.entry.now
+                    (span * size) (span * size + size)) }
+            {
+                let first = span * size;
+                lines_between::<R>(alloc, moves, words, start, marks, first, first + size)
+            },
+        )
+        .collect(rt, alloc)?;
+    lines
+}
+
+/// The lines of one side's rows at the configurations of the marked ranks, which are those that
+/// were reached, from the rank `first` to before `end`.
+fn lines_between<R: SectionRow>(
+    alloc: Global,
+    moves: &RankMoves<'_>,
+    words: &PlaceWords,
+    start: Value,
+    marks: &Marks,
+    first: u32,
+    end: u32,
+) -> Result<Lines, Memory>
+    requires words { words.now ≡ moves.now.labels }
+    requires reached { AreReached moves.now (R.side moves.now start) marks.now }
+    requires span { first ≤ end }
+    ensures { IfOk result (AreLinesBetween moves.now (R.side moves.now start) (R.line moves.now)
+        marks.now first end) }
+{
+    let mut walk = Walk::at(moves, moves.start());
+    let mut text = RowText::new(String::new(alloc));
+    let mut rows = 0;
+    let mut from = first;
+    while let Some(rank) = marks.first_between(from, end) {
+        walk.move_to(rank);
+        if let Some(row) = R::at(&walk, rank, start) {
+            row.write(&walk, words, &mut text)?;
+            rows += 1;
+        }
+        from = rank + 1;
+    }
+    Ok(Lines {
+        bytes: text.finish()?,
+        rows,
+    })
+}
