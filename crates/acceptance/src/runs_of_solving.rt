@@ -3,7 +3,7 @@
 
 use crate::assertions::{assert_same, assert_text};
 use crate::outcomes::{NOTHING, Outcome, PLENTY, Writer, assert_answered, assert_run};
-use board_text::{BoardFault, BoardKind, Source};
+use board_text::{BoardFault, BoardKind, Memory, Source};
 use fakes::boards::{ONE_PAIR, TOO_MANY_CONFIGURATIONS};
 use fakes::documents::PAIR_VALUE_ONE;
 use fakes::{Drip, Failing, once_more};
@@ -115,21 +115,42 @@ fn one_byte_a_call(rt: HostRuntime) {
 
 /// Asserts the value and the document that a call gives for the pair. A call that was refused
 /// memory is made once more.
-fn assert_solved<F: Fn() -> Result<Solved, RunFault>>(rt: &impl Abort, place: &str, solve: F)
+fn assert_solved<F: Fn() -> Result<Solved, RunFault>>(
+    rt: &impl Abort,
+    alloc: Global,
+    place: &str,
+    solve: F,
+)
     requires { F.IsAlwaysCallable solve }
 {
     let solved = once_more(RunFault::Memory, solve).expect(rt, place);
     assert_same(rt, place, solved.value, Value::Finite(1));
-    assert_text(rt, place, solved.text.as_bytes(), PAIR_VALUE_ONE.as_bytes());
+    let whole = || joined(alloc, &solved.parts);
+    let text = once_more(Memory, whole).expect(rt, place);
+    assert_text(rt, place, text.as_slice(), PAIR_VALUE_ONE.as_bytes());
+}
+
+/// The parts, one after another.
+fn joined(alloc: Global, parts: &[Vec<u8>]) -> Result<Vec<u8>, Memory> {
+    let mut text = Vec::new(alloc);
+    for part in parts {
+        text.extend_from_slice(part.as_slice())?;
+    }
+    Ok(text)
 }
 
 #[test]
 fn documents_in_memory(rt: HostRuntime) {
     let alloc = rt.alloc();
     let pair = ONE_PAIR.as_bytes();
-    assert_solved(&rt, "alone", || solve_text_alone(alloc, pair));
-    assert_solved(&rt, "one worker", || solve_text(&rt, alloc, 1, pair));
-    assert_solved(&rt, "three workers", || solve_text(&rt, alloc, 3, pair));
+    assert_solved(&rt, alloc, "alone", || solve_text_alone(alloc, pair));
+    assert_solved(&rt, alloc, "one worker", || solve_text(&rt, alloc, 1, pair));
+    assert_solved(
+        &rt,
+        alloc,
+        "three workers",
+        || solve_text(&rt, alloc, 3, pair),
+    );
 }
 
 #[test]

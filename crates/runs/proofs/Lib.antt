@@ -1,6 +1,7 @@
 pub mod EndLines
 pub mod BoardLimits
 pub mod SolverFaults
+pub mod WrittenParts
 pub mod WrittenWords
 pub mod FailedRuns
 pub mod WrongTexts

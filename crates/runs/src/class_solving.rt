@@ -1,6 +1,7 @@
 //! Solving a board by classes: its document by classes, over readers and writers.
 
-ghost use Rattle.std.specs.Prelude.{◌≡◌, ◌≤◌, ℕ, List, true, false, IfOk, IfErr, string_bytes};
+ghost use Rattle.std.specs.Prelude.{◌≡◌, ◌≤◌, ℕ, List, true, false, IfOk, IfErr, flat_map};
+ghost use Rattle.std.specs.Prelude.{string_bytes};
 ghost use Rattle.board_text.specs.Ranges.{InRange};
 ghost use Rattle.player.specs.Showing.{IsMore};
 ghost use Rattle.runs.specs.BoardRun.{GaveBoard, GaveNoBoard};
@@ -17,8 +18,8 @@ use crate::fault::RunFault;
 use crate::notices::tell_size;
 use crate::reading::{MAX_BOARD_BYTES, read_text};
 use crate::solving::Solved;
-use crate::writing::write_text;
-use board_text::{Sink, Source};
+use crate::writing::write_parts;
+use board_text::{Memory, Sink, Source};
 use class_strategies::{MadeDocument, document_by_classes_in_parts};
 use gap_values::GapValues;
 use positions::Value;
@@ -65,7 +66,7 @@ pub fn run_solve_by_classes<R: Source, W: Sink, E: Sink>(
 {
     let text = read_text(alloc, reader, MAX_BOARD_BYTES)?;
     let solved = solve_by_classes(rt, alloc, workers, text.as_slice(), shows, errors)?;
-    write_text(writer, &solved.text)?;
+    write_parts(writer, &solved.parts)?;
     Ok(solved.value)
 }
 
@@ -81,7 +82,7 @@ fn solve_by_classes<E: Sink>(
 ) -> Result<Solved, RunFault>
     requires workers { InRange 1 MAX_WORKERS workers }
     ensures ok { IfOk result (λ solved.
-        IsClassSolution text.now solved.value (string_bytes solved.text)) }
+        IsClassSolution text.now solved.value (flat_map (λ part. part.items) solved.parts.items)) }
     ensures fault { IfErr result (CannotSolveByClasses text.now) }
     ensures notice { (told : List ℕ)
         × IsNoticed (IsBoardWithin BoardLimit.Large text.now)
@@ -104,8 +105,8 @@ fn class_solution(
     parts: u8,
 ) -> Result<Solved, RunFault>
     requires parts { 1 ≤ parts }
-    ensures ok { IfOk result (λ solved.
-        IsSolvedByClasses moves.now solved.value (string_bytes solved.text)) }
+    ensures ok { IfOk result (λ solved. IsSolvedByClasses moves.now solved.value
+        (flat_map (λ part. part.items) solved.parts.items)) }
     ensures fault { IfErr result (IsUnshown moves.now) }
 {
     let made = document_by_classes_in_parts(rt, alloc, moves, parts as u32)?;
@@ -115,5 +116,15 @@ fn class_solution(
     if text.len() > MAX_PROOF_BYTES {
         return Err(RunFault::DocumentTooLarge);
     }
-    Ok(Solved { value, text })
+    let parts = whole(alloc, text)?;
+    Ok(Solved { value, parts })
+}
+
+/// The text, as one part.
+fn whole(alloc: Global, text: String) -> Result<Vec<Vec<u8>>, Memory>
+    ensures { IfOk result (λ parts. flat_map (λ part. part.items) parts.items ≡ string_bytes text) }
+{
+    let mut parts = Vec::new(alloc);
+    parts.push(text.into_bytes())?;
+    Ok(parts)
 }

@@ -1,6 +1,6 @@
 //! Solving a board: its document, from the text of the board to the bytes written.
 
-ghost use Rattle.std.specs.Prelude.{◌≡◌, ◌≤◌, true, false, IfOk, IfErr, string_bytes};
+ghost use Rattle.std.specs.Prelude.{◌≡◌, ◌≤◌, true, false, IfOk, IfErr, flat_map};
 ghost use Rattle.board_text.specs.Ranges.{InRange};
 ghost use Rattle.classes.specs.Numbers.{class_count};
 ghost use Rattle.graphs.specs.Numbered.{numbered};
@@ -13,19 +13,20 @@ ghost use Rattle.runs.specs.Texts.{HasNoBoard, IsMemory};
 use crate::boards::{BoardLimit, small_board};
 use crate::fault::RunFault;
 use crate::reading::{MAX_BOARD_BYTES, read_text};
-use crate::writing::write_text;
+use crate::writing::write_parts;
 use board_text::{Board, Memory, Sink, Source};
 use classes::MAX_CLASSES;
 use gap_values::GapValues;
 use graphs::Numbering;
 use positions::{MAX_CONFIGURATIONS, Space, Value};
-use proof_text::{print, print_in_parts};
 use round_workers::{MAX_WORKERS, NoGate, solve_classes};
 use solver::NumberedValues;
 use std::alloc::Global;
 use std::sync::Wait;
 use std::thread::Threads;
-use strategies::{GapMoves, Moves, NumberedMoves, document_by};
+use strategies::{
+    DocumentText, GapMoves, Moves, NumberedMoves, document_text, document_text_in_parts,
+};
 
 /// Reads a board, finds the value of its start on this thread and writes the document that shows
 /// it.
@@ -50,7 +51,7 @@ pub fn run_solve_alone<R: Source, W: Sink>(
 {
     let text = read_text(alloc, reader, MAX_BOARD_BYTES)?;
     let solved = solve_text_alone(alloc, text.as_slice())?;
-    write_text(writer, &solved.text)?;
+    write_parts(writer, &solved.parts)?;
     Ok(solved.value)
 }
 
@@ -80,22 +81,23 @@ pub fn run_solve<R: Source, W: Sink>(
 {
     let text = read_text(alloc, reader, MAX_BOARD_BYTES)?;
     let solved = solve_text(rt, alloc, workers, text.as_slice())?;
-    write_text(writer, &solved.text)?;
+    write_parts(writer, &solved.parts)?;
     Ok(solved.value)
 }
 
-/// The value of a board's start, and the text of the board's document.
+/// The value of a board's start, and the text of the board's document, in parts that follow one
+/// another.
 #[derive(Drop)]
 pub struct Solved {
     pub value: Value,
-    pub text: String,
+    pub parts: Vec<Vec<u8>>,
 }
 
 /// The value of the start of the board whose text is `text`, and the text of its document, which
 /// shows that value. It is found on this thread.
 pub fn solve_text_alone(alloc: Global, text: &[u8]) -> Result<Solved, RunFault>
     ensures ok { IfOk result (λ solved.
-        IsSolution text.now solved.value (string_bytes solved.text)) }
+        IsSolution text.now solved.value (flat_map (λ part. part.items) solved.parts.items)) }
     ensures fault { IfErr result (HasNoBoard text.now) }
 {
     let board = small_board(alloc, text)?;
@@ -113,7 +115,7 @@ pub fn solve_text(
 ) -> Result<Solved, RunFault>
     requires workers { InRange 1 MAX_WORKERS workers }
     ensures ok { IfOk result (λ solved.
-        IsSolution text.now solved.value (string_bytes solved.text)) }
+        IsSolution text.now solved.value (flat_map (λ part. part.items) solved.parts.items)) }
     ensures fault { IfErr result (CannotSolve BoardLimit.Small workers text.now) }
 {
     if workers == 1 {
@@ -128,15 +130,12 @@ pub fn solve_text(
 /// The value of the start of the board of `moves`, and the text of the board's document.
 fn solution<M: Moves>(alloc: Global, moves: &M) -> Result<Solved, Memory>
     requires few { configurations (M.board moves.now) ≤ MAX_CONFIGURATIONS }
-    ensures { IfOk result (λ solved.
-        IsSolved (M.board moves.now) solved.value (string_bytes solved.text)) }
+    ensures { IfOk result (λ solved. IsSolved (M.board moves.now) solved.value
+        (flat_map (λ part. part.items) solved.parts.items)) }
 {
-    let board = moves.board();
-    let space = Space::new(board);
-    let value = moves.value(board.start());
-    let document = document_by(alloc, moves, &space)?;
-    let text = print(alloc, &space, &document)?;
-    Ok(Solved { value, text })
+    let space = Space::new(moves.board());
+    let DocumentText { value, parts } = document_text(alloc, moves, &space)?;
+    Ok(Solved { value, parts })
 }
 
 /// The same, with the lines of the document's rows made in this number of `parts`.
@@ -148,15 +147,18 @@ fn solution_in_parts<M: Moves>(
 ) -> Result<Solved, Memory>
     requires few { configurations (M.board moves.now) ≤ MAX_CONFIGURATIONS }
     requires parts { 1 ≤ parts }
-    ensures { IfOk result (λ solved.
-        IsSolved (M.board moves.now) solved.value (string_bytes solved.text)) }
+    ensures { IfOk result (λ solved. IsSolved (M.board moves.now) solved.value
+        (flat_map (λ part. part.items) solved.parts.items)) }
 {
-    let board = moves.board();
-    let space = Space::new(board);
-    let value = moves.value(board.start());
-    let document = document_by(alloc, moves, &space)?;
-    let text = print_in_parts(rt, alloc, &space, &document, parts as u32)?;
-    Ok(Solved { value, text })
+    let space = Space::new(moves.board());
+    let DocumentText { value, parts } = document_text_in_parts(
+        rt,
+        alloc,
+        moves,
+        &space,
+        parts as u32,
+    )?;
+    Ok(Solved { value, parts })
 }
 
 /// The values of a board, by this number of workers, which share the rounds over its graph.

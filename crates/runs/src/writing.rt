@@ -1,6 +1,6 @@
 //! Writing a text that was built whole.
 
-ghost use Rattle.std.specs.Prelude.{◌≡◌, ◌↔◌, true, false, Err, IfErr, OnOk, OnErr};
+ghost use Rattle.std.specs.Prelude.{◌≡◌, ◌↔◌, true, false, Err, IfErr, OnOk, OnErr, flat_map};
 ghost use Rattle.std.specs.Io.KnownBytes.{Appends};
 ghost use Rattle.board_text.specs.Streams.{AppendsPrefix};
 ghost use Rattle.runs.specs.declared.fault.RunFault.TheVariants.{Write};
@@ -22,4 +22,24 @@ pub fn write_text<W: Sink>(writer: &mut W, text: &str) -> Result<(), RunFault>
         Ok(()) => Ok(()),
         Err(Failed) => Err(RunFault::Write),
     }
+}
+
+/// Writes the text whose parts are `parts`, one after another. The writer must not have failed
+/// before. After a fault a prefix of the text was written.
+pub(crate) fn write_parts<W: Sink>(writer: &mut W, parts: &[Vec<u8>]) -> Result<(), RunFault>
+    requires ready { W.has_failed writer.old ≡ false }
+    ensures ok { OnOk result (Appends (W.contents writer.old) (W.contents writer.new)
+        (flat_map (λ part. part.items) parts.now)) }
+    ensures prefix { OnErr result (AppendsPrefix (W.contents writer.old)
+        (W.contents writer.new) (flat_map (λ part. part.items) parts.now)) }
+    ensures fault { IfErr result (λ fault. fault ≡ Write) }
+    ensures failed { (W.has_failed writer.new ≡ true) ↔ (result ≡ Err Write) }
+{
+    for part in parts {
+        match write_all(writer, part.as_slice()) {
+            Ok(()) => {}
+            Err(Failed) => return Err(RunFault::Write),
+        }
+    }
+    Ok(())
 }

@@ -15,16 +15,17 @@ returns-in_err-solved-clause-fault g c =
     c.in_ok-text.text.items c.in_ok-text.ensures.ok c.in_err-solved.field-0.0
     (rw c.as_slice.ensures.value at c.in_err-solved.ensures.fault))
 
-pub returns-in_err-write_text-clause-fault : goal.returns-in_err-write_text-clause-fault
-returns-in_err-write_text-clause-fault g c =
-    let p = err_from_is_err_and c.from_residual-in_err-write_text.result c.from_residual-in_err-write_text.ensures.1 in
+pub returns-in_err-write_parts-clause-fault : goal.returns-in_err-write_parts-clause-fault
+returns-in_err-write_parts-clause-fault g c =
+    let from = c.from_residual-in_err-write_parts in
+    let p = err_from_is_err_and from.result from.ensures.1 in
     let read = bytes_of g.R.Source.remaining c.args.reader.now c.read_text.new.reader in
-    let written = bytes_of g.W.Sink.contents c.args.writer.now c.write_text.new.writer in
-    rw (p.1, p.2, c.in_err-write_text.ensures.fault)
+    let written = bytes_of g.W.Sink.contents c.args.writer.now c.write_parts.new.writer in
+    rw (p.1, p.2, c.in_err-write_parts.ensures.fault)
     (cut_short IsSolution (CannotSolve Small c.args.workers) MAX_BOARD_BYTES read written
     c.in_ok-text.text.items c.in_ok-text.ensures.ok c.in_ok-solved.solved.value _
     (rw c.as_slice.ensures.value at c.in_ok-solved.ensures.ok)
-    (rw c.deref.ensures at c.in_err-write_text.ensures.prefix))
+    (rw c.deref.ensures.value at c.in_err-write_parts.ensures.prefix))
 
 pub returns-clause-ok : goal.returns-clause-ok
 returns-clause-ok g c = (
@@ -33,6 +34,6 @@ returns-clause-ok g c = (
   (
     _,
     rw c.as_slice.ensures.value at c.in_ok-solved.ensures.ok,
-    rw c.deref.ensures at c.in_ok-write_text.ensures.ok,
+    rw c.deref.ensures.value at c.in_ok-write_parts.ensures.ok,
   ),
 )
