@@ -3,6 +3,7 @@
 ghost use Rattle.std.specs.Prelude.{◌≡◌, ◌<◌, ◌≤◌, IfOk};
 ghost use Rattle.board_text.specs.PlainBoard.{IsBoard};
 ghost use Rattle.positions.specs.Ranks.{configurations, configuration_at, rank_of};
+ghost use Rattle.strategies.specs.Best.{IsBestFor};
 ghost use Rattle.strategies.specs.Inside.MovesAt.{position};
 ghost use Rattle.strategies.specs.Inside.RankMoves.{AreBestOfAll};
 ghost use Rattle.strategies.specs.Inside.Walks.{AreFoundBelow};
@@ -101,6 +102,16 @@ impl<'a> RankMoves<'a> {
         GapWalk::at(self.space, &self.members, rank)
     }
 
+    /// The best answer to a request of `pebble` at the configuration of `gaps`, if there is one.
+    pub(crate) fn best_at(&self, gaps: &GapWalk<'_>, pebble: u8) -> Option<Best>
+        requires same_board { gaps.now.board ≡ self.now }
+        requires pebble { pebble < self.now.pebbles }
+        ensures { IsBestFor self.now gaps.now.held pebble result }
+    {
+        let _ = gaps.pebbles();
+        self.best[gaps.gap(pebble) as usize]
+    }
+
     /// Puts the best answer to a request of each pebble at the configuration of `gaps` into
     /// `answers`.
     pub(crate) fn put_answers(&self, gaps: &GapWalk<'_>, answers: &mut [Option<Best>; MAX_PEBBLES])
@@ -108,7 +119,7 @@ impl<'a> RankMoves<'a> {
         ensures { AreFoundBelow self.now gaps.now.held self.now.pebbles answers.new }
     {
         for pebble in 0..gaps.pebbles() {
-            answers[pebble as usize] = self.best[gaps.gap(pebble) as usize];
+            answers[pebble as usize] = self.best_at(gaps, pebble);
         }
     }
 }

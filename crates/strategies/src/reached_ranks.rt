@@ -7,6 +7,7 @@ ghost use Rattle.strategies.specs.Inside.MovesAt.{position};
 ghost use Rattle.strategies.specs.Inside.ReachedMarks.{AreExpanded, AreReachedWith};
 ghost use Rattle.strategies.specs.Inside.ReachedRanks.{AnswerLeads, IsAnswerOf, RequestLeads};
 
+use crate::gap_walk::GapWalk;
 use crate::marks::Marks;
 use crate::moves_here::MovesHere;
 use crate::rank_moves::RankMoves;
@@ -17,14 +18,14 @@ use positions::Value;
 impl RankMoves<'_> {
     /// Adds the result of the best answer to each request at the configuration of `rank`, where
     /// `here` is, if that has a value of 1 or more.
-    pub(crate) fn add_answers(&self, here: &Walk<'_>, rank: u32, reached: &mut Reached)
+    pub(crate) fn add_answers(&self, here: &GapWalk<'_>, rank: u32, reached: &mut Reached)
         requires rank { rank < configurations self.now }
         requires here { here.now ≡ position self.now (configuration_at self.now rank) }
         requires size { length reached.old.reached ≡ configurations self.now }
         ensures { AreReachedWith reached.old (AnswerLeads self.now rank) reached.new }
     {
         for pebble in 0..here.pebbles() {
-            if let Some(best) = here.answer(pebble) {
+            if let Some(best) = self.best_at(here, pebble) {
                 if Value::Finite(0) < best.value {
                     reached.add(self.space().with(rank, pebble, best.label));
                 }

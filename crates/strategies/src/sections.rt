@@ -62,15 +62,15 @@ impl SectionRow for LabellerRow {
     /// from the start, through such configurations only.
     fn reached(moves: &RankMoves<'_>, alloc: Global) -> Result<Marks, Memory> {
         let start = moves.start();
-        let mut walk = Walk::at(moves, start);
         let mut reached = Reached::new(alloc, moves.space().configurations())?;
-        if Value::Finite(0) < walk.value() {
+        if Value::Finite(0) < Walk::at(moves, start).value() {
             reached.add(start);
         }
+        let mut gaps = moves.gaps_at(start);
         let mut from = 0;
         while let Some(rank) = reached.take_next(from) {
-            walk.move_to(rank);
-            moves.add_answers(&walk, rank, &mut reached);
+            gaps.move_to(rank);
+            moves.add_answers(&gaps, rank, &mut reached);
             from = rank + 1;
         }
         Ok(reached.into_marks())

@@ -20,7 +20,7 @@ loop-pebble-preserved c =
     let at = (goal.at.loop-pebble-preserved c).After-pebbles-pebble-end in
     let is_pebble : pebble < b.pebbles = omega (arith, pebbles at, c.loop-pebble-test.true) in
     let is = c.loop-pebble.invariant in
-    elim c.match-answer.branch [
+    elim c.match-best_at.branch [
       | in-Some+then-lt w ↦
           let low : w.with.result < length c.loop-pebble.reached.reached =
           (let below = rw w.space.ensures.value at w.with.ensures.below in

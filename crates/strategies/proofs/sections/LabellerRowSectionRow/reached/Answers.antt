@@ -18,10 +18,10 @@ loop-rank-init c =
     let size : ℕ = c.configurations.result in
     let size_is : size ≡ configurations b = rw c.space.ensures.value at c.configurations.ensures.value in
     let long : length (replicate size false) ≡ size = length-replicate size false in
-    let has = rw c.at-walk.ensures at c.value.ensures in
+    let has = rw c.at.ensures at c.value.ensures in
     elim c.if-lt.branch [
       | then-lt w ↦ rw w.reached-is (record {
-        here = ap (λ (p : HeldPosition). p.board) c.at-walk.ensures;
+        here = ap (λ (p : HeldPosition). p.board) c.gaps_at-gaps.ensures;
         swept = sweep_begins b _ _ _ is size _ size_is
             (reached_one (none_reached size) _ c.start-start.result _
             (omega (arith, long, size_is, c.start-start.ensures.below)) w.add.ensures.size
@@ -32,7 +32,7 @@ loop-rank-init c =
             (λ rank starts. starts.1 ∙ sym c.start-start.ensures.rank)) long;
       })
       | else-lt w ↦ rw (w.reached-is, c.in_ok-reached.ensures) (record {
-        here = ap (λ (p : HeldPosition). p.board) c.at-walk.ensures;
+        here = ap (λ (p : HeldPosition). p.board) c.gaps_at-gaps.ensures;
         swept = sweep_begins b _ _ _ is size _ size_is
             (reached_known (none_reached size) _ (λ rank starts. absurd
             (worthless b _ c.value.result

@@ -5,7 +5,7 @@ use Rattle.strategies.proofs.sections.LabellerRowSectionRow.reached.Given as goa
 
 abbrev pub invariant-loop-rank : goal.invariant-loop-rank
 invariant-loop-rank l = record {
-  here : l.walk.board ≡ l.moves;
+  here : l.gaps.board ≡ l.moves;
   swept : IsSweptByAnswers l.moves l.reached;
 }
 
