@@ -9,7 +9,7 @@ use Rattle.proof_text.specs.Proof.{PlainProof, IsClaim}
 use Rattle.proof_text.specs.Documents.{IsProof, IsClassProof}
 use Rattle.proof_text.specs.Rules.{BreaksNoRule}
 use Rattle.proof_check.specs.ClassRules.{BreaksNoClassRule}
-use Rattle.class_strategies.proofs.Cited.{claims_shown}
+use Rattle.strategies.proofs.Cited.{claims_shown}
 use Rattle.domains.proofs.ShownDocuments.{claims_of_documents, documents_for}
 
 pub both_versions : (board : PlainBoard) (claim : Claim) → IsConfiguration board board.start

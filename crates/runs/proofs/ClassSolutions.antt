@@ -3,8 +3,8 @@ use Rattle.std.proofs.Common.{◌≡◌, ◌-◌, ◌≤◌, ◌⊎◌, ℕ, Lis
 use Rattle.board_text.specs.PlainBoard.{PlainBoard, places}
 use Rattle.board_text.proofs.Cited.{one_board}
 use Rattle.proof_check.proofs.Cited.{no_class_fault}
-use Rattle.class_strategies.proofs.Cited.{breaks_no_rule, has_form as is_formed, one_document as one_made}
-use Rattle.class_strategies.proofs.Cited.{short_text_fits}
+use Rattle.strategies.proofs.Cited.{breaks_no_class_rule, has_class_form as is_formed, one_class_document as one_made}
+use Rattle.strategies.proofs.Cited.{short_text_fits}
 use Rattle.proof_text.proofs.Cited.{no_class_text_fault as faultless_document, one_class_document}
 use Rattle.proof_text.specs.ProofText.{class_text}
 use Rattle.proof_text.specs.Documents.{IsClassProof}
@@ -126,7 +126,7 @@ module _ (text written : List ℕ) (value : Value) (solution : IsClassSolution t
   verdict_of proof (Refused fault) same told = absurd told
   verdict_of proof (RefusedByClasses fault) same told =
       absurd (no_class_fault board solved.document fault
-      (breaks_no_rule board solved.document is.is_board.start solved.is_document)
+      (breaks_no_class_rule board solved.document is.is_board.start solved.is_document)
       (subst (λ p. IsClassVerdict board p (RefusedByClasses fault)) (sym same) told))
 
   accepts_of : (kind : Numbering) (proof : PlainProof) (verdict : Verdict) → IsProofOf kind board proof

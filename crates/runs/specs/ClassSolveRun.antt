@@ -1,7 +1,7 @@
 -- Solutions of texts by classes, and the faults of texts without one.
 use Rattle.std.specs.Prelude.{◌≡◌, ℕ, ◌<◌, ◌≤◌, List, length}
 use Rattle.board_text.specs.PlainBoard.{PlainBoard}
-use Rattle.class_strategies.specs.ClassDocument.{IsClassDocumentOf}
+use Rattle.strategies.specs.ClassDocument.{IsClassDocumentOf}
 use Rattle.proof_text.specs.ProofText.{class_text}
 use Rattle.positions.specs.declared.value.Value.{Value}
 use Rattle.positions.specs.Value.{HasValue}

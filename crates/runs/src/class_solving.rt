@@ -18,16 +18,15 @@ use crate::fault::RunFault;
 use crate::notices::tell_size;
 use crate::reading::{MAX_BOARD_BYTES, read_text};
 use crate::solving::Solved;
-use crate::writing::write_parts;
-use board_text::{Memory, Sink, Source};
-use class_strategies::{MadeDocument, document_by_classes_in_parts};
+use crate::writing::write_text;
+use board_text::{Sink, Source};
 use gap_values::GapValues;
 use positions::Value;
 use proof_text::print_classes_in_parts;
 use round_workers::MAX_WORKERS;
 use std::alloc::Global;
 use std::thread::Threads;
-use strategies::{GapMoves, Moves};
+use strategies::{GapMoves, MadeDocument, Moves, document_by_classes_in_parts};
 
 /// Reads a board of at most `MAX_GAPS` gaps, finds the value of its start, and writes its document
 /// by classes, which a check reads and accepts. The number of `workers` is 1 to `MAX_WORKERS`; each

@@ -10,3 +10,8 @@ pub use Rattle.strategies.proofs.DocumentRows.{each_number}
 pub use Rattle.strategies.proofs.Meanings.{means_value}
 pub use Rattle.strategies.proofs.ShownClaims.{shows_claim}
 pub use Rattle.strategies.proofs.SpreadRanks.{start_value}
+pub use Rattle.strategies.proofs.ClassDocumentForm.{few_classes_fit, has_class_form}
+pub use Rattle.strategies.proofs.KeptClassRules.{breaks_no_class_rule}
+pub use Rattle.strategies.proofs.LongTexts.{short_text_fits}
+pub use Rattle.strategies.proofs.OneClassList.{one_class_document}
+pub use Rattle.strategies.proofs.ShownClassClaims.{claims_shown}

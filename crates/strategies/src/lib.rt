@@ -1,13 +1,19 @@
-//! Best answers, best requests, and the document that shows the value of a board's start.
+//! Best answers, best requests, and the documents that show the value of a board's start: by
+//! configurations, and by classes.
 #![tactic(auto)]
 
 mod best_moves;
+mod class_documents;
+mod class_rows;
+mod class_sections;
+mod class_steps;
 mod configuration;
 mod documents;
 mod gap_best;
 mod gap_moves;
 mod gap_walk;
 mod laws;
+mod laws_of_class_documents;
 mod laws_of_documents;
 mod lines;
 mod marks;
@@ -17,6 +23,7 @@ mod moves_here;
 mod numbered_moves;
 mod rank_moves;
 mod reached;
+mod reached_classes;
 mod reached_ranks;
 mod rows;
 mod sections;
@@ -24,11 +31,17 @@ mod text;
 mod walk;
 
 pub use best_moves::{BestMoves, best_answer, best_request};
+pub use class_documents::{MadeDocument, document_by_classes, document_by_classes_in_parts};
 pub use configuration::Configuration;
 pub use documents::{document, document_by};
 pub use gap_best::Best;
 pub use gap_moves::GapMoves;
 pub use laws::{best_answers_last, best_requests_end, one_best_answer, one_best_request};
+pub use laws_of_class_documents::{
+    claims_hold_where_class_documents_show_them, class_documents_break_no_rule,
+    class_documents_have_the_form, each_board_has_a_class_document,
+    finite_values_are_less_than_the_number_of_gaps, one_class_document_of_a_board,
+};
 pub use laws_of_documents::{
     documents_break_no_rule, documents_claim_what_holds, documents_have_their_form,
     documents_mean_their_value, documents_of_small_boards, documents_show_their_claim,

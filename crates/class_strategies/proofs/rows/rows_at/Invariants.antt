@@ -1,8 +1,0 @@
-use Rattle.std.proofs.Common.{take}
-use Rattle.class_strategies.specs.Inside.ClassSide.{AreRowsAtClasses}
-use Rattle.class_strategies.proofs.rows.rows_at.Given as goal
-
-abbrev pub invariant-loop-number : goal.invariant-loop-number
-invariant-loop-number g l = AreRowsAtClasses (g.M.Moves.board l.moves) (g.R.SectionRow.side
-    (g.M.Moves.board l.moves) l.start) (take l.number-index l.numbers)
-    l.rows.items

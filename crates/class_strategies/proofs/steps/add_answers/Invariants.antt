@@ -1,9 +1,0 @@
-use Rattle.strategies.specs.Inside.ReachedRanks.{IsWithAll}
-use Rattle.strategies.proofs.AddedRanks.{Below}
-use Rattle.class_strategies.specs.Inside.ReachedClasses.{class_numbered, IsClassAnswerStep}
-use Rattle.class_strategies.proofs.steps.add_answers.Given as goal
-
-abbrev pub invariant-loop-pebble : goal.invariant-loop-pebble
-invariant-loop-pebble g l =
-    IsWithAll l.fn.reached (Below (IsClassAnswerStep (g.M.Moves.board l.moves) (class_numbered
-    (g.M.Moves.board l.moves) l.number)) l.pebble) l.reached

@@ -1,3 +1,0 @@
--- Definitions that clauses of this crate's own functions cite, and no public contract.
-pub mod ReachedClasses
-pub mod ClassSide

@@ -1,2 +1,0 @@
-pub mod ClassDocument
-pub mod Inside

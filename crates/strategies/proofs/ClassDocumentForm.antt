@@ -1,0 +1,237 @@
+-- The document by classes of a board has the form of documents.
+use Rattle.std.proofs.Common.{◌≡◌, ◌⊎◌, ℕ, ◌-◌, ◌<◌, ◌≤◌, true, true≢false, List, [], ◌∷◌, length}
+use Rattle.std.proofs.Common.{get_or, slice_index, refl, sym, ap, ◌∙◌, subst, inl, inr, arith}
+use Rattle.std.specs.List.{All, Contains}
+use Rattle.std.proofs.lemmas.Bool.{cases_lt}
+use Rattle.std.proofs.lemmas.List.{get_or_default}
+use Rattle.std.proofs.lemmas.List.Elements.{Contains-get_or}
+use Rattle.board_text.specs.Ranges.{AreNumbers}
+use Rattle.board_text.specs.PlainBoard.{PlainBoard, IsConfiguration, places}
+use Rattle.positions.specs.declared.value.Value.{Value}
+use Rattle.positions.specs.declared.value.Value.TheVariants.{Finite, Forever}
+use Rattle.positions.specs.declared.claim.Claim.{Claim}
+use Rattle.positions.specs.Game.{moved}
+use Rattle.positions.specs.Value.{HasValue}
+use Rattle.positions.specs.Claim.{claim_of}
+use Rattle.positions.specs.Table.{AnswerRow, RequestRow}
+use Rattle.positions.proofs.Cited.{moved_is_configuration, same_value}
+use Rattle.proof_text.specs.declared.proof.TheConstants.{MOST_TURNS}
+use Rattle.proof_text.specs.Proof.{PlainProof, IsClaim, IsAnswerRow, AreTurns, asks_labeller, asks_adversary}
+use Rattle.strategies.specs.Best.{IsLess}
+use Rattle.strategies.specs.Document.{IsAnswerMove, IsRequestMove, AsksAdversary, turns_of}
+use Rattle.strategies.proofs.ValueOrder.{at_least, less_than_finite}
+use Rattle.classes.specs.Numbers.{class_count, ways}
+use Rattle.classes.proofs.Cited.{ways-within}
+use Rattle.proof_text.specs.Arranged.{arranged}
+use Rattle.proof_text.specs.ClassProof.{IsClassRequestRow}
+use Rattle.proof_text.specs.Documents.{IsClassProof}
+use Rattle.proof_text.specs.declared.class_proof.TheConstants.{MAX_CLASS_ROWS}
+use Rattle.proof_text.proofs.Cited.{arranged_is}
+use Rattle.strategies.specs.ClassDocument.{LeadsByClasses, IsLabellerClassRow, IsAdversaryClassRow}
+use Rattle.strategies.specs.ClassDocument.{IsClassDocumentOf, FitsFormat}
+use Rattle.strategies.proofs.ArrangedAgain.{arranged-again}
+use Rattle.strategies.proofs.EveryClass.{IsArrangedAt}
+use Rattle.strategies.proofs.FewValues.{few_values}
+use Rattle.strategies.proofs.KeptClassRules.{start_is, start_value, answered_is, requested_is}
+use Rattle.strategies.proofs.LikePebbles.{arranged-value}
+use Rattle.strategies.proofs.ShownClassClaims.{rows-few}
+
+-- moves by classes lead to arranged places
+pub leads_arranged : (labels : ℕ) (IsMove : List ℕ → ℕ → ℕ
+    → Type 0) (from : List ℕ) (moves : List (ℕ × ℕ)) (to : List ℕ)
+    → arranged labels from ≡ from → LeadsByClasses labels IsMove from moves to → arranged labels to ≡ to
+leads_arranged labels IsMove from [] to is leads = subst (λ (c : List ℕ). arranged labels c ≡ c) leads is
+leads_arranged labels IsMove from ((pebble, label) ∷ moves) to is leads =
+    leads_arranged labels IsMove (arranged labels (moved from pebble label)) moves to
+    (arranged-again labels (moved from pebble label)) leads.1
+
+-- best requests don't raise the value
+no_more : (board : PlainBoard) (from : List ℕ) (moves : List (ℕ × ℕ)) (to : List ℕ) (number after : ℕ)
+    → IsConfiguration board from → HasValue board from (Finite number)
+    → LeadsByClasses board.labels (IsRequestMove board) from moves to → HasValue board to (Finite after)
+    → after ≤ number
+no_more board from [] to number after is has leads other =
+    at_least board after number to other.0 (subst (λ (c : List ℕ). HasValue board c (Finite number)) leads has)
+no_more board from ((pebble, label) ∷ moves) to number after is has leads other =
+    let next : List ℕ = moved from pebble label in
+    let is_next : IsConfiguration board next =
+    moved_is_configuration board from pebble label leads.0.legal.is_label is in
+    let less = less_than_finite board number next from has (leads.0.best.0.lowers label leads.0.legal) in
+    let most : after ≤ less.0 = no_more board (arranged board.labels next) moves to less.0 after
+    (arranged_is board next is_next) (arranged-value board next is_next (Finite less.0) less.2) leads.1 other in
+    let below : less.0 < number = less.1 in omega arith
+
+-- where best answers lead to a value of 1 or more, the first value is 1 or more
+some_before : (board : PlainBoard) (from : List ℕ) (moves : List (ℕ × ℕ)) (to : List ℕ)
+    → LeadsByClasses board.labels (IsAnswerMove board) from moves to
+    → (value : Value) → HasValue board to value → IsLess (Finite 0) value
+    → (first : Value) → HasValue board from first → IsLess (Finite 0) first
+some_before board from [] to leads value has some first has_first =
+    subst (IsLess (Finite 0))
+    (same_value board to value first has (subst (λ (c : List ℕ). HasValue board c first) leads has_first)) some
+some_before board from ((pebble, label) ∷ moves) to leads value has some first has_first =
+    let answerable = leads.0.answerable in
+    subst (IsLess (Finite 0)) (same_value board from answerable.value first answerable.has_value has_first)
+    answerable.some
+
+turns_fit : (start : Value) → IsClaim (claim_of start) → IsLess (Finite 0) start → (value : Value)
+    → IsLess (Finite 0) value → AreTurns (claim_of start) (turns_of start value)
+turns_fit (Finite number) small some (Finite value) positive = (omega (arith, some, positive), omega (arith, small))
+turns_fit (Finite number) small some Forever positive = (omega (arith, some), omega (arith, small))
+turns_fit Forever small some value positive = tt
+
+empty : (rows : List RequestRow) → ((row : RequestRow) → Contains rows row → ⊥) → rows ≡ []
+empty [] none = refl
+empty (row ∷ rows) none = absurd (none row (Contains-get_or (row ∷ rows) 0 row (omega arith)))
+
+always_asked : (value : Value) → asks_labeller (claim_of value) ≡ true
+always_asked (Finite number) = refl
+always_asked Forever = refl
+
+asked_or_none : (value : Value) (rows : List RequestRow) → ((row : RequestRow) → Contains rows row → AsksAdversary
+    value)
+    → (asks_adversary (claim_of value) ≡ true) ⊎ (rows ≡ [])
+asked_or_none (Finite number) rows asks = inl refl
+asked_or_none Forever rows asks = inr (empty rows asks)
+
+module _ (board : PlainBoard) (proof : PlainProof) (is : IsClassDocumentOf board proof) where
+  pub labeller_asked : asks_labeller proof.claim ≡ true
+  labeller_asked = subst (λ (claim : Claim). asks_labeller claim ≡ true) (sym is.claim) (always_asked is.value)
+
+  pub adversary_asked : (asks_adversary proof.claim ≡ true) ⊎ (proof.adversary ≡ [])
+  adversary_asked =
+      subst (λ (claim : Claim). (asks_adversary claim ≡ true) ⊎ (proof.adversary ≡ [])) (sym is.claim)
+      (asked_or_none is.value proof.adversary (λ row among. ((is.adversary.each row).0 among).0))
+
+-- a board has no more gaps than classes
+gaps_few : (board : PlainBoard) → IsConfiguration board board.start
+    → ways (board.pebbles - 1) (places board) ≤ class_count board
+gaps_few board is = elim (cases_lt 0 board.pebbles) [
+  | inl some ↦
+      let place : get_or board.start 0 0 < places board = is.each_place 0 0 (omega (arith, some, is.each_pebble)) in
+      ways-within (board.pebbles - 1) board.pebbles (places board) (places board) (omega arith) (omega arith)
+      (omega (arith, place))
+  | inr none ↦
+      let same : board.pebbles - 1 ≡ board.pebbles = omega (arith, none) in
+      omega (arith, ap (λ pebbles. ways pebbles (places board)) same)
+]
+
+-- the claim of a finite value is in range, since the value is less than the number of gaps
+claim_fits : (board : PlainBoard) (value : Value) → IsConfiguration board board.start
+    → ways (board.pebbles - 1) (places board) ≤ MOST_TURNS → HasValue board board.start value
+    → IsClaim (claim_of value)
+claim_fits board (Finite number) is few has = omega (arith, few_values board board.start number is has, few)
+claim_fits board Forever is few has = tt
+
+module _ (board : PlainBoard) (proof : PlainProof) (is_start : IsConfiguration board board.start)
+    (is : IsClassDocumentOf board proof) where
+  abbrev start : List ℕ
+  start = arranged board.labels board.start
+
+  has_start : HasValue board start is.value
+  has_start = start_value board proof is_start is
+
+  answers_are : (row : AnswerRow) → IsLabellerClassRow board is.value row
+      → AreNumbers board.pebbles board.labels row.answers
+  answers_are row is_row = (
+    is_row.one_each,
+    λ k d low.
+        let label : slice_index row.answers k < board.labels =
+        (is_row.best k (omega (arith, low, is_row.one_each))).0.legal.is_label in
+        subst (λ n. n < board.labels) (get_or_default row.answers k 0 d low) label,
+  )
+
+  row_at : (k : ℕ) (d : AnswerRow) → k < length proof.labeller
+      → IsLabellerClassRow board is.value (get_or proof.labeller k d)
+  row_at k d low = (is.labeller.each (get_or proof.labeller k d)).0 (Contains-get_or proof.labeller k d low)
+
+  asked_at : (k : ℕ) (d : RequestRow) → k < length proof.adversary
+      → AsksAdversary is.value × IsAdversaryClassRow board (get_or proof.adversary k d)
+  asked_at k d low = (is.adversary.each (get_or proof.adversary k d)).0 (Contains-get_or proof.adversary k d low)
+
+  answers_placed : All (λ (row : AnswerRow). IsArrangedAt board row.at) proof.labeller
+  answers_placed k d low =
+      let is_row = row_at k d low in record {
+        is = answered_is board proof is_start is is_row.moves (get_or proof.labeller k d).at is_row.reached;
+        arranged_is = leads_arranged board.labels (IsAnswerMove board) start is_row.moves
+            (get_or proof.labeller k d).at (arranged-again board.labels board.start) is_row.reached;
+      }
+
+  requests_placed : All (λ (row : RequestRow). IsArrangedAt board row.at) proof.adversary
+  requests_placed k d low =
+      let is_row = (asked_at k d low).1 in record {
+        is = requested_is board proof is_start is is_row.moves (get_or proof.adversary k d).at is_row.reached;
+        arranged_is = leads_arranged board.labels (IsRequestMove board) start is_row.moves
+            (get_or proof.adversary k d).at (arranged-again board.labels board.start) is_row.reached;
+      }
+
+  -- the document of a board of few classes fits, since its rows are at different classes
+  pub few_classes_fit : class_count board ≤ MAX_CLASS_ROWS → FitsFormat board proof
+  few_classes_fit few = record {
+    gaps = omega (arith, gaps_few board is_start, few);
+    labeller = omega (
+      arith,
+      few,
+      rows-few board (λ (row : AnswerRow). row.at) proof.labeller answers_placed is.labeller.ascending,
+    );
+    adversary = omega (
+      arith,
+      few,
+      rows-few board (λ (row : RequestRow). row.at) proof.adversary requests_placed is.adversary.ascending,
+    );
+  }
+
+  module _ (fits : FitsFormat board proof) where
+    small : IsClaim (claim_of is.value)
+    small = claim_fits board is.value is_start fits.gaps is.has_value
+
+    answer_form : (row : AnswerRow) → IsLabellerClassRow board is.value row → IsAnswerRow board proof.claim row
+    answer_form row is_row = record {
+      at = answered_is board proof is_start is is_row.moves row.at is_row.reached;
+      turns = subst (λ (claim : Claim). AreTurns claim row.turns) (sym is.claim)
+          (subst (AreTurns (claim_of is.value)) (sym is_row.turns)
+          (turns_fit is.value small
+          (some_before board start is_row.moves row.at is_row.reached is_row.value is_row.has_value is_row.some is.value
+          has_start)
+          is_row.value is_row.some));
+      answers = answers_are row is_row;
+    }
+
+    left_few : (value : Value) → IsClaim (claim_of value) → HasValue board start value → AsksAdversary value
+        → (row : RequestRow) → IsAdversaryClassRow board row → row.left ≤ MOST_TURNS
+    left_few (Finite number) most has asks row is_row =
+        let below : row.left ≤ number = no_more board start is_row.moves row.at number row.left
+        (start_is board proof is_start is) has is_row.reached is_row.has_value in
+        omega (arith, most, below)
+    left_few Forever most has asks row is_row = absurd asks
+
+    request_form : (row : RequestRow) → AsksAdversary is.value → IsAdversaryClassRow board row
+        → IsClassRequestRow board row
+    request_form row asks is_row = record {
+      at = requested_is board proof is_start is is_row.moves row.at is_row.reached;
+      left = left_few is.value small has_start asks row is_row;
+      request = is_row.asked;
+    }
+
+    pub has_class_form : IsClassProof board proof
+    has_class_form = record {
+      claim = subst IsClaim (sym is.claim) small;
+      labeller = record {
+        few = fits.labeller;
+        each = λ k d low. answer_form (get_or proof.labeller k d) (row_at k d low);
+        in_order = λ k d low. (answers_placed k d low).arranged_is;
+        ascending = is.labeller.ascending;
+      };
+      adversary = record {
+        few = fits.adversary;
+        each = λ k d low.
+            let asked = asked_at k d low in request_form (get_or proof.adversary k d) asked.0 asked.1;
+        in_order = λ k d low. (requests_placed k d low).arranged_is;
+        ascending = is.adversary.ascending;
+      };
+      no_labeller = λ e. absurd (true≢false (sym (labeller_asked board proof is) ∙ e));
+      no_adversary = λ e. elim (adversary_asked board proof is) [
+        | inl asked ↦ absurd (true≢false (sym asked ∙ e))
+        | inr none ↦ none
+      ];
+    }

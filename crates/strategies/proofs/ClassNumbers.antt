@@ -1,0 +1,73 @@
+-- Classes by their numbers in the order of documents.
+use Rattle.std.proofs.Common.{◌≡◌, ℕ, ◌+◌, ◌^◌, ◌<◌, List, [], ◌∷◌, length, map, sym, ap, ◌∙◌, subst, inl, inr, refl}
+use Rattle.std.proofs.lemmas.Bool.{cases_eq}
+use Rattle.std.proofs.lemmas.List.{length-map}
+use Rattle.board_text.specs.PlainBoard.{PlainBoard, IsConfiguration}
+use Rattle.positions.specs.Ranks.{digits_of}
+use Rattle.positions.proofs.Digits.{digits_of-number_of, number_below}
+use Rattle.proof_text.specs.Arranged.{order_of, arranged, order_number}
+use Rattle.proof_text.proofs.Cited.{arranged_is}
+use Rattle.proof_text.proofs.Cited.{order-none, order-label, orders-below}
+use Rattle.proof_text.proofs.Cited.{places-few}
+use Rattle.strategies.specs.Inside.ReachedClasses.{place_of, class_numbered, number_of_class_at, IsClassNumber}
+use Rattle.strategies.proofs.ArrangedAgain.{arranged-again}
+
+place_of-order : (labels place : ℕ) → place_of labels (order_of labels place) ≡ place
+place_of-order labels place = elim (cases_eq place labels) [
+  | inl same ↦ ap (λ p. place_of labels (order_of labels p)) same ∙ ap (place_of labels) (order-none labels) ∙ sym same
+  | inr differs ↦ ap (place_of labels) (order-label labels place differs)
+]
+
+places_of-orders : (labels : ℕ) (at : List ℕ) → map (place_of labels) (map (order_of labels) at) ≡ at
+places_of-orders labels [] = refl
+places_of-orders labels (place ∷ at) =
+    λ i. place_of-order labels place i ∷ places_of-orders labels at i
+
+-- a configuration has the places of its number
+pub class_numbered-order : (board : PlainBoard) (at : List ℕ) → IsConfiguration board at
+    → class_numbered board (order_number board.labels at) ≡ at
+class_numbered-order board at is =
+    let labels : ℕ = board.labels in
+    let orders : List ℕ = map (order_of labels) at in
+    let long : length orders ≡ board.pebbles = length-map at (order_of labels) ∙ is.each_pebble in
+    ap (λ n. map (place_of labels) (digits_of (labels + 1) n (order_number labels at))) (sym long)
+    ∙ ap (map (place_of labels))
+    (digits_of-number_of (labels + 1) orders (orders-below labels at (places-few board at is)))
+    ∙ places_of-orders labels at
+
+-- each number of a configuration is below this one
+abbrev pub last_number : PlainBoard → ℕ
+last_number board = (board.labels + 1) ^ board.pebbles
+
+pub numbers-end : (board : PlainBoard) (at : List ℕ) → IsConfiguration board at
+    → order_number board.labels at < last_number board
+numbers-end board at is =
+    let orders : List ℕ = map (order_of board.labels) at in
+    let long : length orders ≡ board.pebbles = length-map at (order_of board.labels) ∙ is.each_pebble in
+    subst (λ n. order_number board.labels at < (board.labels + 1) ^ n) long
+    (number_below (board.labels + 1) orders (orders-below board.labels at (places-few board at is)))
+
+pub number-ends : (board : PlainBoard) (number : ℕ) → IsClassNumber board number → number < last_number board
+number-ends board number is =
+    subst (λ n. n < last_number board) is.number_is (numbers-end board (class_numbered board number) is.is)
+
+-- the number of arranged places is that of a class, which has these places
+pub number-of : (board : PlainBoard) (at : List ℕ) → IsConfiguration board at → arranged board.labels at ≡ at
+    → IsClassNumber board (order_number board.labels at)
+number-of board at is placed =
+    let same : class_numbered board (order_number board.labels at) ≡ at = class_numbered-order board at is in
+    record {
+      is = subst (IsConfiguration board) (sym same) is;
+      arranged_is = subst (λ (c : List ℕ). arranged board.labels c ≡ c) (sym same) placed;
+      number_is = ap (order_number board.labels) same;
+    }
+
+-- the number of a configuration's class is that of a class, which has its places arranged
+pub number_of_class_at-is : (board : PlainBoard) (c : List ℕ) → IsConfiguration board c
+    → IsClassNumber board (number_of_class_at board c)
+number_of_class_at-is board c is =
+    number-of board (arranged board.labels c) (arranged_is board c is) (arranged-again board.labels c)
+
+pub class_numbered-number_at : (board : PlainBoard) (c : List ℕ) → IsConfiguration board c
+    → class_numbered board (number_of_class_at board c) ≡ arranged board.labels c
+class_numbered-number_at board c is = class_numbered-order board (arranged board.labels c) (arranged_is board c is)

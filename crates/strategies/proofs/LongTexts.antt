@@ -1,0 +1,110 @@
+-- The text of a document by classes has at least eight bytes for each row, so that a short text has few rows.
+use Rattle.std.proofs.Common.{◌≡◌, ℕ, ◌+◌, ◌-◌, ◌*◌, ◌≤◌, Bool, true, false, true≢false, List, [], ◌∷◌, ◌++◌, length}
+use Rattle.std.proofs.Common.{codes}
+use Rattle.std.proofs.Common.{refl, sym, ap, inl, inr, arith}
+use Rattle.std.specs.List.{flat_map}
+use Rattle.std.specs.Fmt.{decimal}
+use Rattle.std.proofs.lemmas.List.{length-append}
+use Rattle.board_text.specs.BoardText.{end_line}
+use Rattle.board_text.specs.LineForms.{with_line_feed, number_line}
+use Rattle.board_text.specs.PlaceForms.{spaced_places}
+use Rattle.board_text.specs.PlainBoard.{PlainBoard, places}
+use Rattle.positions.specs.Table.{AnswerRow, RequestRow}
+use Rattle.classes.specs.Numbers.{ways}
+use Rattle.proof_text.specs.Proof.{PlainProof, asks_labeller, asks_adversary}
+use Rattle.proof_text.specs.ProofText.{answer_line, class_request_line, class_text, class_version_line, first_two_lines}
+use Rattle.proof_text.specs.ProofText.{section_text, turns_text}
+use Rattle.proof_text.specs.declared.class_proof.TheConstants.{MAX_CLASS_ROWS}
+use Rattle.proof_text.specs.declared.proof.TheConstants.{MOST_TURNS}
+use Rattle.strategies.specs.ClassDocument.{IsClassDocumentOf, FitsFormat}
+use Rattle.strategies.proofs.ClassDocumentForm.{labeller_asked, adversary_asked}
+
+-- ---- the lines of rows
+
+-- the words `at` and `for`, with spaces, and the line feed
+long_line : (at more : List ℕ) → 8 ≤ length (with_line_feed (codes "at" ++ (at ++ (codes " for " ++ more))))
+long_line at more =
+    let two : length (codes "at") ≡ 2 = refl in
+    let five : length (codes " for ") ≡ 5 = refl in
+    let words : List ℕ = codes "at" ++ (at ++ (codes " for " ++ more)) in
+    omega (
+      arith,
+      length-append words (10 ∷ []),
+      length-append (codes "at") (at ++ (codes " for " ++ more)),
+      length-append at (codes " for " ++ more),
+      length-append (codes " for ") more,
+      two,
+      five,
+    )
+
+answers_long : (board : PlainBoard) (row : AnswerRow) → 8 ≤ length (answer_line board row)
+answers_long board row = long_line (spaced_places board.labels row.at)
+    (turns_text row.turns ++ (codes " take" ++ spaced_places board.labels row.answers))
+
+requests_long : (board : PlainBoard) (row : RequestRow) → 8 ≤ length (class_request_line board row)
+requests_long board row = long_line (spaced_places board.labels row.at)
+    (decimal row.left ++ (codes " ask" ++ spaced_places board.labels (row.request ∷ [])))
+
+long_lines : {X : Type 0} (line : X → List ℕ) → ((row : X) → 8 ≤ length (line row)) → (rows : List X)
+    → 8 * length rows ≤ length (flat_map line rows)
+long_lines line long [] = omega arith
+long_lines line long (row ∷ rows) =
+    omega (arith, long row, long_lines line long rows, length-append (line row) (flat_map line rows))
+
+-- ---- the sections
+
+long_section : {X : Type 0} (word : List ℕ) (asked : Bool) (line : X → List ℕ) (rows : List X) → asked ≡ true
+    → ((row : X) → 8 ≤ length (line row)) → 8 * length rows ≤ length (section_text word asked line rows)
+long_section word true line rows is long =
+    omega (arith, long_lines line long rows, length-append (number_line word (length rows)) (flat_map line rows))
+long_section word false line rows is long = absurd (true≢false (sym is))
+
+-- parts of a text are no longer than the text
+within : (head first second end : List ℕ)
+    → length first + length second ≤ length ((head ++ (first ++ second)) ++ end)
+within head first second end =
+    omega (
+      arith,
+      length-append (head ++ (first ++ second)) end,
+      length-append head (first ++ second),
+      length-append first second,
+    )
+
+module _ (board : PlainBoard) (proof : PlainProof) (is : IsClassDocumentOf board proof) where
+  abbrev labeller_text : List ℕ
+  labeller_text = section_text (codes "labeller") (asks_labeller proof.claim) (answer_line board) proof.labeller
+
+  abbrev adversary_text : List ℕ
+  adversary_text =
+      section_text (codes "adversary") (asks_adversary proof.claim) (class_request_line board) proof.adversary
+
+  sections_within : length labeller_text + length adversary_text ≤ length (class_text board proof)
+  sections_within = within (first_two_lines class_version_line proof.claim) labeller_text adversary_text end_line
+
+  pub labeller_long : 8 * length proof.labeller ≤ length (class_text board proof)
+  labeller_long = omega (
+    arith,
+    sections_within,
+    long_section (codes "labeller") (asks_labeller proof.claim) (answer_line board) proof.labeller
+        (labeller_asked board proof is) (answers_long board),
+  )
+
+  pub adversary_long : 8 * length proof.adversary ≤ length (class_text board proof)
+  adversary_long = elim (adversary_asked board proof is) [
+    | inl asked ↦ omega (
+      arith,
+      sections_within,
+      long_section (codes "adversary") (asks_adversary proof.claim) (class_request_line board) proof.adversary asked
+          (requests_long board),
+    )
+    | inr none ↦ omega (arith, ap length none)
+  ]
+
+  -- a text of at most eight bytes for each of the most rows
+  pub short_text_fits : ways (board.pebbles - 1) (places board) ≤ MOST_TURNS
+      → length (class_text board proof) ≤ 8 * MAX_CLASS_ROWS → FitsFormat board proof
+  short_text_fits few short = record {
+    gaps = few;
+    labeller = omega (arith, short, labeller_long);
+    adversary = omega (arith, short, adversary_long);
+  }

@@ -1,0 +1,87 @@
+-- The sides of a document by classes: the rows of a side's section, and their classes.
+use Rattle.std.specs.Prelude.{◌≡◌, ℕ, List, [], ◌∷◌, map, Option, Some, None, All}
+use Rattle.std.specs.List.{cons_option}
+use Rattle.board_text.specs.PlainBoard.{PlainBoard, IsConfiguration}
+use Rattle.positions.specs.declared.value.Value.{Value}
+use Rattle.positions.specs.declared.value.Value.TheVariants.{Finite, Forever}
+use Rattle.strategies.specs.Inside.Side.{Side}
+use Rattle.proof_text.specs.Arranged.{arranged}
+use Rattle.proof_text.specs.declared.class_proof.LabellerClassRow.{LabellerClassRow}
+use Rattle.proof_text.specs.declared.class_proof.AdversaryClassRow.{AdversaryClassRow}
+use Rattle.proof_text.specs.ClassProof.{IsClassPadded, class_answer_row, class_request_row}
+use Rattle.strategies.specs.ClassDocument.{AreExactlyClasses, IsLabellerClassRow}
+use Rattle.strategies.specs.ClassDocument.{IsAdversaryClassRow}
+use Rattle.strategies.specs.Inside.ReachedClasses.{class_numbered, IsClassNumber}
+use Rattle.strategies.specs.Inside.ReachedClasses.{AreClassNumbersOf}
+use Rattle.strategies.specs.Inside.ReachedClasses.{IsClassReachedByAnswers}
+use Rattle.strategies.specs.Inside.ReachedClasses.{IsClassReachedByRequests}
+use Rattle.positions.specs.Table.{AnswerRow, RequestRow}
+
+-- the labeller's rows of a document of a start with the value
+abbrev pub class_labeller_side : PlainBoard → Value → Side LabellerClassRow
+class_labeller_side board start = record {
+  Row = AnswerRow;
+  shown = class_answer_row board;
+  IsRow = IsLabellerClassRow board start;
+  at = λ row. row.at;
+  IsReached = IsClassReachedByAnswers board;
+  IsFilled = λ row. IsClassPadded board row.at × IsClassPadded board row.take;
+}
+
+-- the adversary's rows of a document of a start with a finite value
+abbrev pub class_adversary_side : PlainBoard → Value → Side AdversaryClassRow
+class_adversary_side board start = record {
+  Row = RequestRow;
+  shown = class_request_row board;
+  IsRow = IsAdversaryClassRow board;
+  at = λ row. row.at;
+  IsReached = IsClassReachedByRequests board;
+  IsFilled = λ row. IsClassPadded board row.at;
+}
+
+-- rows stand at classes that were reached, one at each
+pub record AreOfReachedClasses {R : Type 0} (board : PlainBoard) (side : Side R) : Type 0 where
+  pub is : (row : side.Row) → side.IsRow row → IsConfiguration board (side.at row)
+  pub arranged_is : (row : side.Row) → side.IsRow row
+      → arranged board.labels (side.at row) ≡ side.at row
+  pub reached : (row : side.Row) (number : ℕ) → side.IsRow row
+      → side.at row ≡ class_numbered board number → side.IsReached number
+  pub one : (first second : side.Row) → side.IsRow first → side.IsRow second
+      → side.at first ≡ side.at second → first ≡ second
+
+-- exactly the numbers of classes that a row may stand at, and rows stand at no others
+pub record AreClassesReached {R : Type 0} (board : PlainBoard) (side : Side R) (numbers : List ℕ)
+    : Type 0 where
+  pub each : AreClassNumbersOf board side.IsReached numbers
+  pub rows : AreOfReachedClasses board side
+
+-- the row at the class of a number, or none if the side has none there
+abbrev pub IsClassRowAt : {R : Type 0} → PlainBoard → Side R → ℕ → Option R → Type 0
+IsClassRowAt board side number (Some row) =
+    side.IsRow (side.shown row) × (side.at (side.shown row) ≡ class_numbered board number)
+    × side.IsFilled row
+IsClassRowAt board side number None =
+    (row : side.Row) → side.IsRow row → side.at row ≡ class_numbered board number → ⊥
+
+-- a row of the side may stand at the class of the number
+abbrev pub MayStandAtClass : {R : Type 0} → PlainBoard → Side R → ℕ → Type 0
+MayStandAtClass board side number = IsClassNumber board number × side.IsReached number
+
+-- the rows at the classes of these numbers, in their order
+abbrev pub AreRowsAtClasses : {R : Type 0} → PlainBoard → Side R → List ℕ → List R → Type 0
+AreRowsAtClasses board side [] rows = rows ≡ []
+AreRowsAtClasses {R} board side (number ∷ numbers) rows = (row : Option R) × (others : List R)
+    × IsClassRowAt board side number row × AreRowsAtClasses board side numbers others
+    × (rows ≡ cons_option row others)
+
+-- exactly the rows of the side, in the order of their classes
+pub record AreClassSection {R : Type 0} (board : PlainBoard) (side : Side R) (rows : List R)
+    : Type 0 where
+  pub exactly : AreExactlyClasses board side.IsRow side.at (map side.shown rows)
+  pub filled : All side.IsFilled rows
+
+-- the adversary's rows of the document of a start with the value, which has none if that is forever
+abbrev pub AreClassAdversaryRows : PlainBoard → Value → List AdversaryClassRow → Type 0
+AreClassAdversaryRows board (Finite number) rows =
+    AreClassSection board (class_adversary_side board (Finite number)) rows
+AreClassAdversaryRows board Forever rows = rows ≡ []

@@ -1,0 +1,101 @@
+//! The rows of a section, in the order of their classes, made one after the other or in parts.
+
+ghost use Rattle.std.specs.Prelude.{◌≤◌, All, IfOk, flat_map};
+ghost use Rattle.strategies.specs.Inside.ClassSide.{AreRowsAtClasses, AreClassSection};
+ghost use Rattle.strategies.specs.Inside.ClassSide.{MayStandAtClass};
+
+use crate::class_sections::ClassSectionRow;
+use crate::moves::Moves;
+use board_text::Memory;
+use positions::Value;
+use rayon::prelude::*;
+use std::alloc::Global;
+use std::thread::Threads;
+
+/// One side's rows of the document of a board whose start has the value `start`.
+pub(crate) fn section<R: ClassSectionRow, M: Moves>(
+    alloc: Global,
+    moves: &M,
+    start: Value,
+) -> Result<Vec<R>, Memory>
+    ensures { IfOk result (λ rows.
+        AreClassSection (M.board moves.now) (R.side (M.board moves.now) start) rows.items) }
+{
+    let numbers = R::reached(alloc, moves)?.in_order(alloc)?;
+    rows_at(alloc, moves, start, &numbers)
+}
+
+/// The same rows, made in at most `parts` parts. Threads make them where each has a thousand rows
+/// or more to make, and one can be started.
+pub(crate) fn section_in_parts<R: ClassSectionRow + Send + Sync, M: Moves + Sync>(
+    rt: &(impl Threads + Sync),
+    alloc: Global,
+    moves: &M,
+    start: Value,
+    parts: u32,
+) -> Result<Vec<R>, Memory>
+    requires parts { 1 ≤ parts }
+    ensures { IfOk result (λ rows.
+        AreClassSection (M.board moves.now) (R.side (M.board moves.now) start) rows.items) }
+{
+    let numbers = R::reached(alloc, moves)?.in_order(alloc)?;
+    let mut rows = Vec::with_capacity(alloc, numbers.len())?;
+    for part in &rows_in_parts::<R, M>(rt, alloc, moves, start, &numbers, parts)? {
+        rows.extend_from_slice(part)?;
+    }
+    Ok(rows)
+}
+
+/// The rows at the classes of `numbers`, in at most `parts` parts, in their order.
+fn rows_in_parts<R: ClassSectionRow + Send + Sync, M: Moves + Sync>(
+    rt: &(impl Threads + Sync),
+    alloc: Global,
+    moves: &M,
+    start: Value,
+    numbers: &[u64],
+    parts: u32,
+) -> Result<Vec<Vec<R>>, Memory>
+    requires numbers { All
+        (MayStandAtClass (M.board moves.now) (R.side (M.board moves.now) start)) numbers.now }
+    requires parts { 1 ≤ parts }
+    ensures { IfOk result (λ parts.
+        AreRowsAtClasses (M.board moves.now) (R.side (M.board moves.now) start) numbers.now
+        (flat_map (λ part. part.items) parts.items)) }
+{
+    let size = numbers.len().div_ceil(parts as usize).max(1);
+    let rows: Result<Vec<Vec<R>>, Memory> = numbers
+        .par_chunks(size)
+        .map(
+            |part: &[u64]| -> Result<Vec<R>, Memory>
+                requires { All
+                    (MayStandAtClass (M.board moves.now) (R.side
+                    (M.board moves.now) start)) part.now }
+                ensures { IfOk result (λ rows. AreRowsAtClasses (M.board moves.entry.now)
+                    (R.side (M.board moves.entry.now) start) part.now rows.items) }
+            { rows_at(alloc, moves, start, part) },
+        )
+        .collect(rt, alloc)?;
+    rows
+}
+
+/// The rows at the classes of `numbers`, in their order.
+fn rows_at<R: ClassSectionRow, M: Moves>(
+    alloc: Global,
+    moves: &M,
+    start: Value,
+    numbers: &[u64],
+) -> Result<Vec<R>, Memory>
+    requires { All (MayStandAtClass (M.board moves.now) (R.side
+        (M.board moves.now) start)) numbers.now }
+    ensures { IfOk result (λ rows.
+        AreRowsAtClasses (M.board moves.now) (R.side
+        (M.board moves.now) start) numbers.now rows.items) }
+{
+    let mut rows = Vec::with_capacity(alloc, numbers.len())?;
+    for number in numbers {
+        if let Some(row) = R::at(moves, start, *number) {
+            rows.push(row)?;
+        }
+    }
+    Ok(rows)
+}

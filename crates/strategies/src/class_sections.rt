@@ -1,0 +1,111 @@
+//! The sections of a document by classes: a row for each class that was reached.
+
+ghost use Rattle.std.specs.Prelude.{◌≡◌, IfOk};
+ghost use Rattle.board_text.specs.PlainBoard.{PlainBoard};
+ghost use Rattle.positions.specs.declared.value.Value.{Value as ValueData};
+ghost use Rattle.strategies.specs.Document.{turns_of};
+ghost use Rattle.strategies.specs.Inside.Side.{Side};
+ghost use Rattle.strategies.specs.Inside.ClassSide.{AreClassesReached, IsClassRowAt};
+ghost use Rattle.strategies.specs.Inside.ClassSide.{MayStandAtClass};
+ghost use Rattle.strategies.specs.Inside.ClassSide.{class_adversary_side};
+ghost use Rattle.strategies.specs.Inside.ClassSide.{class_labeller_side};
+
+use crate::class_steps::{add_answers, add_results};
+use crate::moves::Moves;
+use crate::reached_classes::ReachedClasses;
+use board_text::{MAX_PEBBLES, Memory};
+use positions::{Turns, Value};
+use proof_text::{AdversaryClassRow, LabellerClassRow, class_order, places_at};
+use std::alloc::Global;
+
+/// A row of one side's section.
+pub(crate) trait ClassSectionRow: Copy {
+    ghost side: { PlainBoard → ValueData → Side Self };
+
+    /// The classes that a row may stand at.
+    fn reached<M: Moves>(alloc: Global, moves: &M) -> Result<ReachedClasses, Memory>
+        ensures { IfOk result (λ reached. (start : ValueData)
+            → AreClassesReached (M.board moves.now) (side (M.board moves.now) start) reached) };
+
+    /// The row of the reached class of `number`, if it has one. The start has the value `start`.
+    fn at<M: Moves>(moves: &M, start: Value, number: u64) -> Option<Self>
+        requires { MayStandAtClass (M.board moves.now) (side (M.board moves.now) start) number }
+        ensures { IsClassRowAt (M.board moves.now) (side (M.board moves.now) start) number result };
+}
+
+impl ClassSectionRow for LabellerClassRow {
+    ghost side = { class_labeller_side };
+
+    /// The classes of value 1 or more that best answers reach from the start's class, through such
+    /// classes only.
+    fn reached<M: Moves>(alloc: Global, moves: &M) -> Result<ReachedClasses, Memory> {
+        let mut reached = ReachedClasses::new(alloc);
+        let board = moves.board();
+        if Value::Finite(0) < moves.value(board.start()) {
+            reached.add(class_order(board, board.start()))?;
+        }
+        let mut index = 0;
+        while let Some(number) = reached.at(index) {
+            add_answers(moves, number, &mut reached)?;
+            index += 1;
+        }
+        Ok(reached)
+    }
+
+    fn at<M: Moves>(moves: &M, start: Value, number: u64) -> Option<LabellerClassRow> {
+        let board = moves.board();
+        let at = places_at(board, number);
+        let held = &at[..board.pebbles() as usize];
+        let (value, answers) = moves.answers(held);
+        let mut take = [0; MAX_PEBBLES];
+        for pebble in 0..board.pebbles() {
+            if let Some(best) = answers[pebble as usize] {
+                take[pebble as usize] = best.label;
+            }
+        }
+        let turns = turns(start, value);
+        Some(LabellerClassRow { at, turns, take })
+    }
+}
+
+impl ClassSectionRow for AdversaryClassRow {
+    ghost side = { class_adversary_side };
+
+    /// The classes that legal answers to best requests lead to from the start's class.
+    fn reached<M: Moves>(alloc: Global, moves: &M) -> Result<ReachedClasses, Memory> {
+        let mut reached = ReachedClasses::new(alloc);
+        let mut expanded = ReachedClasses::new(alloc);
+        let board = moves.board();
+        reached.add(class_order(board, board.start()))?;
+        let mut index = 0;
+        while let Some(number) = reached.at(index) {
+            add_results(moves, number, &mut reached, &mut expanded)?;
+            index += 1;
+        }
+        Ok(reached)
+    }
+
+    fn at<M: Moves>(moves: &M, _start: Value, number: u64) -> Option<AdversaryClassRow> {
+        let board = moves.board();
+        let at = places_at(board, number);
+        let held = &at[..board.pebbles() as usize];
+        let (value, request) = moves.request(held);
+        let Value::Finite(left) = value else {
+            return None;
+        };
+        let pebble = request?;
+        let ask = held[pebble as usize];
+        Some(AdversaryClassRow { at, left, ask })
+    }
+}
+
+/// The turns for which a class with `value` is listed, if the start has the value `start`.
+fn turns(start: Value, value: Value) -> Turns
+    ensures { result ≡ turns_of start value }
+{
+    match (start, value) {
+        (Value::Forever, _) => Turns::Always,
+        (Value::Finite(number), Value::Finite(value)) => Turns::Count(value.min(number)),
+        (Value::Finite(number), Value::Forever) => Turns::Count(number),
+    }
+}

@@ -1,0 +1,133 @@
+//! The classes that best answers, and best requests, lead to from one class.
+
+ghost use Rattle.std.specs.Prelude.{◌≡◌, ◌<◌, IfOk};
+ghost use Rattle.board_text.specs.PlainBoard.{IsConfiguration};
+ghost use Rattle.positions.specs.Game.{moved};
+ghost use Rattle.strategies.specs.Best.{IsBestFor};
+ghost use Rattle.strategies.specs.Inside.ReachedRanks.{IsWithAll};
+ghost use Rattle.strategies.specs.Inside.ReachedClasses.{class_numbered, number_of_class_at};
+ghost use Rattle.strategies.specs.Inside.ReachedClasses.{IsClassNumber};
+ghost use Rattle.strategies.specs.Inside.ReachedClasses.{IsOnlyOne};
+ghost use Rattle.strategies.specs.Inside.ReachedClasses.{IsClassAnswerStep, ClassAnswerLeads};
+ghost use Rattle.strategies.specs.Inside.ReachedClasses.{ClassRequestLeads, LegalLeads};
+ghost use Rattle.strategies.specs.Inside.ReachedClasses.{AreExpandedClasses};
+
+use crate::configuration::Configuration;
+use crate::gap_best::Best;
+use crate::moves::Moves;
+use crate::reached_classes::ReachedClasses;
+use board_text::{Board, Memory};
+use positions::{Value, legal_labels};
+use proof_text::{class_order, places_at};
+
+/// The class of `number`: its places, arranged.
+fn class_at(board: &Board, number: u64) -> Configuration
+    requires { IsClassNumber board.now number }
+    ensures { result ≡ class_numbered board.now number }
+{
+    Configuration::of(&places_at(board, number)[..board.pebbles() as usize])
+}
+
+/// The number of the class after `answer`, the best one to a request of `pebble` at `held`, if that
+/// class has a value of 1 or more.
+fn answer_result(
+    board: &Board,
+    held: &Configuration,
+    pebble: u8,
+    answer: Option<Best>,
+) -> Option<u64>
+    requires held { IsConfiguration board.now held.now }
+    requires pebble { pebble < board.now.pebbles }
+    requires answer { IsBestFor board.now held.now pebble answer }
+    ensures { IsOnlyOne (IsClassAnswerStep board.now held.now pebble) result }
+{
+    let best = answer?;
+    if Value::Finite(0) < best.value {
+        return Some(class_order(board, held.with(pebble, best.label).as_slice()));
+    }
+    None
+}
+
+/// Adds the class after the best answer to each request at the class of `number`, if it has a value
+/// of 1 or more.
+pub(crate) fn add_answers<M: Moves>(
+    moves: &M,
+    number: u64,
+    reached: &mut ReachedClasses,
+) -> Result<(), Memory>
+    requires { IsClassNumber (M.board moves.now) number }
+    ensures { IfOk result (λ _. IsWithAll reached.old (ClassAnswerLeads
+        (M.board moves.now) number) reached.new) }
+{
+    let board = moves.board();
+    let held = class_at(board, number);
+    let (_, answers) = moves.answers(held.as_slice());
+    for pebble in 0..board.pebbles() {
+        if let Some(to) = answer_result(board, &held, pebble, answers[pebble as usize]) {
+            reached.add(to)?;
+        }
+    }
+    Ok(())
+}
+
+/// Adds the class after each legal answer to the best request at the class of `number`. Those of a
+/// request whose gap is in `expanded` are there.
+pub(crate) fn add_results<M: Moves>(
+    moves: &M,
+    number: u64,
+    reached: &mut ReachedClasses,
+    expanded: &mut ReachedClasses,
+) -> Result<(), Memory>
+    requires number { IsClassNumber (M.board moves.now) number }
+    requires expanded { AreExpandedClasses (M.board moves.now) expanded.old reached.old }
+    ensures added { IfOk result (λ _. IsWithAll reached.old (ClassRequestLeads
+        (M.board moves.now) number) reached.new) }
+    ensures expanded { IfOk result (λ _.
+        AreExpandedClasses (M.board moves.now) expanded.new reached.new) }
+{
+    let board = moves.board();
+    let held = class_at(board, number);
+    let (_, request) = moves.request(held.as_slice());
+    let Some(pebble) = request else {
+        return Ok(());
+    };
+    let gap = gap_number(board, &held, pebble);
+    if expanded.contains(gap) {
+        return Ok(());
+    }
+    add_legal(board, &held, pebble, reached)?;
+    expanded.add(gap)?;
+    Ok(())
+}
+
+/// The number that stands for the gap of `pebble` at `held`: that of the class after `pebble` is
+/// put on the label 0.
+fn gap_number(board: &Board, held: &Configuration, pebble: u8) -> u64
+    requires held { IsConfiguration board.now held.now }
+    requires pebble { pebble < board.now.pebbles }
+    ensures { result ≡ number_of_class_at board.now (moved held.now pebble 0) }
+{
+    let _ = board.labels();
+    class_order(board, held.with(pebble, 0).as_slice())
+}
+
+/// Adds the class after each legal answer to a request of `pebble` at `held`.
+fn add_legal(
+    board: &Board,
+    held: &Configuration,
+    pebble: u8,
+    reached: &mut ReachedClasses,
+) -> Result<(), Memory>
+    requires held { IsConfiguration board.now held.now }
+    requires pebble { pebble < board.now.pebbles }
+    ensures { IfOk result (λ _. IsWithAll reached.old (LegalLeads board.now held.now pebble)
+        reached.new) }
+{
+    let _ = board.labels();
+    let legal = legal_labels(board, held.as_slice(), pebble);
+    let mut labels = legal.walk();
+    while let Some(label) = labels.take_next() {
+        reached.add(class_order(board, held.with(pebble, label).as_slice()))?;
+    }
+    Ok(())
+}
