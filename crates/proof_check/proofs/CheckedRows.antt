@@ -20,7 +20,9 @@ use Rattle.proof_check.specs.ClassFaults.{IsWrongClassBound}
 use Rattle.proof_check.specs.FirstFaults.{HasRow, bound_of}
 use Rattle.proof_check.specs.Inside.ClassChecker.{IsClassAnswering, IsClassRequesting}
 use Rattle.proof_check.specs.Inside.FoundRow.{IsRowFor, IsUnservedBelow}
-use Rattle.proof_check.specs.Inside.RowSearch.{places_of, AreClassesInOrder, HasNoClass, IsTheRow}
+use Rattle.proof_check.specs.ClassNumbers.{AreNumbersOfRows, places_of}
+use Rattle.proof_check.specs.Inside.RowSearch.{AreClassesInOrder, HasNoClass, IsTheRow}
+use Rattle.proof_check.specs.declared.row_numbers.ClassNumbers.{ClassNumbers}
 use Rattle.proof_check.specs.declared.class_fault.ClassFault.{ClassFault}
 use Rattle.proof_check.specs.declared.class_fault.ClassFault.TheVariants as faults
 use Rattle.proof_check.proofs.FoundRows.{Contains-map, Contains-map_cases}
@@ -65,14 +67,16 @@ module _ (board : PlainBoard) (proof : ClassProof) (is : IsClassDocument board p
       proof.adversary.items (λ r. refl) (λ x row. row.at) is.is_proof.adversary.each
       is.is_proof.adversary.ascending
 
-  pub answering : All (IsClassAnswering board proof) proof.labeller.items
-  answering = λ k d low.
+  pub answering : (numbers : ClassNumbers) → AreNumbersOfRows board proof numbers
+      → All (IsClassAnswering board proof numbers) proof.labeller.items
+  answering numbers numbers_are = λ k d low.
       let row = get_or proof.labeller.items k d in
       let shown : IsAnswerRow board proof.claim (class_answer_row board row) =
       of_shown (class_answer_row board) (IsAnswerRow board proof.claim) proof.labeller.items
       is.is_proof.labeller.each k d low in
       record {
         document = is;
+        numbers_are = numbers_are;
         at = shown.at;
         gives = λ pebble below.
             let label : get_or (take board.pebbles row.take) pebble 0 < board.labels =
@@ -80,12 +84,13 @@ module _ (board : PlainBoard) (proof : ClassProof) (is : IsClassDocument board p
             subst (λ n. n < board.labels) (get_or-take board.pebbles row.take pebble 0 below) label;
       }
 
-  pub requesting : All (IsClassRequesting board proof) proof.adversary.items
-  requesting = λ k d low.
+  pub requesting : (numbers : ClassNumbers) → AreNumbersOfRows board proof numbers
+      → All (IsClassRequesting board proof numbers) proof.adversary.items
+  requesting numbers numbers_are = λ k d low.
       let shown : IsClassRequestRow board (class_request_row board (get_or proof.adversary.items k d)) =
       of_shown (class_request_row board) (IsClassRequestRow board) proof.adversary.items
       is.is_proof.adversary.each k d low in
-      record { document = is; at = shown.at; asked = shown.request }
+      record { document = is; numbers_are = numbers_are; at = shown.at; asked = shown.request }
 
 -- ---- the row that is found, as it is shown
 

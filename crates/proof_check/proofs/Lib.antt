@@ -11,8 +11,6 @@ pub mod Steps
 pub mod DocumentSteps
 pub mod DocumentFaults
 pub mod FirstRow
-pub mod ComparedPlaces
-pub mod InsertedPlaces
 pub mod RowSearch
 pub mod CheckedRows
 pub mod NamedClasses

@@ -8,6 +8,7 @@ ghost use Rattle.proof_text.specs.Arranged.{arranged, order_number};
 ghost use Rattle.proof_text.specs.Documents.{IsClassDocument};
 ghost use Rattle.proof_text.specs.ClassProof.{plain_class_proof};
 ghost use Rattle.proof_text.specs.ClassProof.{class_request_row, class_request_rows};
+ghost use Rattle.proof_check.specs.ClassNumbers.{AreNumbersOfRows};
 ghost use Rattle.proof_check.specs.ClassRules as rules;
 ghost use Rattle.proof_check.specs.ClassRules.{MeetsClassAnswer, MeetsClassAnswers};
 ghost use Rattle.proof_check.specs.ClassFaults.{IsWrongClassRequest, IsWrongClassAfter};
@@ -18,13 +19,14 @@ ghost use Rattle.proof_check.specs.Inside.FoundRow.{IsUnservedBelow};
 use crate::checked_row::CheckedRow;
 use crate::class_checking::ClassChecker;
 use crate::class_fault::ClassFault;
-use crate::row_search::{find, row_number, row_places};
+use crate::row_numbers::{find, row_number, row_places};
 use board_text::Board;
 use positions::{Claim, Side, legal_labels};
-use proof_text::{AdversaryClassRow, ClassProof};
+use proof_text::AdversaryClassRow;
 
 impl<'a> CheckedRow<ClassChecker<'a>, ClassFault> for AdversaryClassRow {
-    ghost is_ready = { λ c row. IsClassRequesting c.board.now c.proof.now row };
+    ghost is_ready = { λ c row. IsClassRequesting c.board.now c.proof.now
+        c.numbers.now row };
 
     ghost meets = { λ c row. MeetsClassAnswers c.board.now
         (class_request_rows c.board.now c.proof.now.adversary.items)
@@ -42,7 +44,7 @@ impl<'a> CheckedRow<ClassChecker<'a>, ClassFault> for AdversaryClassRow {
         let legal = legal_labels(board, row_places(board, self), pebble);
         let mut answers = legal.walk();
         while let Some(label) = answers.take_next() {
-            if let Some(fault) = label_fault(board, checker.proof, self, at, pebble, label) {
+            if let Some(fault) = label_fault(checker, self, at, pebble, label) {
                 return Some(fault);
             }
         }
@@ -64,26 +66,31 @@ fn asked_pebble(board: &Board, row: &AdversaryClassRow) -> u8
     0
 }
 
-/// The fault of `row`, whose number is `at`, at the legal answer `label` to its request of `pebble`,
-/// if it has one.
+/// The fault of `row`, whose number is `at`, at the legal answer `label` to its request of
+/// `pebble`, if it has one.
 fn label_fault(
-    board: &Board,
-    proof: &ClassProof,
+    checker: &ClassChecker<'_>,
     row: &AdversaryClassRow,
     at: u64,
     pebble: u8,
     label: u16,
 ) -> Option<ClassFault>
-    requires row { IsClassRequesting board.now proof.now row.now }
-    requires at { at ≡ order_number board.now.labels (class_request_row board.now row.now).at }
-    requires pebble { pebble ≡ rules.asked_pebble (class_request_row board.now row.now) }
-    requires is_pebble { pebble < board.now.pebbles }
-    requires legal { Legal board.now (class_request_row board.now row.now).at pebble label }
+    requires row { IsClassRequesting checker.now.board.now checker.now.proof.now
+        checker.now.numbers.now row.now }
+    requires at { at ≡ order_number checker.now.board.now.labels (class_request_row
+        checker.now.board.now row.now).at }
+    requires pebble { pebble ≡ rules.asked_pebble (class_request_row checker.now.board.now
+        row.now) }
+    requires is_pebble { pebble < checker.now.board.now.pebbles }
+    requires legal { Legal checker.now.board.now (class_request_row checker.now.board.now
+        row.now).at pebble label }
     ensures { MatchOption result
-        (MeetsClassAnswer board.now (class_request_rows board.now proof.now.adversary.items)
-        (class_request_row board.now row.now) label)
-        (IsWrongClassAfter board.now (class_request_rows board.now proof.now.adversary.items)
-        (class_request_row board.now row.now) label) }
+        (MeetsClassAnswer checker.now.board.now (class_request_rows checker.now.board.now
+        checker.now.proof.now.adversary.items)
+        (class_request_row checker.now.board.now row.now) label)
+        (IsWrongClassAfter checker.now.board.now (class_request_rows checker.now.board.now
+        checker.now.proof.now.adversary.items)
+        (class_request_row checker.now.board.now row.now) label) }
 {
     if row.left == 0 {
         return Some(ClassFault::NotStuck { at, label });
@@ -94,56 +101,62 @@ fn label_fault(
         turn: label,
     };
     let large = ClassFault::TooLarge { at, label };
-    let pebbles = board.pebbles() as usize;
+    let pebbles = checker.board.pebbles() as usize;
     let mut result = row.at;
     result[pebble as usize] = label;
-    number_fault(
-        board,
-        proof,
-        &result[..pebbles],
-        row.left - 1,
-        missing,
-        large,
-    )
+    number_fault(checker, &result[..pebbles], row.left - 1, missing, large)
 }
 
 /// The fault of the number of the start's class in the adversary's rows, if it has one. Only a
 /// claim that bounds the value from above can have it.
-pub(crate) fn bound_fault(board: &Board, proof: &ClassProof) -> Option<ClassFault>
-    requires { IsClassDocument board.now proof.now }
+pub(crate) fn bound_fault(checker: &ClassChecker<'_>) -> Option<ClassFault>
+    requires document { IsClassDocument checker.now.board.now checker.now.proof.now }
+    requires numbers { AreNumbersOfRows checker.now.board.now checker.now.proof.now
+        checker.now.numbers.now }
     ensures { MatchOption result
-        (StartIsBelow (class_request_rows board.now proof.now.adversary.items)
-        (arranged board.now.labels board.now.start) proof.now.claim)
-        (IsWrongClassBound board.now (plain_class_proof board.now proof.now)) }
+        (StartIsBelow (class_request_rows checker.now.board.now
+        checker.now.proof.now.adversary.items)
+        (arranged checker.now.board.now.labels checker.now.board.now.start)
+        checker.now.proof.now.claim)
+        (IsWrongClassBound checker.now.board.now (plain_class_proof checker.now.board.now
+        checker.now.proof.now)) }
 {
-    let (Claim::Exactly(most) | Claim::AtMost(most)) = proof.claim else {
+    let (Claim::Exactly(most) | Claim::AtMost(most)) = checker.proof.claim else {
         return None;
     };
     let side = Side::Adversary;
     let missing = ClassFault::StartMissing { side };
     let large = ClassFault::StartNumber { side };
-    number_fault(board, proof, board.start(), most, missing, large)
+    number_fault(checker, checker.board.start(), most, missing, large)
 }
 
 /// The fault if the adversary's rows have no number up to `most` for the class of `places`:
 /// `missing` if no row is for it, `large` if its row has a larger number.
 fn number_fault(
-    board: &Board,
-    proof: &ClassProof,
+    checker: &ClassChecker<'_>,
     places: &[u16],
     most: u32,
     missing: ClassFault,
     large: ClassFault,
 ) -> Option<ClassFault>
-    requires document { IsClassDocument board.now proof.now }
-    requires places { IsConfiguration board.now places.now }
+    requires document { IsClassDocument checker.now.board.now checker.now.proof.now }
+    requires numbers { AreNumbersOfRows checker.now.board.now checker.now.proof.now
+        checker.now.numbers.now }
+    requires places { IsConfiguration checker.now.board.now places.now }
     ensures { MatchOption result
-        (IsListedBelow (class_request_rows board.now proof.now.adversary.items)
-        (arranged board.now.labels places.now) (suc most))
-        (IsUnservedBelow (class_request_rows board.now proof.now.adversary.items)
-        (arranged board.now.labels places.now) (suc most) missing large) }
+        (IsListedBelow (class_request_rows checker.now.board.now
+        checker.now.proof.now.adversary.items)
+        (arranged checker.now.board.now.labels places.now) (suc most))
+        (IsUnservedBelow (class_request_rows checker.now.board.now
+        checker.now.proof.now.adversary.items)
+        (arranged checker.now.board.now.labels places.now) (suc most) missing large) }
 {
-    let Some(row) = find(board, &proof.adversary, places) else {
+    let Some(row) = find(
+        checker.board,
+        &checker.proof.adversary,
+        &checker.numbers.adversary,
+        places,
+    ) else {
         return Some(missing);
     };
     (row.left > most).then_some(large)

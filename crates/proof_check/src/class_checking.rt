@@ -6,6 +6,7 @@ ghost use Rattle.positions.specs.Claim.{Holds, HoldsAt};
 ghost use Rattle.classes.specs.Classes.{class_of};
 ghost use Rattle.proof_text.specs.Documents.{IsClassDocument};
 ghost use Rattle.proof_text.specs.ClassProof.{plain_class_proof};
+ghost use Rattle.proof_check.specs.ClassNumbers.{AreNumbersOfRows};
 ghost use Rattle.proof_check.specs.ClassRules.{BreaksNoClassRule};
 ghost use Rattle.proof_check.specs.ClassFaults.{IsFirstClassFault, NamesClass};
 
@@ -13,25 +14,29 @@ use crate::checked_row::first_fault;
 use crate::class_adversary::bound_fault;
 use crate::class_fault::ClassFault;
 use crate::class_labeller::start_fault;
+use crate::row_numbers::ClassNumbers;
 use board_text::Board;
 use proof_text::ClassProof;
 use std::thread::Threads;
 
-/// A board, and a document by classes for it.
+/// A board, and a document by classes for it, with the numbers of its rows.
 #[derive(Clone, Copy)]
 pub(crate) struct ClassChecker<'a> {
     pub(crate) board: &'a Board,
     pub(crate) proof: &'a ClassProof,
+    pub(crate) numbers: &'a ClassNumbers,
 }
 
-/// Whether the rows of `proof` break no rule, or the first fault in the order of checking. It takes
-/// no memory, and the board may have any number of classes.
+/// Whether the rows of `proof`, which have these `numbers`, break no rule, or the first fault in
+/// the order of checking. It takes no memory, and the board may have any number of classes.
 pub fn check_classes(
     rt: &(impl Threads + Sync),
     board: &Board,
     proof: &ClassProof,
+    numbers: &ClassNumbers,
 ) -> Result<(), ClassFault>
-    requires { IsClassDocument board.now proof.now }
+    requires document { IsClassDocument board.now proof.now }
+    requires numbers { AreNumbersOfRows board.now proof.now numbers.now }
     // The claim of an accepted document holds of the start.
     ensures holds { OnOk result (Holds board.now proof.now.claim) }
     // It holds of each configuration of the start's class.
@@ -50,7 +55,7 @@ pub fn check_classes(
     // A row that it names has the number of places of the board.
     ensures named { IfErr result (NamesClass board.now) }
 {
-    match document_fault(rt, board, proof) {
+    match document_fault(rt, board, proof, numbers) {
         Some(fault) => Err(fault),
         None => Ok(()),
     }
@@ -61,8 +66,10 @@ fn document_fault(
     rt: &(impl Threads + Sync),
     board: &Board,
     proof: &ClassProof,
+    numbers: &ClassNumbers,
 ) -> Option<ClassFault>
-    requires { IsClassDocument board.now proof.now }
+    requires document { IsClassDocument board.now proof.now }
+    requires numbers { AreNumbersOfRows board.now proof.now numbers.now }
     ensures fault { MatchOption result
         (BreaksNoClassRule board.now (plain_class_proof board.now proof.now))
         (IsFirstClassFault board.now (plain_class_proof board.now proof.now)) }
@@ -70,13 +77,17 @@ fn document_fault(
 {
     // That this is a configuration is the clause `start`.
     let _ = board.start();
-    if let Some(fault) = start_fault(board, proof) {
+    let checker = ClassChecker {
+        board,
+        proof,
+        numbers,
+    };
+    if let Some(fault) = start_fault(&checker) {
         return Some(fault);
     }
-    if let Some(fault) = bound_fault(board, proof) {
+    if let Some(fault) = bound_fault(&checker) {
         return Some(fault);
     }
-    let checker = ClassChecker { board, proof };
     if let Some(fault) = first_fault(rt, &checker, &proof.labeller) {
         return Some(fault);
     }

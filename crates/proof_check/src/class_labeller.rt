@@ -8,6 +8,7 @@ ghost use Rattle.proof_text.specs.Arranged.{arranged, order_number};
 ghost use Rattle.proof_text.specs.Documents.{IsClassDocument};
 ghost use Rattle.proof_text.specs.ClassProof.{plain_class_proof};
 ghost use Rattle.proof_text.specs.ClassProof.{class_answer_row, class_answer_rows};
+ghost use Rattle.proof_check.specs.ClassNumbers.{AreNumbersOfRows};
 ghost use Rattle.proof_check.specs.ClassRules.{MeetsClassRequest, MeetsClassRequests};
 ghost use Rattle.proof_check.specs.ClassFaults.{IsWrongClassAnswer, IsWrongClassAt};
 ghost use Rattle.proof_check.specs.ClassFaults.{IsWrongClassStart};
@@ -17,14 +18,14 @@ ghost use Rattle.proof_check.specs.Inside.FoundRow.{IsUnservedFor};
 use crate::checked_row::CheckedRow;
 use crate::class_checking::ClassChecker;
 use crate::class_fault::ClassFault;
-use crate::row_search::{find, row_number};
+use crate::row_numbers::{find, row_number};
 use crate::turns::{after_one, wanted_of};
-use board_text::Board;
 use positions::{Side, Turns, is_legal};
-use proof_text::{ClassProof, LabellerClassRow};
+use proof_text::LabellerClassRow;
 
 impl<'a> CheckedRow<ClassChecker<'a>, ClassFault> for LabellerClassRow {
-    ghost is_ready = { λ c row. IsClassAnswering c.board.now c.proof.now row };
+    ghost is_ready = { λ c row. IsClassAnswering c.board.now c.proof.now
+        c.numbers.now row };
 
     ghost meets = { λ c row. MeetsClassRequests c.board.now
         (class_answer_rows c.board.now c.proof.now.labeller.items)
@@ -39,7 +40,7 @@ impl<'a> CheckedRow<ClassChecker<'a>, ClassFault> for LabellerClassRow {
         let board = checker.board;
         let at = row_number(board, self);
         for pebble in 0..board.pebbles() {
-            if let Some(fault) = answer_fault(board, checker.proof, self, at, pebble) {
+            if let Some(fault) = answer_fault(checker, self, at, pebble) {
                 return Some(fault);
             }
         }
@@ -49,21 +50,25 @@ impl<'a> CheckedRow<ClassChecker<'a>, ClassFault> for LabellerClassRow {
 
 /// The fault of the answer of `row`, whose number is `at`, to a request of `pebble`, if it has one.
 fn answer_fault(
-    board: &Board,
-    proof: &ClassProof,
+    checker: &ClassChecker<'_>,
     row: &LabellerClassRow,
     at: u64,
     pebble: u8,
 ) -> Option<ClassFault>
-    requires row { IsClassAnswering board.now proof.now row.now }
-    requires at { at ≡ order_number board.now.labels (class_answer_row board.now row.now).at }
-    requires pebble { pebble < board.now.pebbles }
+    requires row { IsClassAnswering checker.now.board.now checker.now.proof.now
+        checker.now.numbers.now row.now }
+    requires at { at ≡ order_number checker.now.board.now.labels (class_answer_row
+        checker.now.board.now row.now).at }
+    requires pebble { pebble < checker.now.board.now.pebbles }
     ensures { MatchOption result
-        (MeetsClassRequest board.now (class_answer_rows board.now proof.now.labeller.items)
-        (class_answer_row board.now row.now) pebble)
-        (IsWrongClassAt board.now (class_answer_rows board.now proof.now.labeller.items)
-        (class_answer_row board.now row.now) pebble) }
+        (MeetsClassRequest checker.now.board.now (class_answer_rows checker.now.board.now
+        checker.now.proof.now.labeller.items)
+        (class_answer_row checker.now.board.now row.now) pebble)
+        (IsWrongClassAt checker.now.board.now (class_answer_rows checker.now.board.now
+        checker.now.proof.now.labeller.items)
+        (class_answer_row checker.now.board.now row.now) pebble) }
 {
+    let board = checker.board;
     let pebbles = board.pebbles() as usize;
     let label = row.take[pebble as usize];
     if !is_legal(board, &row.at[..pebbles], pebble, label) {
@@ -78,8 +83,7 @@ fn answer_fault(
     let mut result = row.at;
     result[pebble as usize] = label;
     turns_fault(
-        board,
-        proof,
+        checker,
         &result[..pebbles],
         after_one(row.turns),
         missing,
@@ -88,21 +92,24 @@ fn answer_fault(
 }
 
 /// The fault of the number of the start's class in the labeller's rows, if it has one.
-pub(crate) fn start_fault(board: &Board, proof: &ClassProof) -> Option<ClassFault>
-    requires { IsClassDocument board.now proof.now }
+pub(crate) fn start_fault(checker: &ClassChecker<'_>) -> Option<ClassFault>
+    requires document { IsClassDocument checker.now.board.now checker.now.proof.now }
+    requires numbers { AreNumbersOfRows checker.now.board.now checker.now.proof.now
+        checker.now.numbers.now }
     ensures { MatchOption result
-        (Serves (class_answer_rows board.now proof.now.labeller.items)
-        (arranged board.now.labels board.now.start) (rules.wanted_of proof.now.claim))
-        (IsWrongClassStart board.now (plain_class_proof board.now proof.now)) }
+        (Serves (class_answer_rows checker.now.board.now checker.now.proof.now.labeller.items)
+        (arranged checker.now.board.now.labels checker.now.board.now.start) (rules.wanted_of
+        checker.now.proof.now.claim))
+        (IsWrongClassStart checker.now.board.now (plain_class_proof checker.now.board.now
+        checker.now.proof.now)) }
 {
     let side = Side::Labeller;
     let missing = ClassFault::StartMissing { side };
     let short = ClassFault::StartNumber { side };
     turns_fault(
-        board,
-        proof,
-        board.start(),
-        wanted_of(proof.claim),
+        checker,
+        checker.board.start(),
+        wanted_of(checker.proof.claim),
         missing,
         short,
     )
@@ -111,25 +118,32 @@ pub(crate) fn start_fault(board: &Board, proof: &ClassProof) -> Option<ClassFaul
 /// The fault if the labeller's rows don't serve the `wanted` turns at the class of `places`:
 /// `missing` if no row is for it, `short` if its row has too few turns.
 fn turns_fault(
-    board: &Board,
-    proof: &ClassProof,
+    checker: &ClassChecker<'_>,
     places: &[u16],
     wanted: Turns,
     missing: ClassFault,
     short: ClassFault,
 ) -> Option<ClassFault>
-    requires document { IsClassDocument board.now proof.now }
-    requires places { IsConfiguration board.now places.now }
+    requires document { IsClassDocument checker.now.board.now checker.now.proof.now }
+    requires numbers { AreNumbersOfRows checker.now.board.now checker.now.proof.now
+        checker.now.numbers.now }
+    requires places { IsConfiguration checker.now.board.now places.now }
     ensures { MatchOption result
-        (Serves (class_answer_rows board.now proof.now.labeller.items)
-        (arranged board.now.labels places.now) wanted)
-        (IsUnservedFor (class_answer_rows board.now proof.now.labeller.items)
-        (arranged board.now.labels places.now) wanted missing short) }
+        (Serves (class_answer_rows checker.now.board.now checker.now.proof.now.labeller.items)
+        (arranged checker.now.board.now.labels places.now) wanted)
+        (IsUnservedFor (class_answer_rows checker.now.board.now
+        checker.now.proof.now.labeller.items)
+        (arranged checker.now.board.now.labels places.now) wanted missing short) }
 {
     if wanted == Turns::Count(0) {
         return None;
     }
-    let Some(row) = find(board, &proof.labeller, places) else {
+    let Some(row) = find(
+        checker.board,
+        &checker.proof.labeller,
+        &checker.numbers.labeller,
+        places,
+    ) else {
         return Some(missing);
     };
     (row.turns < wanted).then_some(short)

@@ -16,7 +16,7 @@ mod fault;
 mod labeller;
 mod laws;
 mod row_index;
-mod row_search;
+mod row_numbers;
 mod turns;
 
 pub use checking::{Shown, check};
@@ -30,3 +30,4 @@ pub use class_writing::write_class;
 pub use fault::CheckFault;
 pub use laws::{one_check_fault, rules_show, unbroken_rules_leave_no_fault};
 pub use positions::Side;
+pub use row_numbers::ClassNumbers;

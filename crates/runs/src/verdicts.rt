@@ -5,6 +5,7 @@ ghost use Rattle.proof_text.specs.Documents.{IsClassDocument, IsDocument};
 ghost use Rattle.proof_text.specs.ClassProof.{plain_class_proof};
 ghost use Rattle.proof_text.specs.Proof.{plain_proof};
 ghost use Rattle.positions.specs.Ranks.{configurations};
+ghost use Rattle.proof_check.specs.ClassNumbers.{AreNumbersOfRows};
 ghost use Rattle.runs.specs.Verdicts.{CannotAnswer, IsAnswered, IsChecked, IsClassVerdict};
 ghost use Rattle.runs.specs.Verdicts.{IsVerdict};
 ghost use Rattle.runs.specs.Inside.Verdicts.{NamesRows};
@@ -16,7 +17,7 @@ use crate::joined::board_length;
 use crate::output::line;
 use board_text::Board;
 use positions::{MAX_CONFIGURATIONS, Space, is_small};
-use proof_check::{CheckFault, ClassFault, Shown, check, check_classes};
+use proof_check::{CheckFault, ClassFault, ClassNumbers, Shown, check, check_classes};
 use proof_text::{ClassProof, Proof, parse, parse_classes};
 use std::alloc::Global;
 use std::thread::Threads;
@@ -90,18 +91,25 @@ fn check_by_classes(
     ensures fault { IfErr result (HasNoProof board.now text.now) }
 {
     let proof = parse_classes(alloc, board, text)?;
-    let verdict = class_verdict_on(rt, board, &proof);
+    let numbers = ClassNumbers::of(alloc, board, &proof)?;
+    let verdict = class_verdict_on(rt, board, &proof, &numbers);
     let line = line(alloc, board, verdict)?;
     Ok(VerdictLine { verdict, line })
 }
 
-/// The verdict on the document by classes.
-fn class_verdict_on(rt: &(impl Threads + Sync), board: &Board, proof: &ClassProof) -> Verdict
+/// The verdict on the document by classes, whose rows have these `numbers`.
+fn class_verdict_on(
+    rt: &(impl Threads + Sync),
+    board: &Board,
+    proof: &ClassProof,
+    numbers: &ClassNumbers,
+) -> Verdict
     requires document { IsClassDocument board.now proof.now }
+    requires numbers { AreNumbersOfRows board.now proof.now numbers.now }
     ensures verdict { IsClassVerdict board.now (plain_class_proof board.now proof.now) result }
     ensures named { NamesRows board.now result }
 {
-    match check_classes(rt, board, proof) {
+    match check_classes(rt, board, proof, numbers) {
         Ok(()) => Verdict::Accepted(Shown { claim: proof.claim }),
         Err(fault) => Verdict::RefusedByClasses(fault),
     }

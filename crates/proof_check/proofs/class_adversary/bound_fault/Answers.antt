@@ -7,8 +7,10 @@ use Rattle.proof_check.proofs.class_adversary.bound_fault.Goals.{in-Exactly, in-
 
 pub returns : goal.returns
 returns c =
-    let claim : (c.args.proof.now.claim ≡ Exactly c.match-proof.most) ⊎ (c.args.proof.now.claim
-    ≡ AtMost c.match-proof.most) =
-    elim c.match-proof.branch [ in-Exactly w ↦ search rules | in-Exactly-2 w ↦ search rules ] in
-    bound_meant c.args.board.now (plain_class_proof c.args.board.now c.args.proof.now) c.match-proof.most
+    let board = c.args.checker.now.board.now in
+    let proof = c.args.checker.now.proof.now in
+    let most = c.match-checker.most in
+    let claim : (proof.claim ≡ Exactly most) ⊎ (proof.claim ≡ AtMost most) =
+    elim c.match-checker.branch [ in-Exactly w ↦ search rules | in-Exactly-2 w ↦ search rules ] in
+    bound_meant board (plain_class_proof board proof) most
     c.number_fault.result claim (rw c.start.ensures.value at c.number_fault.ensures)

@@ -13,16 +13,16 @@ use Rattle.proof_check.proofs.class_adversary.label_fault.Goals as goal
 pub number_fault-requires-clause-places : goal.number_fault-requires-clause-places
 number_fault-requires-clause-places c =
     rw c.pebbles-pebbles.ensures.value
-    (result_is c.args.board.now c.args.row.now.at c.args.pebble c.args.label c.requires.row.at c.requires.is_pebble
-    c.requires.legal.is_label)
+    (result_is c.args.checker.now.board.now c.args.row.now.at c.args.pebble c.args.label c.requires.row.at
+    c.requires.is_pebble c.requires.legal.is_label)
 
 pub returns-then-row-eq0 : goal.returns-then-row-eq0
 returns-then-row-eq0 c = inl (c.if-row-eq0.true, ap (λ at. faults.NotStuck at c.args.label) c.requires.at)
 
 pub returns : goal.returns
 returns c =
-    let board = c.args.board.now in
-    let rows : List RequestRow = class_request_rows board c.args.proof.now.adversary.items in
+    let board = c.args.checker.now.board.now in
+    let rows : List RequestRow = class_request_rows board c.args.checker.now.proof.now.adversary.items in
     let row : RequestRow = class_request_row board c.args.row.now in
     let pebble = c.args.pebble in
     let label = c.args.label in

@@ -12,7 +12,7 @@ returns-in-Some-clause-accepts g c =
 pub returns-in-Some-clause-named : goal.returns-in-Some-clause-named
 returns-in-Some-clause-named g c =
     names_class c.args.board.now
-    (plain_class_proof c.args.board.now c.args.proof.now) c.in-Some.fault c.requires.is_proof
+    (plain_class_proof c.args.board.now c.args.proof.now) c.in-Some.fault c.requires.document.is_proof
     c.in-Some.ensures.fault
 
 pub returns-in-None-clause-holds : goal.returns-in-None-clause-holds

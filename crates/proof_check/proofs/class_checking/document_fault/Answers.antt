@@ -10,11 +10,11 @@ use Rattle.proof_check.proofs.class_checking.document_fault.Goals as goal
 
 pub first_fault-requires-after_bounds : goal.first_fault-requires-after_bounds
 first_fault-requires-after_bounds g c = λ lifetimes lives. rw c.deref.ensures.value
-    (answering c.args.board.now c.args.proof.now c.requires)
+    (answering c.args.board.now c.args.proof.now c.requires.document c.args.numbers.now c.requires.numbers)
 
 pub first_fault-requires-2-after_bounds : goal.first_fault-requires-2-after_bounds
 first_fault-requires-2-after_bounds g c = λ lifetimes lives. rw c.deref-2.ensures.value
-    (requesting c.args.board.now c.args.proof.now c.requires)
+    (requesting c.args.board.now c.args.proof.now c.requires.document c.args.numbers.now c.requires.numbers)
 
 pub returns-in-Some-first_fault-clause-fault : goal.returns-in-Some-first_fault-clause-fault
 returns-in-Some-first_fault-clause-fault g c =

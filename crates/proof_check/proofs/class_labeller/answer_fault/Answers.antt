@@ -7,7 +7,7 @@ use Rattle.proof_check.proofs.class_labeller.answer_fault.Goals as goal
 
 pub returns-then-not-is_legal : goal.returns-then-not-is_legal
 returns-then-not-is_legal c =
-    let board = c.args.board.now in
+    let board = c.args.checker.now.board.now in
     let row = c.args.row.now in
     let fits : c.args.pebble < length row.take = search rules in
     let legal = rw c.pebbles-pebbles.ensures.value at c.is_legal.ensures in (
@@ -23,12 +23,13 @@ returns-then-not-is_legal c =
 pub turns_fault-requires-clause-places : goal.turns_fault-requires-clause-places
 turns_fault-requires-clause-places c =
     rw c.pebbles-pebbles.ensures.value
-    (result_is c.args.board.now c.args.row.now.at c.args.pebble (slice_index c.args.row.now.take c.args.pebble)
+    (result_is c.args.checker.now.board.now c.args.row.now.at c.args.pebble
+    (slice_index c.args.row.now.take c.args.pebble)
     c.requires.row.at c.requires.pebble (c.requires.row.gives c.args.pebble c.requires.pebble))
 
 pub returns : goal.returns
 returns c =
-    let board = c.args.board.now in
+    let board = c.args.checker.now.board.now in
     let row = c.args.row.now in
     let pebble = c.args.pebble in
     let label = slice_index row.take pebble in

@@ -8,17 +8,18 @@ use Rattle.proof_check.proofs.class_labeller.turns_fault.Goals as goal
 
 pub find-requires-clause-rows : goal.find-requires-clause-rows
 find-requires-clause-rows c =
-    rw c.deref.ensures.value (labeller_in_order c.args.board.now c.args.proof.now c.requires.document)
+    rw c.deref.ensures.value
+    (labeller_in_order c.args.checker.now.board.now c.args.checker.now.proof.now c.requires.document)
 
 pub returns-in_default : goal.returns-in_default
 returns-in_default c =
-    let board = c.args.board.now in
+    let board = c.args.checker.now.board.now in
     let wanted : List ℕ = arranged board.labels c.args.places.now in
     let some : IsWanted c.args.wanted = search rules in (
       some,
       inl (
         none_for board (class_answer_row board) (λ r. r.at) (λ r. r.at)
-            (λ r. refl) c.args.proof.now.labeller.items wanted
+            (λ r. refl) c.args.checker.now.proof.now.labeller.items wanted
             (rw c.deref.ensures.value at c.in_default.ensures),
         refl,
       ),
@@ -26,9 +27,9 @@ returns-in_default c =
 
 pub returns : goal.returns
 returns c =
-    let board = c.args.board.now in
+    let board = c.args.checker.now.board.now in
     let wanted : List ℕ = arranged board.labels c.args.places.now in
-    let rows = c.args.proof.now.labeller.items in
+    let rows = c.args.checker.now.proof.now.labeller.items in
     let row = class_answer_row board c.in-Some.row.now in
     let found = row_for board (class_answer_row board) (λ r. r.at) (λ r. r.at) (λ r. refl) rows wanted
     c.in-Some.row.now (rw c.deref.ensures.value at c.in-Some.ensures) in
