@@ -1,4 +1,5 @@
 pub mod ArrangedPlaces
+pub mod RisingPlaces
 pub mod OrderNumbers
 pub mod NumberedPlaces
 pub mod PlacesAt
