@@ -1,5 +1,5 @@
 -- The classes added at a step: the result of a best answer, or those of all answers to a best request.
-use Rattle.std.proofs.Common.{◌≡◌, ℕ, ◌<◌, ◌≤◌, List, Some, None, sym, ap, ◌∙◌, subst, arith}
+use Rattle.std.proofs.Common.{◌≡◌, ℕ, ◌<◌, ◌≤◌, List, Option, Some, None, MatchOption, sym, ap, ◌∙◌, subst, arith}
 use Rattle.board_text.specs.PlainBoard.{PlainBoard, IsConfiguration}
 use Rattle.positions.specs.declared.value.Value.{Value}
 use Rattle.positions.specs.declared.value.Value.TheVariants.{Finite}
@@ -20,12 +20,11 @@ use Rattle.strategies.specs.Inside.ReachedClasses.{ClassRequestLeads, IsOnlyOne}
 use Rattle.strategies.proofs.LikePebbles.{arranged-value}
 
 -- the one number of which a fact holds is added, if there is one
-pub only_added : (numbers more : List ℕ) (P : ℕ → Type 0) (to : ℕ) → IsOnlyOne P (Some to) → IsWith numbers to more
-    → IsWithAll numbers P more
-only_added numbers more P to only with = added_one numbers more to P with only.0 only.1
-
-pub none_added : (numbers : List ℕ) (P : ℕ → Type 0) → IsOnlyOne P None → IsWithAll numbers P numbers
-none_added numbers P none = added_known numbers P (λ number is. absurd (none number is))
+pub found_added : (numbers more : List ℕ) (P : ℕ → Type 0) (found : Option ℕ) → IsOnlyOne P found
+    → MatchOption found (more ≡ numbers) (λ to. IsWith numbers to more) → IsWithAll numbers P more
+found_added numbers more P (Some to) only with = added_one numbers more to P with only.0 only.1
+found_added numbers more P None none same =
+    subst (IsWithAll numbers P) (sym same) (added_known numbers P (λ number is. absurd (none number is)))
 
 -- ---- the best answer to one request
 

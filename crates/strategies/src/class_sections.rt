@@ -40,13 +40,14 @@ impl ClassSectionRow for LabellerClassRow {
     /// classes only.
     fn reached<M: Moves>(alloc: Global, moves: &M) -> Result<ReachedClasses, Memory> {
         let mut reached = ReachedClasses::new(alloc);
+        let mut expanded = ReachedClasses::new(alloc);
         let board = moves.board();
         if Value::Finite(0) < moves.value(board.start()) {
             reached.add(class_order(board, board.start()))?;
         }
         let mut index = 0;
         while let Some(number) = reached.at(index) {
-            add_answers(moves, number, &mut reached)?;
+            add_answers(moves, number, &mut reached, &mut expanded)?;
             index += 1;
         }
         Ok(reached)

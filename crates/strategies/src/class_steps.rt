@@ -1,16 +1,16 @@
 //! The classes that best answers, and best requests, lead to from one class.
 
-ghost use Rattle.std.specs.Prelude.{◌≡◌, ◌<◌, IfOk};
+ghost use Rattle.std.specs.Prelude.{◌≡◌, ◌<◌, IfOk, MatchOption};
 ghost use Rattle.board_text.specs.PlainBoard.{IsConfiguration};
 ghost use Rattle.positions.specs.Game.{moved};
 ghost use Rattle.strategies.specs.Best.{IsBestFor};
-ghost use Rattle.strategies.specs.Inside.ReachedRanks.{IsWithAll};
+ghost use Rattle.strategies.specs.Inside.ReachedRanks.{IsWith, IsWithAll};
 ghost use Rattle.strategies.specs.Inside.ReachedClasses.{class_numbered, number_of_class_at};
 ghost use Rattle.strategies.specs.Inside.ReachedClasses.{IsClassNumber};
 ghost use Rattle.strategies.specs.Inside.ReachedClasses.{IsOnlyOne};
 ghost use Rattle.strategies.specs.Inside.ReachedClasses.{IsClassAnswerStep, ClassAnswerLeads};
 ghost use Rattle.strategies.specs.Inside.ReachedClasses.{ClassRequestLeads, LegalLeads};
-ghost use Rattle.strategies.specs.Inside.ReachedClasses.{AreExpandedClasses};
+ghost use Rattle.strategies.specs.Inside.ReachedClasses.{AreAnsweredClasses, AreExpandedClasses};
 
 use crate::configuration::Configuration;
 use crate::gap_best::Best;
@@ -49,25 +49,65 @@ fn answer_result(
 }
 
 /// Adds the class after the best answer to each request at the class of `number`, if it has a value
-/// of 1 or more.
+/// of 1 or more. That of a request whose gap is in `expanded` is there.
 pub(crate) fn add_answers<M: Moves>(
     moves: &M,
     number: u64,
     reached: &mut ReachedClasses,
+    expanded: &mut ReachedClasses,
 ) -> Result<(), Memory>
-    requires { IsClassNumber (M.board moves.now) number }
-    ensures { IfOk result (λ _. IsWithAll reached.old (ClassAnswerLeads
+    requires number { IsClassNumber (M.board moves.now) number }
+    requires expanded { AreAnsweredClasses (M.board moves.now) expanded.old reached.old }
+    ensures added { IfOk result (λ _. IsWithAll reached.old (ClassAnswerLeads
         (M.board moves.now) number) reached.new) }
+    ensures expanded { IfOk result (λ _.
+        AreAnsweredClasses (M.board moves.now) expanded.new reached.new) }
 {
     let board = moves.board();
     let held = class_at(board, number);
-    let (_, answers) = moves.answers(held.as_slice());
     for pebble in 0..board.pebbles() {
-        if let Some(to) = answer_result(board, &held, pebble, answers[pebble as usize]) {
-            reached.add(to)?;
-        }
+        add_answer(moves, &held, pebble, reached, expanded)?;
     }
     Ok(())
+}
+
+/// Adds the class after the best answer to a request of `pebble` at `held`, if it has a value of 1
+/// or more. It is there if the request's gap is in `expanded`.
+fn add_answer<M: Moves>(
+    moves: &M,
+    held: &Configuration,
+    pebble: u8,
+    reached: &mut ReachedClasses,
+    expanded: &mut ReachedClasses,
+) -> Result<(), Memory>
+    requires held { IsConfiguration (M.board moves.now) held.now }
+    requires pebble { pebble < (M.board moves.now).pebbles }
+    requires expanded { AreAnsweredClasses (M.board moves.now) expanded.old reached.old }
+    ensures added { IfOk result (λ _. IsWithAll reached.old (IsClassAnswerStep
+        (M.board moves.now) held.now pebble) reached.new) }
+    ensures expanded { IfOk result (λ _.
+        AreAnsweredClasses (M.board moves.now) expanded.new reached.new) }
+{
+    let board = moves.board();
+    let gap = gap_number(board, held, pebble);
+    if expanded.contains(gap) {
+        return Ok(());
+    }
+    let best = moves.best(held.as_slice(), pebble);
+    add_found(answer_result(board, held, pebble, best), reached)?;
+    expanded.add(gap)?;
+    Ok(())
+}
+
+/// Adds the number `found`, if there is one.
+fn add_found(found: Option<u64>, reached: &mut ReachedClasses) -> Result<(), Memory>
+    ensures { IfOk result (λ _. MatchOption found (reached.new ≡ reached.old)
+        (λ number. IsWith reached.old number reached.new)) }
+{
+    match found {
+        Some(number) => reached.add(number),
+        None => Ok(()),
+    }
 }
 
 /// Adds the class after each legal answer to the best request at the class of `number`. Those of a

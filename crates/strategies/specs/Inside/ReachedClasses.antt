@@ -95,10 +95,18 @@ pub record IsLegalStep (board : PlainBoard) (from : List ℕ) (pebble label to :
 abbrev pub LegalLeads : PlainBoard → List ℕ → ℕ → ℕ → Type 0
 LegalLeads board from pebble to = (label : ℕ) × IsLegalStep board from pebble label to
 
--- the classes after all legal answers to each request are among the numbers, if the class after
--- its pebble is put on the label 0, which stands for the request's gap, is among the expanded ones
-abbrev pub AreExpandedClasses : PlainBoard → List ℕ → List ℕ → Type 0
-AreExpandedClasses board expanded numbers = (from : List ℕ) (pebble : ℕ)
+-- the classes to which each request leads are among the numbers, if the class after its pebble is
+-- put on the label 0, which stands for the request's gap, is among the expanded ones
+abbrev pub AreExpandedBy : PlainBoard → (List ℕ → ℕ → ℕ → Type 0) → List ℕ → List ℕ → Type 0
+AreExpandedBy board Leads expanded numbers = (from : List ℕ) (pebble : ℕ)
     → IsConfiguration board from → pebble < board.pebbles
     → Contains expanded (number_of_class_at board (moved from pebble 0))
-    → (to : ℕ) → LegalLeads board from pebble to → Contains numbers to
+    → (to : ℕ) → Leads from pebble to → Contains numbers to
+
+-- the same of the best answers to requests
+abbrev pub AreAnsweredClasses : PlainBoard → List ℕ → List ℕ → Type 0
+AreAnsweredClasses board = AreExpandedBy board (IsClassAnswerStep board)
+
+-- the same of all legal answers to requests
+abbrev pub AreExpandedClasses : PlainBoard → List ℕ → List ℕ → Type 0
+AreExpandedClasses board = AreExpandedBy board (LegalLeads board)

@@ -1,9 +1,11 @@
 use Rattle.strategies.specs.Inside.ReachedRanks.{IsWithAll}
+use Rattle.strategies.specs.Inside.ReachedClasses.{class_numbered, AreAnsweredClasses, IsClassAnswerStep}
 use Rattle.strategies.proofs.AddedRanks.{Below}
-use Rattle.strategies.specs.Inside.ReachedClasses.{class_numbered, IsClassAnswerStep}
 use Rattle.strategies.proofs.class_steps.add_answers.Given as goal
 
 abbrev pub invariant-loop-pebble : goal.invariant-loop-pebble
-invariant-loop-pebble g l =
-    IsWithAll l.fn.reached (Below (IsClassAnswerStep (g.M.Moves.board l.moves) (class_numbered
-    (g.M.Moves.board l.moves) l.number)) l.pebble) l.reached
+invariant-loop-pebble g l = record {
+  added : IsWithAll l.fn.reached (Below (IsClassAnswerStep (g.M.Moves.board l.moves) (class_numbered
+      (g.M.Moves.board l.moves) l.number)) l.pebble) l.reached;
+  expanded : AreAnsweredClasses (g.M.Moves.board l.moves) l.expanded l.reached;
+}

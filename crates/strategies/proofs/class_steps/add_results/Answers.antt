@@ -3,7 +3,7 @@ use Rattle.strategies.specs.Best.{IsBestRequest}
 use Rattle.positions.specs.Game.{moved}
 use Rattle.strategies.specs.Inside.ReachedClasses.{class_numbered, number_of_class_at}
 use Rattle.strategies.proofs.AddedClasses.{no_request_added}
-use Rattle.strategies.proofs.ExpandedClasses.{expanded_more, results_added, results_known}
+use Rattle.strategies.proofs.ExpandedClasses.{expanded_more, results_added, results_known, results_of_gaps}
 use Rattle.strategies.proofs.class_steps.add_results.Given.{Over}
 use Rattle.strategies.proofs.class_steps.add_results.Goals as goal
 use Rattle.strategies.proofs.class_steps.add_results.Goals.{After-gap_number-gap}
@@ -44,7 +44,8 @@ pub returns-clause-expanded : goal.returns-clause-expanded
 returns-clause-expanded g c =
     let at = (goal.at.returns-clause-expanded g c).After-gap_number-gap in
     let board = g.M.Moves.board c.args.moves.now in
-    expanded_more board (class_numbered board c.args.number) c.in-Some.pebble c.gap_number-gap.result
+    expanded_more board _ (results_of_gaps board) (class_numbered board c.args.number) c.in-Some.pebble
+    c.gap_number-gap.result
     c.args.expanded.now _ c.args.reached.now _ c.requires.number.is (best g at).0.is_pebble (gap_is g at)
     c.requires.expanded c.in_ok-add.ensures
     (rw (c.class_at-held.ensures, c.board-board.ensures) at c.in_ok-add_legal.ensures)

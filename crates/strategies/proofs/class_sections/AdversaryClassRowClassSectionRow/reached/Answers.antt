@@ -23,7 +23,7 @@ loop-number-init g c =
       spread = spread_begins b _ _ _ (is_start g (goal.at.loop-number-init g c).After-start) _
           (added_one _ _ _ _ (rw (c.new-reached.ensures, number_is) at c.in_ok-add.ensures) (tt, refl)
           (λ number starts. starts.1));
-      expanded = rw c.new-expanded.ensures (none_expanded b _);
+      expanded = rw c.new-expanded.ensures (none_expanded b _ _);
     }
 
 pub add_results-requires-clause-number : goal.add_results-requires-clause-number

@@ -6,6 +6,7 @@ use Rattle.strategies.proofs.ValueOrder.{worthless}
 use Rattle.proof_text.specs.Arranged.{arranged}
 use Rattle.strategies.specs.Inside.ReachedClasses.{number_of_class_at}
 use Rattle.strategies.proofs.LikePebbles.{arranged-value}
+use Rattle.strategies.proofs.ExpandedClasses.{none_expanded}
 use Rattle.strategies.proofs.OneClassList.{labellers}
 use Rattle.strategies.proofs.SpreadClasses.{spread_begins, spread_more, spread_ends, spread_found, answer_moves}
 use Rattle.strategies.proofs.WorkedOff.{place_below, fewer_left, last_few}
@@ -26,27 +27,31 @@ loop-number-init g c =
     rw (c.start.ensures.value, c.board-board.ensures) at c.value.ensures in
     let has_arranged : HasValue b (arranged b.labels b.start) c.value.result =
     arranged-value b b.start is c.value.result has in
-    elim c.if-lt.branch [
-      | then-lt+in_ok-add w ↦
-          let number_is : w.class_order.result ≡ number_of_class_at b b.start =
-          rw (w.start-then-lt.ensures.value, c.board-board.ensures) at w.class_order.ensures in
-          rw w.reached-is (spread_begins b _ _ _ is _
-          (added_one _ _ _ _ (rw (c.new-reached.ensures, number_is) at w.in_ok-add.ensures)
-          (record { value = c.value.result; has_value = has_arranged; some = search rules }, refl)
-          (λ number starts. starts.1)))
-      | else-lt w ↦ rw (w.reached-is, c.new-reached.ensures)
-          (spread_begins b _ _ _ is [] (added_known [] _ (λ number starts. absurd
-          (worthless b _ c.value.result has_arranged (search rules) starts.0))))
-    ]
+    record {
+      spread = elim c.if-lt.branch [
+        | then-lt+in_ok-add w ↦
+            let number_is : w.class_order.result ≡ number_of_class_at b b.start =
+            rw (w.start-then-lt.ensures.value, c.board-board.ensures) at w.class_order.ensures in
+            rw w.reached-is (spread_begins b _ _ _ is _
+            (added_one _ _ _ _ (rw (c.new-reached.ensures, number_is) at w.in_ok-add.ensures)
+            (record { value = c.value.result; has_value = has_arranged; some = search rules }, refl)
+            (λ number starts. starts.1)))
+        | else-lt w ↦ rw (w.reached-is, c.new-reached.ensures)
+            (spread_begins b _ _ _ is [] (added_known [] _ (λ number starts. absurd
+            (worthless b _ c.value.result has_arranged (search rules) starts.0))))
+      ];
+      expanded = rw c.new-expanded.ensures (none_expanded b _ _);
+    }
 
-pub add_answers-requires : goal.add_answers-requires
-add_answers-requires g c = spread_found _ _ _ _ _ _ _ c.loop-number.invariant (sym c.in-Some.ensures.number)
+pub add_answers-requires-clause-number : goal.add_answers-requires-clause-number
+add_answers-requires-clause-number g c = spread_found _ _ _ _ _ _ _ c.loop-number.invariant.spread
+    (sym c.in-Some.ensures.number)
 
 pub overflow_add-index : goal.overflow_add-index
 overflow_add-index g c =
     let low = place_below
     (g.M.Moves.board c.args.moves.now) _ _ _ c.loop-number.index c.in-Some.number c.loop-number.reached
-    c.loop-number.invariant c.in-Some.ensures.once (sym c.in-Some.ensures.number) in
+    c.loop-number.invariant.spread c.in-Some.ensures.once (sym c.in-Some.ensures.number) in
     omega (
       arith,
       low,
@@ -58,14 +63,17 @@ pub loop-number-smaller : goal.loop-number-smaller
 loop-number-smaller g c =
     fewer_left (g.M.Moves.board c.args.moves.now) _ _ _ c.loop-number.index c.in-Some.number
     c.loop-number.reached
-    c.loop-number.invariant c.in-Some.ensures.once (sym c.in-Some.ensures.number)
+    c.loop-number.invariant.spread c.in-Some.ensures.once (sym c.in-Some.ensures.number)
 
 pub loop-number-preserved : goal.loop-number-preserved
 loop-number-preserved g c =
-    spread_more (g.M.Moves.board c.args.moves.now) _ _ _ (is_start g
-    (goal.at.loop-number-preserved g c).After-start)
-    (answer_moves (g.M.Moves.board c.args.moves.now)) c.loop-number.index c.in-Some.number _ _
-    c.loop-number.invariant (sym c.in-Some.ensures.number) c.in_ok-add_answers.ensures
+    record {
+      spread = spread_more (g.M.Moves.board c.args.moves.now) _ _ _ (is_start g
+          (goal.at.loop-number-preserved g c).After-start)
+          (answer_moves (g.M.Moves.board c.args.moves.now)) c.loop-number.index c.in-Some.number _ _
+          c.loop-number.invariant.spread (sym c.in-Some.ensures.number) c.in_ok-add_answers.ensures.added;
+      expanded = c.in_ok-add_answers.ensures.expanded;
+    }
 
 pub returns : goal.returns
 returns g c = λ start.
@@ -73,6 +81,6 @@ returns g c = λ start.
     record {
       each = spread_ends (g.M.Moves.board c.args.moves.now) _ _ _ is (answer_moves
           (g.M.Moves.board c.args.moves.now)) c.loop-number.index _
-          c.loop-number.invariant (sym c.in_default.ensures.number);
+          c.loop-number.invariant.spread (sym c.in_default.ensures.number);
       rows = labellers (g.M.Moves.board c.args.moves.now) start is;
     }

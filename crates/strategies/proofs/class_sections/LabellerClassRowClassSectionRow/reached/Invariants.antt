@@ -1,10 +1,14 @@
 use Rattle.std.proofs.Common.{◌-◌}
+use Rattle.strategies.specs.Inside.ReachedClasses.{AreAnsweredClasses}
 use Rattle.strategies.proofs.ClassNumbers.{last_number}
 use Rattle.strategies.proofs.SpreadClasses.{IsSpreadByAnswers}
 use Rattle.strategies.proofs.class_sections.LabellerClassRowClassSectionRow.reached.Given as goal
 
 abbrev pub invariant-loop-number : goal.invariant-loop-number
-invariant-loop-number g l = IsSpreadByAnswers (g.M.Moves.board l.moves) l.index l.reached
+invariant-loop-number g l = record {
+  spread : IsSpreadByAnswers (g.M.Moves.board l.moves) l.index l.reached;
+  expanded : AreAnsweredClasses (g.M.Moves.board l.moves) l.expanded l.reached;
+}
 
 abbrev pub decreases-loop-number : goal.decreases-loop-number
 decreases-loop-number g l = last_number (g.M.Moves.board l.moves) - l.index
