@@ -10,8 +10,6 @@ mod document_texts;
 #[cfg(test)]
 mod documents;
 #[cfg(test)]
-mod documents_in_parts;
-#[cfg(test)]
 mod drawn_boards;
 #[cfg(test)]
 mod drawn_documents;

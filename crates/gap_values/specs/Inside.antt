@@ -3,5 +3,6 @@ pub mod Counts
 pub mod Families
 pub mod FamilyWeights
 pub mod Sets
+pub mod Closing
 pub mod Table
 pub mod Words

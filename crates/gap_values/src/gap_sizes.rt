@@ -40,37 +40,53 @@ impl Sizes {
     }
 }
 
-/// Adds the configurations of the classes that the gap of `family` with the least place `least`
-/// makes with a place that isn't above it, which have these `weights`. The family of the gap with
-/// the least place 0 is `lowest`. The labels of `upto` are those up to `least`.
+/// A gap of a family, by its least place.
+#[derive(Clone, Copy)]
+pub(crate) struct GapOf<'a> {
+    pub(crate) family: &'a Family,
+    /// The family of the gap with the least place 0.
+    pub(crate) lowest: &'a Family,
+    pub(crate) least: u16,
+    /// The labels up to the least place.
+    pub(crate) upto: LabelSet,
+}
+
+/// Adds the configurations of the classes that `gap` makes with a place that isn't above its least
+/// one, which have these `weights`.
 pub(crate) fn count_gap(
     numbers: &GapNumbers,
     rounds: &GapRounds,
-    family: &Family,
-    lowest: &Family,
-    least: u16,
-    upto: LabelSet,
+    gap: &GapOf<'_>,
     weights: &FamilyWeights,
     sizes: &mut Sizes,
 )
     requires some { 2 ≤ numbers.now.pebbles }
     requires rounds { AreGapRounds numbers.now rounds.now }
-    requires family { IsFamilyOf numbers.now (numbers.now.pebbles - 2) family.now }
-    requires lowest { IsFamilyOf numbers.now (numbers.now.pebbles - 1) lowest.now }
-    requires lowest_held { lowest.now.held ≡ member_with family.now.held 0 }
-    requires least { least < family.now.size }
-    requires upto { AreLabelsUpTo least upto }
+    requires family { IsFamilyOf numbers.now (numbers.now.pebbles - 2)
+        gap.now.family.now }
+    requires lowest { IsFamilyOf numbers.now (numbers.now.pebbles - 1)
+        gap.now.lowest.now }
+    requires lowest_held { gap.now.lowest.now.held
+        ≡ member_with gap.now.family.now.held 0 }
+    requires least { gap.now.least < gap.now.family.now.size }
+    requires upto { AreLabelsUpTo gap.now.least gap.now.upto }
     requires weights { AreSmallWeights weights.now }
     requires above { IsAboveRounds rounds.now.words.items (length sizes.old.finite.items) }
     requires room { HaveRoom 207458501411267280 sizes.old }
     ensures { AreMore sizes.old sizes.new
-        (made_by numbers.now rounds.now.words.items (member_with family.now.held least)
-        (least + 1) weights.now) }
+        (made_by numbers.now rounds.now.words.items (member_with gap.now.family.now.held gap.now.least)
+        (gap.now.least + 1) weights.now) }
 {
+    let GapOf {
+        family,
+        lowest,
+        least,
+        upto,
+    } = *gap;
     if least + 1 == numbers.places() {
         // The place without a label is in no set.
-        let gap = numbers.member_family(family, lowest, least);
-        count_each(numbers, &rounds.words, &gap, weights, sizes);
+        let member = numbers.member_family(family, lowest, least);
+        count_each(numbers, &rounds.words, &member, weights, sizes);
         return;
     }
     let word = rounds.words[(family.start + least as u64) as usize];
@@ -84,8 +100,8 @@ pub(crate) fn count_gap(
     count_by_bits(positive, lasting, least, weights, sizes);
     let middle = positive.without(&lasting);
     if !middle.is_empty() {
-        let gap = numbers.member_family(family, lowest, least);
-        count_among(numbers, &rounds.words, &gap, middle, weights, sizes);
+        let member = numbers.member_family(family, lowest, least);
+        count_among(numbers, &rounds.words, &member, middle, weights, sizes);
     }
 }
 

@@ -11,7 +11,7 @@ ghost use Rattle.gap_values.specs.Inside.Words.{least_word, AreGapWords};
 use crate::closing::OPEN;
 use crate::families::Family;
 use crate::gap_numbers::GapNumbers;
-use crate::gap_sizes::{count_each, count_gap};
+use crate::gap_sizes::{GapOf, count_each, count_gap};
 use crate::rounds::GapRounds;
 use crate::weight::{family_weights, gap_weights};
 use board_text::{MAX_LABELS, Memory};
@@ -231,7 +231,13 @@ fn count_gaps_of(
             upto = upto.with(least);
         }
         let own = weights.of(least, family.size);
-        count_gap(numbers, rounds, family, &lowest, least, upto, own, sizes);
+        let gap = GapOf {
+            family,
+            lowest: &lowest,
+            least,
+            upto,
+        };
+        count_gap(numbers, rounds, &gap, own, sizes);
     }
 }
 

@@ -29,8 +29,6 @@ pub use laws::{
 pub use numbers::{arranged_order, class_order, places_at, places_order};
 pub use parsing::{parse, parse_classes};
 pub use positions::{Claim, Turns};
-pub use printing::{
-    first_lines, print, print_classes, print_classes_in_parts, print_in_parts, size_of_lines,
-};
+pub use printing::{first_lines, print, print_classes, print_classes_in_parts, size_of_lines};
 pub use proof::{AdversaryRow, LabellerRow, MOST_TURNS, Proof, Ranked};
 pub use row_text::{PlaceWords, RowText};

@@ -13,32 +13,40 @@ use rayon::prelude::*;
 use std::alloc::{AllocError, Global};
 use std::thread::Threads;
 
-/// Appends the section of `rows`, if `claim` asks for it,
-/// as `write_part` does. The lines are made in `parts` parts.
-pub(crate) fn write_in_parts<B: BoardOfRows + Sync, R: Row<B> + Sync>(
-    rt: &(impl Threads + Sync),
-    alloc: Global,
-    text: &mut RowText,
-    words: &PlaceWords,
-    board: &B,
-    claim: Claim,
-    rows: &[R],
-    parts: u32,
-) -> Result<(), AllocError>
-    requires words { words.now ≡ (B.board board.now).labels }
-    requires of_board { All (R.IsOfBoard (B.board board.now)) rows.now }
-    requires parts { 1 ≤ parts }
-    ensures { OnOk result (text.new.bytes ≡ text.old.bytes
-        ++ text_of_section (R.reading (B.board board.now) claim).form rows.now) }
-{
-    if !R::is_asked(claim) {
-        return Ok(());
+/// What the sections of a document are written by, whose lines are made in parts.
+#[derive(Clone, Copy)]
+pub(crate) struct PartedSections<'a, B> {
+    pub(crate) words: &'a PlaceWords,
+    pub(crate) board: &'a B,
+    pub(crate) claim: Claim,
+    pub(crate) parts: u32,
+}
+
+impl<B: BoardOfRows + Sync> PartedSections<'_, B> {
+    /// Appends the section of `rows`, if the claim asks for it, as `write_part` does.
+    pub(crate) fn write<R: Row<B> + Sync>(
+        &self,
+        rt: &(impl Threads + Sync),
+        alloc: Global,
+        text: &mut RowText,
+        rows: &[R],
+    ) -> Result<(), AllocError>
+        requires words { self.now.words.now ≡ (B.board self.now.board.now).labels }
+        requires of_board { All (R.IsOfBoard (B.board self.now.board.now)) rows.now }
+        requires parts { 1 ≤ self.now.parts }
+        ensures { OnOk result (text.new.bytes ≡ text.old.bytes
+            ++ text_of_section (R.reading (B.board self.now.board.now) self.now.claim).form
+            rows.now) }
+    {
+        if !R::is_asked(self.claim) {
+            return Ok(());
+        }
+        text.push_head(R::word(), rows.len())?;
+        for lines in &lines_in_parts(rt, alloc, self.words, self.board, rows, self.parts)? {
+            text.push_all(lines)?;
+        }
+        Ok(())
     }
-    text.push_head(R::word(), rows.len())?;
-    for lines in &lines_in_parts(rt, alloc, words, board, rows, parts)? {
-        text.push_all(lines)?;
-    }
-    Ok(())
 }
 
 /// The lines of `rows` in at most `parts` parts of consecutive rows, in their order. Threads make

@@ -65,12 +65,12 @@ pub fn share<W: Sharing + Sync, G: Gate, R: Threads + Wait + Sync>(
     if seat.width() == 1 {
         return Ok(worker(round, gate, first, number, seat));
     }
-    let (left, right) = round.split(seat)?;
-    let (left, right) = apart(rt, round, gate, first, number, left, right)?;
+    let halves = round.split(seat)?;
+    let (left, right) = apart(rt, round, gate, first, number, halves)?;
     round.join(left, right)
 }
 
-/// Works off both seats: `right` from a new thread on, `left` from this one.
+/// Works off both seats: the right one from a new thread on, the left one from this.
 #[cycle(tree)]
 fn apart<W: Sharing + Sync, G: Gate, R: Threads + Wait + Sync>(
     rt: &R,
@@ -78,15 +78,15 @@ fn apart<W: Sharing + Sync, G: Gate, R: Threads + Wait + Sync>(
     gate: &G,
     first: u32,
     number: u32,
-    left: RoundSeat,
-    right: RoundSeat,
+    seats: (RoundSeat, RoundSeat),
 ) -> Result<(RoundSeat, RoundSeat), SolveFault>
-    requires left { IsOf (W.id round.now) left }
-    requires right { IsOf (W.id round.now) right }
-    requires workers { first + left.view.has.width + right.view.has.width < 2 ^ 32 }
-    ensures worked { IfOk result (λ r. IsWorked left r.0 × IsWorked right r.1) }
+    requires left { IsOf (W.id round.now) seats.0 }
+    requires right { IsOf (W.id round.now) seats.1 }
+    requires workers { first + seats.0.view.has.width + seats.1.view.has.width < 2 ^ 32 }
+    ensures worked { IfOk result (λ r. IsWorked seats.0 r.0 × IsWorked seats.1 r.1) }
     ensures fault { IfErr result (λ f. f ≢ SolveFault.TooLarge) }
 {
+    let (left, right) = seats;
     thread::scope(
         thread::scope_env(),
         rt,

@@ -36,6 +36,8 @@ pub mod GapMembers
 pub mod LeastValues
 pub mod TabledAnswers
 pub mod SiblingRanks
+pub mod WrittenLines
+pub mod JoinedLines
 pub mod LikePebbles
 pub mod ClassMoves
 pub mod KeptClassRules

@@ -8,5 +8,6 @@ pub mod Marks
 pub mod Side
 pub mod ReachedRanks
 pub mod ReachedMarks
+pub mod Lines
 pub mod ReachedClasses
 pub mod ClassSide

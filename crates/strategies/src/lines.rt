@@ -13,6 +13,7 @@ use positions::{MAX_CONFIGURATIONS, Value};
 use proof_text::{PlaceWords, RowText};
 use rayon::prelude::*;
 use std::alloc::Global;
+use std::ops::Range;
 use std::thread::Threads;
 
 /// The least number of ranks that are worth a thread.
@@ -40,7 +41,7 @@ pub(crate) fn section_lines<R: SectionRow>(
     let marks = R::reached(moves, alloc)?;
     let end = moves.space().configurations();
     let mut parts = Vec::new(alloc);
-    parts.push(lines_between::<R>(alloc, moves, words, start, &marks, 0, end)?)?;
+    parts.push(lines_between::<R>(alloc, moves, words, start, &marks, 0..end)?)?;
     Ok(parts)
 }
 
@@ -59,33 +60,31 @@ pub(crate) fn section_lines_in_parts<R: SectionRow + Send + Sync>(
     ensures { IfOk result (λ parts. AreSectionLines moves.now (R.side moves.now start)
         (R.line moves.now) parts.items) }
 {
-    let marks = R::reached(moves, alloc)?;
     let size = moves
         .space()
         .configurations()
         .div_ceil(parts)
         .max(LEAST_SPAN);
-    lines_of_spans::<R>(rt, alloc, moves, words, start, &marks, size)
+    lines_of_spans::<R>(rt, alloc, moves, words, start, size)
 }
 
-/// The lines of one side's rows at the configurations of the marked ranks, which are those that
-/// were reached, a part for each `size` ranks.
+/// The lines of one side's rows at the configurations that were reached, a part for each `size`
+/// ranks.
 fn lines_of_spans<R: SectionRow + Send + Sync>(
     rt: &(impl Threads + Sync),
     alloc: Global,
     moves: &RankMoves<'_>,
     words: &PlaceWords,
     start: Value,
-    marks: &Marks,
     size: u32,
 ) -> Result<Vec<Lines>, Memory>
     requires words { words.now ≡ moves.now.labels }
-    requires reached { AreReached moves.now (R.side moves.now start) marks.now }
     requires some { 0 < size }
     requires few { size ≤ MAX_CONFIGURATIONS }
     ensures { IfOk result (λ parts. AreSectionLines moves.now (R.side moves.now start)
         (R.line moves.now) parts.items) }
 {
+    let marks = R::reached(moves, alloc)?;
     let count = moves.space().configurations().div_ceil(size);
     let lines: Result<Vec<Lines>, Memory> = (0..count)
         .into_par_iter()
@@ -93,14 +92,14 @@ fn lines_of_spans<R: SectionRow + Send + Sync>(
         .map(
             |span: u32| -> Result<Lines, Memory>
                 requires words { words.now ≡ moves.now.labels }
-                requires reached { AreReached moves.now (R.side moves.now start) marks.now }
+                requires reached { AreReached moves.now (R.side moves.now start) marks }
                 requires end { span * size + size < 2 ^ 32 }
                 ensures { IfOk result (AreLinesBetween moves.entry.now
-                    (R.side moves.entry.now start) (R.line moves.entry.now) marks.entry.now
+                    (R.side moves.entry.now start) (R.line moves.entry.now) marks
                     (span * size) (span * size + size)) }
             {
                 let first = span * size;
-                lines_between::<R>(alloc, moves, words, start, marks, first, first + size)
+                lines_between::<R>(alloc, moves, words, start, &marks, first..first + size)
             },
         )
         .collect(rt, alloc)?;
@@ -108,27 +107,26 @@ fn lines_of_spans<R: SectionRow + Send + Sync>(
 }
 
 /// The lines of one side's rows at the configurations of the marked ranks, which are those that
-/// were reached, from the rank `first` to before `end`.
+/// were reached, and in the `span`.
 fn lines_between<R: SectionRow>(
     alloc: Global,
     moves: &RankMoves<'_>,
     words: &PlaceWords,
     start: Value,
     marks: &Marks,
-    first: u32,
-    end: u32,
+    span: Range<u32>,
 ) -> Result<Lines, Memory>
     requires words { words.now ≡ moves.now.labels }
     requires reached { AreReached moves.now (R.side moves.now start) marks.now }
-    requires span { first ≤ end }
+    requires span { span.start ≤ span.end }
     ensures { IfOk result (AreLinesBetween moves.now (R.side moves.now start) (R.line moves.now)
-        marks.now first end) }
+        marks.now span.start span.end) }
 {
     let mut walk = Walk::at(moves, moves.start());
     let mut text = RowText::new(String::new(alloc));
     let mut rows = 0;
-    let mut from = first;
-    while let Some(rank) = marks.first_between(from, end) {
+    let mut from = span.start;
+    while let Some(rank) = marks.first_between(from, span.end) {
         walk.move_to(rank);
         if let Some(row) = R::at(&walk, rank, start) {
             row.write(&walk, words, &mut text)?;

@@ -28,7 +28,7 @@ module _ (c : Start) where
   b = c.args.numbers.now
 
   abbrev f : Family
-  f = c.args.family.now
+  f = c.args.gap.now.family.now
 
   long : length f.held ≡ b.pebbles - 2
   long = held-long b (b.pebbles - 2) f c.requires.family
@@ -42,54 +42,66 @@ module _ (c : Start) where
   one : length f.held + 1 ≡ b.pebbles - 1
   one = let size = long in let some = c.requires.some in omega (arith, size, some)
 
-  is-gap : (g : Family) → IsFamilyOf b (length f.held + 1) g → g.held ≡ member_with f.held c.args.least
-      → IsGapOf b f c.args.least g
+  is-gap : (g : Family) → IsFamilyOf b (length f.held + 1) g → g.held ≡ member_with f.held c.args.gap.now.least
+      → IsGapOf b f c.args.gap.now.least g
   is-gap g is held = record { inside = c.requires.least; is_family = own; few = few; is_gap = is; held_is = held }
 
-pub member_family-gap-requires-clause-small : goal.member_family-gap-requires-clause-small
-member_family-gap-requires-clause-small c = few (goal.at.member_family-gap-requires-clause-small c).Start
+pub overflow_add-least : goal.overflow_add-least
+overflow_add-least c =
+    let low = place-low c.args.numbers.now (c.args.numbers.now.pebbles - 2) c.args.gap.now.family.now c.requires.family
+    c.args.gap.now.least c.requires.least in
+    let most = (labels_and_places c.args.numbers.now).1 in
+    let few = c.requires.family.is_board.labels.1 in
+    let fits : c.args.gap.now.least + 1 ≤ 65535 = omega (arith, low, most, few) in
+    search (rules, fits)
 
-pub member_family-gap-requires-clause-family : goal.member_family-gap-requires-clause-family
-member_family-gap-requires-clause-family c = own (goal.at.member_family-gap-requires-clause-family c).Start
+pub member_family-member-requires-clause-small : goal.member_family-member-requires-clause-small
+member_family-member-requires-clause-small c = few (goal.at.member_family-member-requires-clause-small c).Start
 
-pub member_family-gap-requires-clause-lowest : goal.member_family-gap-requires-clause-lowest
-member_family-gap-requires-clause-lowest c =
-    subst (λ n. IsFamilyOf c.args.numbers.now n c.args.lowest.now)
-    (sym (one (goal.at.member_family-gap-requires-clause-lowest c).Start)) c.requires.lowest
+pub member_family-member-requires-clause-family : goal.member_family-member-requires-clause-family
+member_family-member-requires-clause-family c = own (goal.at.member_family-member-requires-clause-family c).Start
+
+pub member_family-member-requires-clause-lowest : goal.member_family-member-requires-clause-lowest
+member_family-member-requires-clause-lowest c =
+    subst (λ n. IsFamilyOf c.args.numbers.now n c.args.gap.now.lowest.now)
+    (sym (one (goal.at.member_family-member-requires-clause-lowest c).Start)) c.requires.lowest
 
 pub count_each-requires-clause-gap : goal.count_each-requires-clause-gap
 count_each-requires-clause-gap c =
-    subst (λ n. IsFamilyOf c.args.numbers.now n c.member_family-gap.result)
-    (one (goal.at.count_each-requires-clause-gap c).Start) c.member_family-gap.ensures.family
+    subst (λ n. IsFamilyOf c.args.numbers.now n c.member_family-member.result)
+    (one (goal.at.count_each-requires-clause-gap c).Start) c.member_family-member.ensures.family
 
 pub returns-then-least-places : goal.returns-then-least-places
 returns-then-least-places c =
     let at = (goal.at.returns-then-least-places c).Start in
-    let g = c.member_family-gap.result in
-    let size : g.size ≡ c.args.least + 1 =
-    gap-size c.args.numbers.now c.args.family.now c.args.least g
-    (is-gap at g c.member_family-gap.ensures.family c.member_family-gap.ensures.held) in
+    let g = c.member_family-member.result in
+    let size : g.size ≡ c.args.gap.now.least + 1 =
+    gap-size c.args.numbers.now c.args.gap.now.family.now c.args.gap.now.least g
+    (is-gap at g c.member_family-member.ensures.family c.member_family-member.ensures.held) in
     subst (λ n. AreMore c.args.sizes.now c.count_each.new.sizes
-    (made_by c.args.numbers.now c.args.rounds.now.words.items (member_with c.args.family.now.held c.args.least) n
+    (made_by c.args.numbers.now c.args.rounds.now.words.items
+    (member_with c.args.gap.now.family.now.held c.args.gap.now.least) n
     c.args.weights.now)) size
     (subst (λ (l : List ℕ). AreMore c.args.sizes.now c.count_each.new.sizes
     (made_by c.args.numbers.now c.args.rounds.now.words.items l g.size c.args.weights.now))
-    c.member_family-gap.ensures.held
+    c.member_family-member.ensures.held
     (subst (λ (l : List ℕ). AreMore c.args.sizes.now c.count_each.new.sizes
     (made_by c.args.numbers.now l g.held g.size c.args.weights.now)) c.deref.ensures.value c.count_each.ensures))
 
 pub overflow_add-family : goal.overflow_add-family
 overflow_add-family c =
-    let most = member-few c.args.numbers.now (c.args.numbers.now.pebbles - 2) c.args.family.now c.requires.family
-    c.args.least c.requires.least (let some = c.requires.some in omega (arith, some)) in
+    let most = member-few c.args.numbers.now (c.args.numbers.now.pebbles - 2) c.args.gap.now.family.now
+    c.requires.family
+    c.args.gap.now.least c.requires.least (let some = c.requires.some in omega (arith, some)) in
     search (rules, most)
 
-inside : (c : Start) → c.args.family.now.start + c.args.least < length c.args.rounds.now.words.items
+inside : (c : Start) → c.args.gap.now.family.now.start + c.args.gap.now.least < length c.args.rounds.now.words.items
 inside c =
     let some = c.requires.some in
     let more : suc (c.args.numbers.now.pebbles - 2) ≡ c.args.numbers.now.pebbles - 1 = omega (arith, some) in
-    let below = member-below c.args.numbers.now (c.args.numbers.now.pebbles - 2) c.args.family.now c.requires.family
-    c.args.least c.requires.least in
+    let below = member-below c.args.numbers.now (c.args.numbers.now.pebbles - 2) c.args.gap.now.family.now
+    c.requires.family
+    c.args.gap.now.least c.requires.least in
     let size = c.requires.rounds.words.size in
     omega (arith, below, size, ap (λ n. ways n (places c.args.numbers.now)) more)
 
@@ -98,14 +110,15 @@ index-word-requires c =
     let low = inside (goal.at.index-word-requires c).Start in search (rules, low)
 
 -- the least place is that of a label
-label : (c : After-places) → (c.args.least + 1 ≡ c.places.result → ⊥) → c.args.least < c.args.numbers.now.labels
+label : (c : After-places) → (c.args.gap.now.least + 1 ≡ c.places.result → ⊥)
+    → c.args.gap.now.least < c.args.numbers.now.labels
 label c differs =
-    let low = place-low c.args.numbers.now (c.args.numbers.now.pebbles - 2) c.args.family.now c.requires.family
-    c.args.least c.requires.least in
+    let low = place-low c.args.numbers.now (c.args.numbers.now.pebbles - 2) c.args.gap.now.family.now c.requires.family
+    c.args.gap.now.least c.requires.least in
     let most = (labels_and_places c.args.numbers.now).1 in
     omega (arith, low, most, c.places.ensures.value, differs)
 
-small : (c : After-places) → (c.args.least + 1 ≡ c.places.result → ⊥) → c.args.least < MAX_LABELS
+small : (c : After-places) → (c.args.gap.now.least + 1 ≡ c.places.result → ⊥) → c.args.gap.now.least < MAX_LABELS
 small c differs =
     let low = label c differs in let most = c.requires.family.is_board.labels.1 in omega (arith, low, most)
 
@@ -114,9 +127,9 @@ pub count-requires-clause-word : goal.count-requires-clause-word
 count-requires-clause-word c = λ some.
     let low = inside (goal.at.count-requires-clause-word c).Start in
     let words = c.args.rounds.now.words.items in
-    let read = get_or_read words (c.args.family.now.start + c.args.least) c.index-word.result.now low
+    let read = get_or_read words (c.args.gap.now.family.now.start + c.args.gap.now.least) c.index-word.result.now low
     c.index-word.ensures 0 in
-    let under = c.requires.above.above (c.args.family.now.start + c.args.least) low
+    let under = c.requires.above.above (c.args.gap.now.family.now.start + c.args.gap.now.least) low
     (omega (arith, read, c.if-word-eq0.true)) in
     inr (omega (arith, under))
 
@@ -125,63 +138,65 @@ returns-then-word-eq0 c =
     let at = goal.at.returns-then-word-eq0 c in
     let b = c.args.numbers.now in
     let words : List ℕ = c.args.rounds.now.words.items in
-    let gap : List ℕ = member_with c.args.family.now.held c.args.least in
+    let gap : List ℕ = member_with c.args.gap.now.family.now.held c.args.gap.now.least in
     let some = c.requires.some in
     let label = label at.After-places c.if-least-places.false in
-    let none : (x : ℕ) → x < c.args.least + 1 → class_word b words gap x ≡ 0 = λ x low.
-    let below = word-below b words c.args.rounds.now.first.items c.args.family.now c.args.least
+    let none : (x : ℕ) → x < c.args.gap.now.least + 1 → class_word b words gap x ≡ 0 = λ x low.
+    let below = word-below b words c.args.rounds.now.first.items c.args.gap.now.family.now c.args.gap.now.least
     c.index-word.result.now 1 some c.requires.family c.requires.least (c.requires.rounds.first some) (omega arith)
-    (get_or_read words (c.args.family.now.start + c.args.least) c.index-word.result.now (inside at.Start)
+    (get_or_read words (c.args.gap.now.family.now.start + c.args.gap.now.least) c.index-word.result.now
+    (inside at.Start)
     c.index-word.ensures 0) (omega (arith, c.if-word-eq0.true)) x (omega (arith, low, label)) in
     omega (arith, below)
     in
     more-same c.args.sizes.now c.count.new.self
-    (once 0 (c.args.weights.now.each * c.args.least + c.args.weights.now.last))
-    (made_by b words gap (c.args.least + 1) c.args.weights.now) c.count.ensures
-    (λ wanted. made-at-zero (class_word b words gap) c.args.weights.now c.args.least wanted none)
+    (once 0 (c.args.weights.now.each * c.args.gap.now.least + c.args.weights.now.last))
+    (made_by b words gap (c.args.gap.now.least + 1) c.args.weights.now) c.count.ensures
+    (λ wanted. made-at-zero (class_word b words gap) c.args.weights.now c.args.gap.now.least wanted none)
 
 pub count_by_bits-requires-clause-least : goal.count_by_bits-requires-clause-least
 count_by_bits-requires-clause-least c =
     small (goal.at.count_by_bits-requires-clause-least c).After-places c.if-least-places.false
 
 -- what the rows of bits say
-module _ (c : After-unclosed-lasting) (low_words : c.args.family.now.start + c.args.least
-    < length c.args.rounds.now.words.items) (label : c.args.least < c.args.numbers.now.labels) where
+module _ (c : After-unclosed-lasting) (low_words : c.args.gap.now.family.now.start + c.args.gap.now.least
+    < length c.args.rounds.now.words.items) (label : c.args.gap.now.least < c.args.numbers.now.labels) where
   abbrev words : List ℕ
   words = c.args.rounds.now.words.items
 
   abbrev gap : List ℕ
-  gap = member_with c.args.family.now.held c.args.least
+  gap = member_with c.args.gap.now.family.now.held c.args.gap.now.least
 
   abbrev word : ℕ → ℕ
   word = class_word c.args.numbers.now words gap
 
-  in-upto : (x : ℕ) → x < c.args.least + 1 → has_bit c.args.upto x ≡ true
+  in-upto : (x : ℕ) → x < c.args.gap.now.least + 1 → has_bit c.args.gap.now.upto x ≡ true
   in-upto x low =
       let most = c.requires.family.is_board.labels.1 in
       (c.requires.upto x (omega (arith, low, label, most))).1 (omega (arith, low))
 
-  positive-is : (x : ℕ) → x < c.args.least + 1 → (has_bit c.unclosed-positive.result x ≡ true) ↔ (1 ≤ word x)
+  positive-is : (x : ℕ) → x < c.args.gap.now.least + 1 → (has_bit c.unclosed-positive.result x ≡ true) ↔ (1 ≤ word x)
   positive-is x low =
       let some = c.requires.some in
       let is = c.unclosed-positive.ensures.labels c.args.numbers.now words some c.requires.family
       (subst (λ (l : List (List ℕ)). TellClosed c.args.numbers.now words 1 l) (sym c.deref-2.ensures.value)
       (c.requires.rounds.first some)) (omega arith)
-      (get_or_read words (c.args.family.now.start + c.args.least) c.index-word.result.now
+      (get_or_read words (c.args.gap.now.family.now.start + c.args.gap.now.least) c.index-word.result.now
       low_words c.index-word.ensures 0) x (omega (arith, low, label)) in
       (λ has. (is.0 has).1, λ above. is.1 (in-upto x low, above))
 
-  lasting-is : (x : ℕ) → x < c.args.least + 1 → (has_bit c.unclosed-lasting.result x ≡ true) ↔ (4294967295 ≤ word x)
+  lasting-is : (x : ℕ) → x < c.args.gap.now.least + 1 → (has_bit c.unclosed-lasting.result x ≡ true) ↔
+      (4294967295 ≤ word x)
   lasting-is x low =
       let some = c.requires.some in
       let is = c.unclosed-lasting.ensures.labels c.args.numbers.now words some c.requires.family
       (subst (λ (l : List (List ℕ)). TellClosed c.args.numbers.now words 4294967295 l) (sym c.deref-3.ensures.value)
       (c.requires.rounds.closed some)) (omega arith)
-      (get_or_read words (c.args.family.now.start + c.args.least) c.index-word.result.now
+      (get_or_read words (c.args.gap.now.family.now.start + c.args.gap.now.least) c.index-word.result.now
       low_words c.index-word.ensures 0) x (omega (arith, low, label)) in
       (λ has. (is.0 has).1, λ above. is.1 (in-upto x low, above))
 
-  word-few : (x : ℕ) → x < c.args.least + 1 → word x ≤ 4294967295
+  word-few : (x : ℕ) → x < c.args.gap.now.least + 1 → word x ≤ 4294967295
   word-few x low = least-few words (member_with gap x) c.args.numbers.now.pebbles
 
   gap-is : IsClass (places c.args.numbers.now) (c.args.numbers.now.pebbles - 1) gap
@@ -189,10 +204,10 @@ module _ (c : After-unclosed-lasting) (low_words : c.args.family.now.start + c.a
       let some = c.requires.some in
       let more : suc (c.args.numbers.now.pebbles - 2) ≡ c.args.numbers.now.pebbles - 1 = omega (arith, some) in
       subst (λ n. IsClass (places c.args.numbers.now) n gap) more
-      (member-class c.args.numbers.now (c.args.numbers.now.pebbles - 2) c.args.family.now c.requires.family
-      c.args.least c.requires.least)
+      (member-class c.args.numbers.now (c.args.numbers.now.pebbles - 2) c.args.gap.now.family.now c.requires.family
+      c.args.gap.now.least c.requires.least)
 
-  some-word : (x : ℕ) → x ≤ c.args.least → (has_bit c.unclosed-positive.result x ≡ true → ⊥)
+  some-word : (x : ℕ) → x ≤ c.args.gap.now.least → (has_bit c.unclosed-positive.result x ≡ true → ⊥)
       → 0 < length c.args.sizes.now.finite.items
   some-word x most out =
       let none : word x ≡ 0 =
@@ -210,13 +225,14 @@ module _ (c : After-unclosed-lasting) (low_words : c.args.family.now.start + c.a
   all-made : (among : List ℕ) → ((x : ℕ) → x < MAX_LABELS → (has_bit among x ≡ true)
       ↔ ((has_bit c.unclosed-positive.result x ≡ true) × (has_bit c.unclosed-lasting.result x ≡ true → ⊥)))
       → (wanted : ℕ)
-      → made_by_bits c.unclosed-positive.result c.unclosed-lasting.result (c.args.least + 1) c.args.weights.now wanted
-      + made_among c.args.numbers.now words gap (c.args.least + 1) c.args.weights.now among wanted
-      ≡ made_by c.args.numbers.now words gap (c.args.least + 1) c.args.weights.now wanted
+      → made_by_bits c.unclosed-positive.result c.unclosed-lasting.result
+      (c.args.gap.now.least + 1) c.args.weights.now wanted
+      + made_among c.args.numbers.now words gap (c.args.gap.now.least + 1) c.args.weights.now among wanted
+      ≡ made_by c.args.numbers.now words gap (c.args.gap.now.least + 1) c.args.weights.now wanted
   all-made among among_is wanted =
       let most = c.requires.family.is_board.labels.1 in
       all-places c.unclosed-positive.result c.unclosed-lasting.result among word
-      (weight_with c.args.weights.now (c.args.least + 1)) (c.args.least + 1) positive-is lasting-is
+      (weight_with c.args.weights.now (c.args.gap.now.least + 1)) (c.args.gap.now.least + 1) positive-is lasting-is
       (λ x low. among_is x (omega (arith, low, label, most))) word-few wanted
 
 pub count_by_bits-requires-clause-some : goal.count_by_bits-requires-clause-some
@@ -224,34 +240,34 @@ count_by_bits-requires-clause-some c =
     let at = goal.at.count_by_bits-requires-clause-some c in
     some-word at.After-unclosed-lasting (inside at.Start) (label at.After-places c.if-least-places.false)
 
-pub member_family-gap-requires-then-not-is_empty-clause-small :
-    goal.member_family-gap-requires-then-not-is_empty-clause-small
-member_family-gap-requires-then-not-is_empty-clause-small c =
-    few (goal.at.member_family-gap-requires-then-not-is_empty-clause-small c).Start
+pub member_family-member-requires-then-not-is_empty-clause-small :
+    goal.member_family-member-requires-then-not-is_empty-clause-small
+member_family-member-requires-then-not-is_empty-clause-small c =
+    few (goal.at.member_family-member-requires-then-not-is_empty-clause-small c).Start
 
-pub member_family-gap-requires-then-not-is_empty-clause-family :
-    goal.member_family-gap-requires-then-not-is_empty-clause-family
-member_family-gap-requires-then-not-is_empty-clause-family c =
-    own (goal.at.member_family-gap-requires-then-not-is_empty-clause-family c).Start
+pub member_family-member-requires-then-not-is_empty-clause-family :
+    goal.member_family-member-requires-then-not-is_empty-clause-family
+member_family-member-requires-then-not-is_empty-clause-family c =
+    own (goal.at.member_family-member-requires-then-not-is_empty-clause-family c).Start
 
-pub member_family-gap-requires-then-not-is_empty-clause-lowest :
-    goal.member_family-gap-requires-then-not-is_empty-clause-lowest
-member_family-gap-requires-then-not-is_empty-clause-lowest c =
-    subst (λ n. IsFamilyOf c.args.numbers.now n c.args.lowest.now)
-    (sym (one (goal.at.member_family-gap-requires-then-not-is_empty-clause-lowest c).Start)) c.requires.lowest
+pub member_family-member-requires-then-not-is_empty-clause-lowest :
+    goal.member_family-member-requires-then-not-is_empty-clause-lowest
+member_family-member-requires-then-not-is_empty-clause-lowest c =
+    subst (λ n. IsFamilyOf c.args.numbers.now n c.args.gap.now.lowest.now)
+    (sym (one (goal.at.member_family-member-requires-then-not-is_empty-clause-lowest c).Start)) c.requires.lowest
 
 pub count_among-requires-clause-gap : goal.count_among-requires-clause-gap
 count_among-requires-clause-gap c =
-    subst (λ n. IsFamilyOf c.args.numbers.now n c.member_family-gap-then-not-is_empty.result)
-    (one (goal.at.count_among-requires-clause-gap c).Start) c.member_family-gap-then-not-is_empty.ensures.family
+    subst (λ n. IsFamilyOf c.args.numbers.now n c.member_family-member-then-not-is_empty.result)
+    (one (goal.at.count_among-requires-clause-gap c).Start) c.member_family-member-then-not-is_empty.ensures.family
 
 pub count_among-requires-clause-labels : goal.count_among-requires-clause-labels
 count_among-requires-clause-labels c =
     let at = goal.at.count_among-requires-clause-labels c in
-    let g = c.member_family-gap-then-not-is_empty.result in
-    let size = gap-size c.args.numbers.now c.args.family.now c.args.least g
-    (is-gap at.Start g c.member_family-gap-then-not-is_empty.ensures.family
-    c.member_family-gap-then-not-is_empty.ensures.held) in
+    let g = c.member_family-member-then-not-is_empty.result in
+    let size = gap-size c.args.numbers.now c.args.gap.now.family.now c.args.gap.now.least g
+    (is-gap at.Start g c.member_family-member-then-not-is_empty.ensures.family
+    c.member_family-member-then-not-is_empty.ensures.held) in
     let low = small at.After-places c.if-least-places.false in
     omega (arith, size, low)
 
@@ -259,32 +275,33 @@ pub count_among-requires-clause-room : goal.count_among-requires-clause-room
 count_among-requires-clause-room c =
     let low = small (goal.at.count_among-requires-clause-room c).After-places c.if-least-places.false in
     room-more c.args.sizes.now c.count_by_bits.new.sizes
-    (made_by_bits c.unclosed-positive.result c.unclosed-lasting.result (c.args.least + 1) c.args.weights.now)
+    (made_by_bits c.unclosed-positive.result c.unclosed-lasting.result (c.args.gap.now.least + 1) c.args.weights.now)
     207458501411267280 92541498588732720 c.requires.room c.count_by_bits.ensures (λ word.
-    let made = bits-made-few c.unclosed-positive.result c.unclosed-lasting.result c.args.weights.now (c.args.least + 1)
+    let made = bits-made-few c.unclosed-positive.result c.unclosed-lasting.result c.args.weights.now
+    (c.args.gap.now.least + 1)
     word c.requires.weights in
     omega (arith, made, low))
 
 pub returns-then-not-is_empty : goal.returns-then-not-is_empty
 returns-then-not-is_empty c =
     let at = goal.at.returns-then-not-is_empty c in
-    let g = c.member_family-gap-then-not-is_empty.result in
-    let size : g.size ≡ c.args.least + 1 =
-    gap-size c.args.numbers.now c.args.family.now c.args.least g
-    (is-gap at.Start g c.member_family-gap-then-not-is_empty.ensures.family
-    c.member_family-gap-then-not-is_empty.ensures.held) in
+    let g = c.member_family-member-then-not-is_empty.result in
+    let size : g.size ≡ c.args.gap.now.least + 1 =
+    gap-size c.args.numbers.now c.args.gap.now.family.now c.args.gap.now.least g
+    (is-gap at.Start g c.member_family-member-then-not-is_empty.ensures.family
+    c.member_family-member-then-not-is_empty.ensures.held) in
     let words : List ℕ = c.args.rounds.now.words.items in
-    let gap : List ℕ = member_with c.args.family.now.held c.args.least in
+    let gap : List ℕ = member_with c.args.gap.now.family.now.held c.args.gap.now.least in
     let among : List ℕ = c.without-middle.result in
     more-joined c.args.sizes.now c.count_by_bits.new.sizes c.count_among.new.sizes
-    (made_by_bits c.unclosed-positive.result c.unclosed-lasting.result (c.args.least + 1) c.args.weights.now)
-    (made_among c.args.numbers.now words gap (c.args.least + 1) c.args.weights.now among)
-    (made_by c.args.numbers.now words gap (c.args.least + 1) c.args.weights.now) c.count_by_bits.ensures
+    (made_by_bits c.unclosed-positive.result c.unclosed-lasting.result (c.args.gap.now.least + 1) c.args.weights.now)
+    (made_among c.args.numbers.now words gap (c.args.gap.now.least + 1) c.args.weights.now among)
+    (made_by c.args.numbers.now words gap (c.args.gap.now.least + 1) c.args.weights.now) c.count_by_bits.ensures
     (subst (λ n. AreMore c.count_by_bits.new.sizes c.count_among.new.sizes
     (made_among c.args.numbers.now words gap n c.args.weights.now among)) size
     (subst (λ (l : List ℕ). AreMore c.count_by_bits.new.sizes c.count_among.new.sizes
     (made_among c.args.numbers.now words l g.size c.args.weights.now among))
-    c.member_family-gap-then-not-is_empty.ensures.held
+    c.member_family-member-then-not-is_empty.ensures.held
     (subst (λ (l : List ℕ). AreMore c.count_by_bits.new.sizes c.count_among.new.sizes
     (made_among c.args.numbers.now l g.held g.size c.args.weights.now among)) c.deref-then-not-is_empty.ensures.value
     c.count_among.ensures)))
@@ -295,18 +312,19 @@ pub returns-else-not-is_empty : goal.returns-else-not-is_empty
 returns-else-not-is_empty c =
     let at = goal.at.returns-else-not-is_empty c in
     let words : List ℕ = c.args.rounds.now.words.items in
-    let gap : List ℕ = member_with c.args.family.now.held c.args.least in
+    let gap : List ℕ = member_with c.args.gap.now.family.now.held c.args.gap.now.least in
     let among : List ℕ = c.without-middle.result in
     let empty = c.is_empty.ensures.0 (let not_so = c.if-not-is_empty.false in cc) in
     let low = small at.After-places c.if-least-places.false in
     more-same c.args.sizes.now c.count_by_bits.new.sizes
-    (made_by_bits c.unclosed-positive.result c.unclosed-lasting.result (c.args.least + 1) c.args.weights.now)
-    (made_by c.args.numbers.now words gap (c.args.least + 1) c.args.weights.now) c.count_by_bits.ensures (λ wanted.
+    (made_by_bits c.unclosed-positive.result c.unclosed-lasting.result (c.args.gap.now.least + 1) c.args.weights.now)
+    (made_by c.args.numbers.now words gap (c.args.gap.now.least + 1) c.args.weights.now) c.count_by_bits.ensures
+    (λ wanted.
     let all = all-made at.After-unclosed-lasting (inside at.Start) (label at.After-places c.if-least-places.false) among
     c.without-middle.ensures wanted in
-    let none : made_among c.args.numbers.now words gap (c.args.least + 1) c.args.weights.now among wanted ≡ 0 =
-    none-among among (c.args.least + 1)
+    let none : made_among c.args.numbers.now words gap (c.args.gap.now.least + 1) c.args.weights.now among wanted ≡ 0 =
+    none-among among (c.args.gap.now.least + 1)
     (λ x. cond (nat_eq (class_word c.args.numbers.now words gap x) wanted)
-    (weight_with c.args.weights.now (c.args.least + 1) x) 0)
+    (weight_with c.args.weights.now (c.args.gap.now.least + 1) x) 0)
     (λ x under. empty x (omega (arith, under, low))) in
     omega (arith, all, none))

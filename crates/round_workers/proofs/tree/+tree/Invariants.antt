@@ -6,7 +6,7 @@ abbrev pub decreases-share : goal.decreases-share
 decreases-share g l = 4 * l.seat.view.has.width
 
 abbrev pub decreases-apart : goal.decreases-apart
-decreases-apart g l = 4 * (l.left.view.has.width + l.right.view.has.width) - 1
+decreases-apart g l = 4 * (l.seats.0.view.has.width + l.seats.1.view.has.width) - 1
 
 abbrev pub decreases-apart-scope : goal.decreases-apart-scope
 decreases-apart-scope g l = 4 * (l.left.view.has.width + l.right.view.has.width) - 2

@@ -17,8 +17,9 @@ loop-rank-preserved g c =
     ap (λ (p : HeldPosition). p.board) c.move_to.ensures ∙ was.here in
     let first = c.in-Some.ensures.first.0 in
     let ranks : List ℕ = was.ranks ++ c.in-Some.rank ∷ [] in
-    let listed = next_listed (IsMarked marks) c.args.first c.loop-rank.from was.ranks c.in-Some.rank was.after
-    was.listed (first_of_all (IsMarked marks) c.loop-rank.from c.args.end c.in-Some.rank c.in-Some.ensures.first) in
+    let listed = next_listed (IsMarked marks) c.args.span.start c.loop-rank.from was.ranks c.in-Some.rank was.after
+    was.listed (first_of_all (IsMarked marks) c.loop-rank.from c.args.span.end c.in-Some.rank c.in-Some.ensures.first)
+    in
     elim c.match-at.branch [
       | in-Some-at+in_ok-write w ↦ rw (w.text-is, w.rows-is) (record {
         here = here;
@@ -47,7 +48,8 @@ returns g c =
     let marks = c.args.marks.now in
     let was = c.loop-rank.invariant in record {
       ranks = was.ranks;
-      listed = all_listed (IsMarked marks) c.args.first c.loop-rank.from c.args.end was.ranks was.before was.listed
+      listed = all_listed (IsMarked marks) c.args.span.start c.loop-rank.from c.args.span.end was.ranks was.before
+          was.listed
           (λ number above below is. c.in_default.ensures.first number (above, below, is));
       are_lines = rw (c.in_ok-finish.ensures) was.lines;
     }

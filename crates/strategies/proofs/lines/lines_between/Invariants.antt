@@ -7,13 +7,13 @@ abbrev pub invariant-loop-rank : goal.invariant-loop-rank
 invariant-loop-rank g l = record {
   here : l.walk.board ≡ l.fn.moves;
   ranks : List ℕ;
-  listed : AreListed (IsMarked l.fn.marks) l.fn.first l.from ranks;
+  listed : AreListed (IsMarked l.fn.marks) l.fn.span.start l.from ranks;
   lines : AreLinesAt l.fn.moves (g.R.SectionRow.side l.fn.moves l.fn.start) (g.R.SectionRow.line l.fn.moves) ranks
       l.text.bytes l.rows;
-  after : l.fn.first ≤ l.from;
-  before : l.from ≤ l.fn.end;
+  after : l.fn.span.start ≤ l.from;
+  before : l.from ≤ l.fn.span.end;
   few : l.rows ≤ l.from;
 }
 
 abbrev pub decreases-loop-rank : goal.decreases-loop-rank
-decreases-loop-rank g l = l.fn.end - l.from
+decreases-loop-rank g l = l.fn.span.end - l.from

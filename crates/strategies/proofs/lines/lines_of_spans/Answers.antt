@@ -21,7 +21,7 @@ collect-requires-clause-ready g c = λ κs within.
       (
         c.requires.words,
         (
-          c.requires.reached,
+          (c.in_ok-marks.ensures c.args.start),
           rw (get_or-range_with_len 0 (c.div_ceil-count.result - 0) k d (omega arith))
               (omega (arith, few, c.requires.few, all.value, all.few)),
         ),
@@ -41,12 +41,13 @@ returns g c =
     let size = c.args.size in
     let enough = enough_spans c.configurations.result size c.div_ceil-count.result c.requires.some
     c.div_ceil-count.ensures in
-    let marks = c.args.marks.now in
+    let marks = c.in_ok-marks.marks in
     let count = c.div_ceil-count.result in
     let chain = made.1 in
     let spans : chain.0 ≡ range_with_len 0 count = chain.1 ∙ (λ i. range_with_len (start i) (end i - start i))
     ∙ ap (range_with_len 0) (omega arith) in
-    joined board side line marks (λ v. v.items) size count c.requires.reached (omega (arith, enough, all.value)) made.0
+    joined board side line marks (λ v. v.items) size count (c.in_ok-marks.ensures c.args.start) (omega
+    (arith, enough, all.value)) made.0
     (subst (λ (numbers : List ℕ). AllZip (λ (span : ℕ) (lines : Result Lines Memory). IfOk lines
     (AreLinesBetween board side line marks (span * size) (span * size + size))) numbers made.0) spans chain.2)
     c.in_ok-lines.lines made.2

@@ -1,5 +1,0 @@
-use Rattle.gap_values.specs.Inside.Sets.{ArePassed}
-use Rattle.gap_values.proofs.closing.close_family.Given as goal
-
-abbrev pub invariant-loop-index : goal.invariant-loop-index
-invariant-loop-index l = ArePassed l.board l.sets l.round l.first l.from l.index l.initial.part l.part
