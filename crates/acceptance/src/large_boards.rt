@@ -2,20 +2,18 @@
 
 ghost use Rattle.board_text.specs.Ranges.{InRange};
 
-use crate::assertions::{assert_same, assert_text};
+use crate::assertions::assert_text;
 use crate::outcomes::{
-    NOTHING, Outcome, PLENTY, Writer, assert_answered, assert_outcome, assert_refused, assert_run,
+    NOTHING, Outcome, PLENTY, Writer, assert_outcome, assert_refused, assert_run,
 };
-use board_text::Source;
+use board_text::{Source, Through};
+use command_line::BoardLimit;
 use fakes::boards::TOO_MANY_CONFIGURATIONS;
-use fakes::{Drip, Failing, once_more};
+use fakes::{Drip, Failing};
 use player::PlayEnd;
 use positions::Side;
 use round_workers::MAX_WORKERS;
-use runs::{
-    BoardLimit, RunFault, board_within, report_text_within, run_play_within,
-    run_report_with_notice, run_report_within,
-};
+use runs::{Playing, RunFault, Work};
 use std::alloc::Global;
 use std::sync::Wait;
 use std::thread::Threads;
@@ -33,18 +31,25 @@ const NOTICE: &[u8] = b"a large board: its 6545 gaps are solved, which can take 
 /// The play on it of a person who answers.
 const TRANSCRIPT: &[u8] = b"value 0\nat 0 0 0 0\nask 0\nno label for pebble 0 after 0 requests\n";
 
-/// What a report within this limit comes to, by this number of workers.
+/// What a report on this board comes to, within the limit and by this number of workers.
 fn report_outcome(
     rt: &(impl Threads + Wait + Sync),
     alloc: Global,
+    board: &str,
     limit: BoardLimit,
     workers: u8,
 ) -> Outcome<()>
     requires { InRange 1 MAX_WORKERS workers }
 {
-    let mut reader = Drip::new(TOO_MANY_CONFIGURATIONS.as_bytes(), PLENTY);
+    let mut reader = Drip::new(board.as_bytes(), PLENTY);
     let mut writer = Writer::new(PLENTY, Failing::Refuses);
-    let answer = run_report_within(rt, alloc, limit, workers, &mut reader, &mut writer);
+    let mut nobody = Through::new(Vec::new(alloc));
+    let work = Work {
+        workers,
+        limit,
+        shows_size: false,
+    };
+    let answer = work.report(rt, alloc, &mut reader, &mut writer, &mut nobody);
     Outcome {
         answer,
         read_failed: reader.failed(),
@@ -57,11 +62,12 @@ fn reports(rt: HostRuntime) {
     let alloc = rt.alloc();
     let report = REPORT.as_bytes();
     let large = BoardLimit::Large;
-    let by_one = || report_outcome(&rt, alloc, large, 1);
+    let board = TOO_MANY_CONFIGURATIONS;
+    let by_one = || report_outcome(&rt, alloc, board, large, 1);
     assert_run(&rt, "large, one worker", by_one, Ok(()), report, NOTHING);
-    let by_two = || report_outcome(&rt, alloc, large, 2);
+    let by_two = || report_outcome(&rt, alloc, board, large, 2);
     assert_run(&rt, "large, two workers", by_two, Ok(()), report, NOTHING);
-    let small = || report_outcome(&rt, alloc, BoardLimit::Small, 2);
+    let small = || report_outcome(&rt, alloc, board, BoardLimit::Small, 2);
     let refused = Err(RunFault::TooLarge);
     assert_run(&rt, "small", small, refused, NOTHING, NOTHING);
 }
@@ -72,17 +78,12 @@ fn notice_outcome(rt: &(impl Threads + Wait + Sync), alloc: Global) -> (Outcome<
     let mut reader = Drip::new(TOO_MANY_CONFIGURATIONS.as_bytes(), PLENTY);
     let mut writer = Writer::new(PLENTY, Failing::Refuses);
     let mut errors = Writer::new(PLENTY, Failing::Refuses);
-    let limit = BoardLimit::Large;
-    let answer = run_report_with_notice(
-        rt,
-        alloc,
-        limit,
-        1,
-        &mut reader,
-        &mut writer,
-        true,
-        &mut errors,
-    );
+    let work = Work {
+        workers: 1,
+        limit: BoardLimit::Large,
+        shows_size: true,
+    };
+    let answer = work.report(rt, alloc, &mut reader, &mut writer, &mut errors);
     let outcome = Outcome {
         answer,
         read_failed: reader.failed(),
@@ -106,27 +107,19 @@ fn a_person_is_told_of_the_size(rt: HostRuntime) {
     assert_outcome(&rt, "a report", &outcome, Ok(()), REPORT.as_bytes());
 }
 
-#[test]
-fn a_text_in_memory(rt: HostRuntime) {
-    let alloc = rt.alloc();
-    let text = TOO_MANY_CONFIGURATIONS.as_bytes();
-    let report = || report_text_within(&rt, alloc, BoardLimit::Large, 2, text);
-    assert_answered(&rt, "two workers", report, REPORT.as_bytes());
-}
-
 /// What a play within this limit comes to, with a person who answers.
 fn play_outcome(alloc: Global, limit: BoardLimit) -> Outcome<PlayEnd> {
     let mut board = Drip::new(TOO_MANY_CONFIGURATIONS.as_bytes(), PLENTY);
     let mut lines = Drip::new(NOTHING, PLENTY);
     let mut writer = Writer::new(PLENTY, Failing::Refuses);
-    let answer = run_play_within(
-        alloc,
+    let mut nobody = Through::new(Vec::new(alloc));
+    let playing = Playing {
+        side: Side::Labeller,
         limit,
-        Side::Labeller,
-        &mut board,
-        &mut lines,
-        &mut writer,
-    );
+        shows_size: false,
+        prompts: false,
+    };
+    let answer = playing.run(alloc, &mut board, &mut lines, &mut writer, &mut nobody);
     Outcome {
         answer,
         read_failed: board.failed() || lines.failed(),
@@ -145,15 +138,9 @@ fn plays(rt: HostRuntime) {
     assert_run(&rt, "small", small, refused, NOTHING, NOTHING);
 }
 
-/// The labels of a board with too many gaps, or the fault of its text.
-fn labels_within(alloc: Global) -> Result<u16, RunFault> {
-    let board = board_within(alloc, BoardLimit::Large, TOO_MANY_GAPS.as_bytes())?;
-    Ok(board.labels())
-}
-
 #[test]
 fn a_board_with_too_many_gaps(rt: HostRuntime) {
-    let alloc = rt.alloc();
-    let found = once_more(RunFault::Memory, || labels_within(alloc));
-    assert_same(&rt, "144 labels", found, Err(RunFault::TooLarge));
+    let report = || report_outcome(&rt, rt.alloc(), TOO_MANY_GAPS, BoardLimit::Large, 1);
+    let refused = Err(RunFault::TooLarge);
+    assert_run(&rt, "144 labels", report, refused, NOTHING, NOTHING);
 }

@@ -3,18 +3,15 @@
 
 use crate::assertions::{assert_same, assert_text};
 use crate::outcomes::{
-    NOTHING, Outcome, PLENTY, Writer, assert_answered, assert_outcome, assert_refused, assert_run,
+    NOTHING, Outcome, PLENTY, Writer, assert_outcome, assert_refused, assert_run,
 };
 use board_text::{BoardFault, BoardKind, Source};
 use fakes::boards::{CHAIN_OF_THREE, CYCLE_WITH_ONE_PEBBLE, TOO_MANY_CONFIGURATIONS};
 use fakes::documents::CHAIN_LEAST_TWO;
-use fakes::{Drip, Failing, once_more};
+use fakes::{Drip, Failing};
 use proof_check::{CheckFault, Shown, Side};
 use proof_text::{Claim, ProofFault, ProofKind};
-use runs::{
-    RunFault, Verdict, VerdictLine, board_length, check_joined_text, check_text, nested_text,
-    run_check, run_joined, run_nested, small_board,
-};
+use runs::{RunFault, Verdict, board_length, run_check, run_joined, run_nested};
 use std::alloc::{AllocError, Global};
 use std::fmt::Debug;
 use std::process::Abort;
@@ -339,68 +336,4 @@ fn a_nested_board(rt: HostRuntime) {
         let run = || nested_outcome(alloc, writes);
         assert_run(&rt, ("writes", writes), run, wanted, written, NOTHING);
     }
-}
-
-/// Asserts the answer of a check with its line, and a fault without one. A check that was refused
-/// memory is made once more.
-fn assert_verdict<F: Fn() -> Result<VerdictLine, RunFault>>(
-    rt: &impl Abort,
-    place: &str,
-    check: F,
-    wanted: Checked,
-    line: &[u8],
-)
-    requires { F.IsAlwaysCallable check }
-{
-    match once_more(RunFault::Memory, check) {
-        Ok(answer) => {
-            assert_same(rt, place, Ok(answer.verdict), wanted);
-            assert_text(rt, place, answer.line.as_bytes(), line);
-        }
-        Err(fault) => assert_same(rt, place, Err(fault), wanted),
-    }
-}
-
-/// The answer to the text of a document for a board with this text.
-fn check_both_texts(
-    rt: &(impl Threads + Sync),
-    alloc: Global,
-    board: &str,
-    proof: &str,
-) -> Result<VerdictLine, RunFault> {
-    let board = small_board(alloc, board.as_bytes())?;
-    check_text(rt, alloc, &board, proof.as_bytes())
-}
-
-/// The answer to the joined text of a board and a document.
-fn check_one_text(
-    rt: &(impl Threads + Sync),
-    alloc: Global,
-    board: &str,
-    proof: &str,
-) -> Result<VerdictLine, RunFault> {
-    let text = joined_text(alloc, board, proof).map_err(|_| RunFault::Memory)?;
-    check_joined_text(rt, alloc, text.as_bytes())
-}
-
-#[test]
-fn texts_in_memory(rt: HostRuntime) {
-    let alloc = rt.alloc();
-    let nested = || nested_text(alloc, 2, 1);
-    assert_answered(
-        &rt,
-        "a nested board",
-        nested,
-        CYCLE_WITH_ONE_PEBBLE.as_bytes(),
-    );
-    let joined = || check_one_text(&rt, alloc, CHAIN_OF_THREE, CHAIN_LEAST_TWO);
-    assert_verdict(&rt, "one text", joined, SHOWN, ACCEPTED);
-    let both = || check_both_texts(&rt, alloc, CHAIN_OF_THREE, CHAIN_LEAST_TWO);
-    assert_verdict(&rt, "two texts", both, SHOWN, ACCEPTED);
-    let fault = Err(RunFault::Board(BoardFault {
-        line: 1,
-        kind: BoardKind::Version,
-    }));
-    let no_board = || check_both_texts(&rt, alloc, "", CHAIN_LEAST_TWO);
-    assert_verdict(&rt, "no board", no_board, fault, NOTHING);
 }

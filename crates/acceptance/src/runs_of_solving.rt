@@ -9,8 +9,7 @@ use fakes::documents::PAIR_VALUE_ONE;
 use fakes::{Drip, Failing, once_more};
 use positions::Value;
 use runs::{
-    RunFault, Solved, report_text, report_text_alone, run_report, run_report_alone, run_solve,
-    run_solve_alone, solve_text, solve_text_alone,
+    RunFault, Solved, report_text_alone, run_report, run_solve, run_solve_alone, solve_text_alone,
 };
 use std::alloc::Global;
 use std::fmt::Debug;
@@ -22,7 +21,7 @@ use std::thread::Threads;
 const PAIR_REPORT: &str =
     "report 1\nlabels 2\npebbles 2\nconfigurations 4\nstart value 1\nvalue 0: 3\nvalue 1: 1\nforever: 0\nend\n";
 
-/// The command that is asked for, on this thread or by several workers.
+/// The command that is asked for, on this thread, by one worker or by several.
 #[derive(Clone, Copy, Debug, PartialEq, Eq)]
 enum Command {
     Solve,
@@ -72,7 +71,7 @@ fn outcome(
     let answer = match command {
         Command::Solve => run_solve_alone(alloc, &mut reader, &mut writer).map(Some),
         Command::SolveByTwo => run_solve(rt, alloc, 2, &mut reader, &mut writer).map(Some),
-        Command::Report => run_report_alone(alloc, &mut reader, &mut writer).map(|()| None),
+        Command::Report => run_report(rt, alloc, 1, &mut reader, &mut writer).map(|()| None),
         Command::ReportBySixteen => {
             run_report(rt, alloc, 16, &mut reader, &mut writer).map(|()| None)
         }
@@ -140,37 +139,18 @@ fn joined(alloc: Global, parts: &[Vec<u8>]) -> Result<Vec<u8>, Memory> {
 }
 
 #[test]
-fn documents_in_memory(rt: HostRuntime) {
+fn a_document_in_memory(rt: HostRuntime) {
     let alloc = rt.alloc();
     let pair = ONE_PAIR.as_bytes();
     assert_solved(&rt, alloc, "alone", || solve_text_alone(alloc, pair));
-    assert_solved(&rt, alloc, "one worker", || solve_text(&rt, alloc, 1, pair));
-    assert_solved(
-        &rt,
-        alloc,
-        "three workers",
-        || solve_text(&rt, alloc, 3, pair),
-    );
 }
 
 #[test]
-fn reports_in_memory(rt: HostRuntime) {
+fn a_report_in_memory(rt: HostRuntime) {
     let alloc = rt.alloc();
     let pair = ONE_PAIR.as_bytes();
     let report = PAIR_REPORT.as_bytes();
     assert_answered(&rt, "alone", || report_text_alone(alloc, pair), report);
-    assert_answered(
-        &rt,
-        "one worker",
-        || report_text(&rt, alloc, 1, pair),
-        report,
-    );
-    assert_answered(
-        &rt,
-        "three workers",
-        || report_text(&rt, alloc, 3, pair),
-        report,
-    );
 }
 
 #[test]

@@ -7,10 +7,11 @@ ghost use Rattle.serving.specs.Folders.{Closed, Holds};
 use crate::assertions::{assert_same, assert_text};
 use crate::outcomes::PLENTY;
 use board_text::{Failed, Source};
+use console::{Console, Terminals};
 use fakes::boards::{CHAIN_OF_THREE, LONE_LABEL};
 use fakes::documents::{CHAIN_LEAST_TWO, CHAIN_VALUE_TWO};
 use fakes::{Drip, Failing, Trickle};
-use serving::{Folder, Terminals, Trouble, Words, serve};
+use serving::{Folder, Trouble, Words, serve};
 use std::alloc::Global;
 use std::fmt::Debug;
 use std::process::Abort;
@@ -173,23 +174,17 @@ fn serve_words(
     terminals: Terminals,
     input: &str,
 ) -> Served {
-    let mut input = Drip::new(input.as_bytes(), PLENTY);
-    let mut output = Stream::new(PLENTY, Failing::Refuses);
-    let mut errors = Stream::new(PLENTY, Failing::Refuses);
-    let status = serve(
-        rt,
-        alloc,
-        words,
+    let mut console = Console {
+        input: Drip::new(input.as_bytes(), PLENTY),
+        output: Stream::new(PLENTY, Failing::Refuses),
+        errors: Stream::new(PLENTY, Failing::Refuses),
         terminals,
-        &SHELF,
-        &mut input,
-        &mut output,
-        &mut errors,
-    );
+    };
+    let status = serve(rt, alloc, words, &SHELF, &mut console);
     Served {
         status,
-        output,
-        errors,
+        output: console.output,
+        errors: console.errors,
     }
 }
 

@@ -17,6 +17,8 @@ use Rattle.nested_cycles.specs.declared.nested_boards.TheConstants.{MAX_BOARD_LE
 use Rattle.nested_cycles.specs.declared.game.TheConstants.{MAX_LEVELS}
 use Rattle.command_line.specs.Commands.{commands, program}
 use Rattle.command_line.specs.declared.asked.TheConstants.{MAX_WORKERS}
+use Rattle.command_line.specs.declared.asked.BoardLimit.{BoardLimit}
+use Rattle.command_line.specs.declared.asked.BoardLimit.TheVariants.{Small, Large}
 use Rattle.command_line.specs.declared.asked.Job.{Job}
 use Rattle.command_line.specs.declared.asked.JobFault.{JobFault}
 use Rattle.command_line.specs.declared.asked.JobFault.TheVariants.{Help, Usage, Memory}
@@ -40,6 +42,11 @@ side_word Adversary = codes "adversary"
 abbrev pub HasFlag : List Row → Text → Bool → Type 0
 HasFlag rows id is_given = one_of id rows ≡ Some (bool_text is_given)
 
+-- the limit is that of large boards
+abbrev pub is_large : BoardLimit → Bool
+is_large Large = true
+is_large Small = false
+
 -- the command that was named, with its matches, asks for the job
 abbrev pub AsksFor : Text → List Row → Job → Type 0
 AsksFor name rows jobs.Joined = ⊥
@@ -49,17 +56,17 @@ AsksFor name rows (jobs.Check board proof) = (name ≡ codes "check")
 AsksFor name rows (jobs.Nested levels pebbles) = (name ≡ codes "nested")
     × HasNumber rows (codes "levels") MAX_BOARD_LEVELS levels
     × HasNumber rows (codes "pebbles") MAX_PEBBLES pebbles
-AsksFor name rows (jobs.Solve workers large board) = (name ≡ codes "solve")
+AsksFor name rows (jobs.Solve workers limit board) = (name ≡ codes "solve")
     × HasNumber rows (codes "workers") MAX_WORKERS workers
-    × HasFlag rows (codes "large") large
+    × HasFlag rows (codes "large") (is_large limit)
     × (first_of (codes "board") rows ≡ Some board.now)
-AsksFor name rows (jobs.Report workers large board) = (name ≡ codes "report")
+AsksFor name rows (jobs.Report workers limit board) = (name ≡ codes "report")
     × HasNumber rows (codes "workers") MAX_WORKERS workers
-    × HasFlag rows (codes "large") large
+    × HasFlag rows (codes "large") (is_large limit)
     × (first_of (codes "board") rows ≡ Some board.now)
-AsksFor name rows (jobs.Play side large board) = (name ≡ codes "play")
+AsksFor name rows (jobs.Play side limit board) = (name ≡ codes "play")
     × (first_of (codes "side") rows ≡ Some (side_word side))
-    × HasFlag rows (codes "large") large
+    × HasFlag rows (codes "large") (is_large limit)
     × (first_of (codes "board") rows ≡ Some board.now)
 AsksFor name rows (jobs.Climb levels) =
     (name ≡ codes "climb") × HasNumber rows (codes "levels") MAX_LEVELS levels
@@ -76,9 +83,9 @@ IsInRange jobs.Joined = Unit {0}
 IsInRange (jobs.Check board proof) = Unit {0}
 IsInRange (jobs.Nested levels pebbles) =
     (1 ≤ levels) × (levels ≤ MAX_BOARD_LEVELS) × (1 ≤ pebbles) × (pebbles ≤ MAX_PEBBLES)
-IsInRange (jobs.Solve workers large board) = (1 ≤ workers) × (workers ≤ MAX_WORKERS)
-IsInRange (jobs.Report workers large board) = (1 ≤ workers) × (workers ≤ MAX_WORKERS)
-IsInRange (jobs.Play side large board) = Unit {0}
+IsInRange (jobs.Solve workers limit board) = (1 ≤ workers) × (workers ≤ MAX_WORKERS)
+IsInRange (jobs.Report workers limit board) = (1 ≤ workers) × (workers ≤ MAX_WORKERS)
+IsInRange (jobs.Play side limit board) = Unit {0}
 IsInRange (jobs.Climb levels) = (1 ≤ levels) × (levels ≤ MAX_LEVELS)
 
 -- the word after the program's name is `help`

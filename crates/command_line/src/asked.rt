@@ -9,6 +9,15 @@ use std::alloc::AllocError;
 /// The largest number of workers that may be asked for.
 pub const MAX_WORKERS: u8 = 16;
 
+/// How large the board of a job may be.
+#[derive(Clone, Copy, Debug, PartialEq, Eq)]
+pub enum BoardLimit {
+    /// At most `MAX_CONFIGURATIONS` configurations.
+    Small,
+    /// At most `MAX_GAPS` gaps, which are the classes of all pebbles but one.
+    Large,
+}
+
 /// A job that the program is asked to do.
 #[derive(Clone, Copy, Debug, PartialEq, Eq)]
 pub enum Job<'a> {
@@ -24,28 +33,25 @@ pub enum Job<'a> {
         levels: u8,
         pebbles: u8,
     },
-    /// Solve the board, a path, with 1 to `MAX_WORKERS` workers, and write its strategy document.
-    /// For a `large` board, which is limited by its gaps and not by its configurations, that is
-    /// the document by classes.
+    /// Solve the board, a path, with 1 to `MAX_WORKERS` workers, and write its strategy document,
+    /// which is that by classes if the board may be large.
     Solve {
         workers: u8,
-        large: bool,
+        limit: BoardLimit,
         board: &'a str,
     },
     /// Solve the board, a path, with 1 to `MAX_WORKERS` workers, and write the number of
-    /// configurations of each value. A `large` board is limited by its gaps and not by its
-    /// configurations.
+    /// configurations of each value.
     Report {
         workers: u8,
-        large: bool,
+        limit: BoardLimit,
         board: &'a str,
     },
     /// Play on the board, a path. The person plays this side, by lines of standard input, and the
-    /// program the other one. A `large` board is limited by its gaps and not by its
-    /// configurations.
+    /// program the other one.
     Play {
         side: Side,
-        large: bool,
+        limit: BoardLimit,
         board: &'a str,
     },
     /// Play on the nested board with 1 to `MAX_LEVELS` levels, and as many pebbles. The person is

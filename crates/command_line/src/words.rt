@@ -10,11 +10,12 @@ ghost use Rattle.command_line.specs.Commands as commands;
 ghost use Rattle.command_line.specs.Reading.{HasFlag, HasNumber, IsInRange, IsReadAs, ShowsWords};
 ghost use Rattle.command_line.specs.Reading.{ShowsKind};
 ghost use Rattle.command_line.specs.Reading.{AsksForHelpBy, Names, NamesCommands};
-ghost use Rattle.command_line.specs.Reading.{asks_for_help, has_topic, is_topic, side_word};
+ghost use Rattle.command_line.specs.Reading.{asks_for_help, has_topic, is_large, is_topic};
+ghost use Rattle.command_line.specs.Reading.{side_word};
 ghost use Rattle.command_line.specs.Inside.Reading.{MisusesBy, Reads, ShowsHelp};
 ghost use Rattle.command_line.specs.Inside.Reading.{has_flag, has_number, has_side, is_read};
 
-use crate::asked::{Job, JobFault, MAX_WORKERS};
+use crate::asked::{BoardLimit, Job, JobFault, MAX_WORKERS};
 use crate::commands::{VERSION, program};
 use board_text::MAX_PEBBLES;
 use clap::error::ErrorKind;
@@ -218,11 +219,11 @@ fn solve_job<'a>(values: &ArgMatches<'a>) -> Option<Job<'a>>
     ensures numbers { IfSome result IsInRange }
 {
     let workers = number(values, "workers", MAX_WORKERS)?;
-    let large = flag(values, "large")?;
+    let limit = limit(values)?;
     let board = text(values, "board")?;
     Some(Job::Solve {
         workers,
-        large,
+        limit,
         board,
     })
 }
@@ -241,11 +242,11 @@ fn report_job<'a>(values: &ArgMatches<'a>) -> Option<Job<'a>>
     ensures numbers { IfSome result IsInRange }
 {
     let workers = number(values, "workers", MAX_WORKERS)?;
-    let large = flag(values, "large")?;
+    let limit = limit(values)?;
     let board = text(values, "board")?;
     Some(Job::Report {
         workers,
-        large,
+        limit,
         board,
     })
 }
@@ -265,9 +266,9 @@ fn play_job<'a>(values: &ArgMatches<'a>) -> Option<Job<'a>>
     ensures numbers { IfSome result IsInRange }
 {
     let side = side(values)?;
-    let large = flag(values, "large")?;
+    let limit = limit(values)?;
     let board = text(values, "board")?;
-    Some(Job::Play { side, large, board })
+    Some(Job::Play { side, limit, board })
 }
 
 fn climb_job<'a>(values: &ArgMatches<'a>) -> Option<Job<'a>>
@@ -286,6 +287,19 @@ fn side(matches: &ArgMatches<'_>) -> Option<Side>
         "labeller" => Some(Side::Labeller),
         "adversary" => Some(Side::Adversary),
         _ => None,
+    }
+}
+
+/// How large the board may be, by whether the word `--large` was given.
+fn limit(matches: &ArgMatches<'_>) -> Option<BoardLimit>
+    ensures { MatchOption result
+        (has_flag (rows_of (found_of matches.now)) (codes "large") ≡ false)
+        (λ limit. HasFlag (rows_of (found_of matches.now)) (codes "large") (is_large limit)) }
+{
+    if flag(matches, "large")? {
+        Some(BoardLimit::Large)
+    } else {
+        Some(BoardLimit::Small)
     }
 }
 

@@ -1,6 +1,6 @@
 //! The jobs that the words of command lines ask for.
 
-use command_line::{Job, JobFault, asks_to_explain, job, words_of_job};
+use command_line::{BoardLimit, Job, JobFault, asks_to_explain, job, words_of_job};
 use positions::Side;
 use std::alloc::Global;
 use std::process::Abort;
@@ -87,48 +87,53 @@ fn nested_boards(rt: HostRuntime) {
 
 #[test]
 fn solving(rt: HostRuntime) {
-    for (words, workers, large, board) in [
-        (["pebbles", "solve", "a"].as_slice(), 1, false, "a"),
+    for (words, workers, limit, board) in [
+        (
+            ["pebbles", "solve", "a"].as_slice(),
+            1,
+            BoardLimit::Small,
+            "a",
+        ),
         (
             ["pebbles", "solve", "--workers", "2", "a"].as_slice(),
             2,
-            false,
+            BoardLimit::Small,
             "a",
         ),
         (
             ["pebbles", "solve", "a", "--workers=16"].as_slice(),
             16,
-            false,
+            BoardLimit::Small,
             "a",
         ),
         (
             ["pebbles", "solve", "--workers", "1", "--", "a"].as_slice(),
             1,
-            false,
+            BoardLimit::Small,
             "a",
         ),
         (
             ["pebbles", "solve", "--large", "b"].as_slice(),
             1,
-            true,
+            BoardLimit::Large,
             "b",
         ),
         (
             ["pebbles", "solve", "b", "--workers=3", "--large"].as_slice(),
             3,
-            true,
+            BoardLimit::Large,
             "b",
         ),
         (
             ["pebbles", "solve", "--", "--large"].as_slice(),
             1,
-            false,
+            BoardLimit::Small,
             "--large",
         ),
     ] {
         let wanted = Job::Solve {
             workers,
-            large,
+            limit,
             board,
         };
         assert_asks(&rt, rt.alloc(), words, wanted);
@@ -137,36 +142,41 @@ fn solving(rt: HostRuntime) {
 
 #[test]
 fn reports(rt: HostRuntime) {
-    for (words, workers, large, board) in [
-        (["pebbles", "report", "a"].as_slice(), 1, false, "a"),
+    for (words, workers, limit, board) in [
+        (
+            ["pebbles", "report", "a"].as_slice(),
+            1,
+            BoardLimit::Small,
+            "a",
+        ),
         (
             ["pebbles", "report", "--workers=3", "b"].as_slice(),
             3,
-            false,
+            BoardLimit::Small,
             "b",
         ),
         (
             ["pebbles", "report", "--large", "b"].as_slice(),
             1,
-            true,
+            BoardLimit::Large,
             "b",
         ),
         (
             ["pebbles", "report", "b", "--large", "--workers=3"].as_slice(),
             3,
-            true,
+            BoardLimit::Large,
             "b",
         ),
         (
             ["pebbles", "report", "--", "--large"].as_slice(),
             1,
-            false,
+            BoardLimit::Small,
             "--large",
         ),
     ] {
         let wanted = Job::Report {
             workers,
-            large,
+            limit,
             board,
         };
         assert_asks(&rt, rt.alloc(), words, wanted);
@@ -175,26 +185,26 @@ fn reports(rt: HostRuntime) {
 
 #[test]
 fn plays(rt: HostRuntime) {
-    for (words, side, large) in [
+    for (words, side, limit) in [
         (
             ["pebbles", "play", "--side", "labeller", "a"].as_slice(),
             Side::Labeller,
-            false,
+            BoardLimit::Small,
         ),
         (
             ["pebbles", "play", "--side=adversary", "a"].as_slice(),
             Side::Adversary,
-            false,
+            BoardLimit::Small,
         ),
         (
             ["pebbles", "play", "a", "--large", "--side", "adversary"].as_slice(),
             Side::Adversary,
-            true,
+            BoardLimit::Large,
         ),
     ] {
         let wanted = Job::Play {
             side,
-            large,
+            limit,
             board: "a",
         };
         assert_asks(&rt, rt.alloc(), words, wanted);

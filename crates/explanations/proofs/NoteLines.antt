@@ -1,8 +1,8 @@
 -- An explanation that is written in parts is one line.
 use Rattle.std.proofs.Common.{◌≡◌, ℕ, List, [], ◌∷◌, ◌++◌, refl, sym, ap, ◌∙◌, append_assoc}
 use Rattle.board_text.specs.LineForms.{with_line_feed}
-use Rattle.player.specs.Showing.{HasNoControl, shown}
-use Rattle.player.proofs.Cited.{plain_both, plain_if_shown}
+use Rattle.console.specs.Showing.{HasNoControl, shown}
+use Rattle.console.proofs.Cited.{plain_both, plain_if_shown}
 
 -- a line that was written in parts
 pub line_of_parts : (about colon words : List ℕ)

@@ -2,6 +2,7 @@
 
 use crate::lines::{from_line, split_line};
 use crate::trouble::Trouble;
+use command_line::BoardLimit;
 use runs::{MAX_BOARD_BYTES, MAX_JOINED_BYTES, MAX_PROOF_BYTES, board_length};
 
 // The words say these limits.
@@ -37,44 +38,26 @@ pub(crate) enum Given {
     Joined,
 }
 
-/// The boards that a job takes.
-#[derive(Clone, Copy, PartialEq, Eq)]
-pub enum Taken {
-    /// Those with few enough configurations; after the word `--large` those with few enough gaps.
-    SmallUnlessLarge,
-    /// Those with few enough gaps.
-    Large,
-    /// Those with few enough configurations; with a document by classes, all.
-    SmallUnlessByClasses,
-}
-
-impl Taken {
-    /// The boards that a job takes which has the word `--large`, and was given it if `large` is
-    /// true.
-    pub fn large_if(large: bool) -> Taken {
-        if large {
-            Taken::Large
-        } else {
-            Taken::SmallUnlessLarge
-        }
-    }
-}
-
 /// The inputs of a job: the board, and the document or the lines of a play.
 #[derive(Clone, Copy)]
 pub struct Inputs<'a, 'h> {
     pub(crate) given: Given,
-    pub(crate) taken: Taken,
+    /// How large the board may be; for a check its document says it.
+    pub(crate) limit: Option<BoardLimit>,
     pub(crate) board: Origin<'a, 'h>,
     pub(crate) other: Origin<'a, 'h>,
 }
 
 impl<'a, 'h> Inputs<'a, 'h> {
-    /// A board in a file, one of those that are `taken`, and what else is read.
-    pub fn alone(taken: Taken, board: Origin<'a, 'h>, other: Origin<'a, 'h>) -> Inputs<'a, 'h> {
+    /// A board in a file, within the `limit`, and what else is read.
+    pub fn alone(
+        limit: BoardLimit,
+        board: Origin<'a, 'h>,
+        other: Origin<'a, 'h>,
+    ) -> Inputs<'a, 'h> {
         Inputs {
             given: Given::Alone,
-            taken,
+            limit: Some(limit),
             board,
             other,
         }
@@ -84,7 +67,7 @@ impl<'a, 'h> Inputs<'a, 'h> {
     pub fn apart(board: Origin<'a, 'h>, other: Origin<'a, 'h>) -> Inputs<'a, 'h> {
         Inputs {
             given: Given::Apart,
-            taken: Taken::SmallUnlessByClasses,
+            limit: None,
             board,
             other,
         }
@@ -102,7 +85,7 @@ impl<'h> Inputs<'static, 'h> {
         };
         Inputs {
             given: Given::Joined,
-            taken: Taken::SmallUnlessByClasses,
+            limit: None,
             board: Origin {
                 text: board,
                 ..input
@@ -120,7 +103,7 @@ impl Inputs<'static, 'static> {
     /// Those of a job that reads no file, and possibly standard input, which may have this trouble.
     pub fn without_files(trouble: Option<Trouble>) -> Inputs<'static, 'static> {
         let lines = Origin::lines(trouble);
-        Inputs::alone(Taken::SmallUnlessLarge, lines, lines)
+        Inputs::alone(BoardLimit::Small, lines, lines)
     }
 }
 

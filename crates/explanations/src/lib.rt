@@ -13,7 +13,7 @@ mod sizes;
 mod trouble;
 mod usage;
 
-pub use inputs::{Inputs, Origin, Taken};
+pub use inputs::{Inputs, Origin};
 pub use note_lines::write_note;
 pub use notes::Note;
 pub use trouble::Trouble;

@@ -2,12 +2,12 @@
 
 ghost use Rattle.std.specs.Prelude.{ℕ, List};
 ghost use Rattle.board_text.specs.LineForms.{with_line_feed};
-ghost use Rattle.player.specs.Showing.{HasNoControl, IsMore};
+ghost use Rattle.console.specs.Showing.{HasNoControl, IsMore};
 
 use crate::notes::Note;
 use crate::parts::Part;
 use board_text::Sink;
-use player::{write_digits, write_more, write_shown};
+use console::{write_digits, write_more, write_shown};
 
 /// Writes an explanation, as one line without control characters.
 pub fn write_note<E: Sink>(note: &Note<'_>, errors: &mut E)

@@ -1,12 +1,13 @@
 //! Explanations of faults, of refused documents and of wrong use.
 
 use crate::hints::board_hint;
-use crate::inputs::{Inputs, STANDARD_INPUT, Taken};
+use crate::inputs::{Inputs, STANDARD_INPUT};
 use crate::parts::{Part, Parts, around, joined, two_words, words};
 use crate::proof_hints::{class_refusal_hint, proof_hint, refusal_hint};
 use crate::sizes::Sizes;
 use crate::trouble::Trouble;
 use crate::usage::usage_hint;
+use command_line::BoardLimit;
 use gap_values::MAX_GAPS;
 use positions::MAX_CONFIGURATIONS;
 use runs::{MAX_PROOF_BYTES, RunFault, Verdict};
@@ -41,7 +42,7 @@ impl<'a> Note<'a> {
             },
             RunFault::TooLarge => Note {
                 about: board.name,
-                parts: too_large_hint(inputs.taken, board.text),
+                parts: too_large_hint(inputs.limit, board.text),
             },
             RunFault::DocumentTooLarge => Note {
                 about: board.name,
@@ -166,19 +167,19 @@ fn trouble_hint(name: &str, trouble: Trouble) -> Parts {
     }
 }
 
-/// The words for a board with these first bytes that is too large for a job which takes such
-/// boards.
-fn too_large_hint(taken: Taken, board: &[u8]) -> Parts {
+/// The words for a board with these first bytes that is too large for a job with this limit, or for
+/// a check.
+fn too_large_hint(limit: Option<BoardLimit>, board: &[u8]) -> Parts {
     let Some(sizes) = Sizes::of(board) else {
         return words(
             "it has more configurations than 1048576: labels to the power of pebbles, in `board 2` \
             with one label more",
         );
     };
-    match taken {
-        Taken::SmallUnlessByClasses => without_rows_for_classes(sizes),
-        Taken::SmallUnlessLarge if sizes.has_few_gaps() => with_few_gaps(sizes),
-        Taken::SmallUnlessLarge | Taken::Large => with_many_gaps(sizes),
+    match limit {
+        None => without_rows_for_classes(sizes),
+        Some(BoardLimit::Small) if sizes.has_few_gaps() => with_few_gaps(sizes),
+        Some(_) => with_many_gaps(sizes),
     }
 }
 

@@ -19,7 +19,8 @@ ghost use Rattle.serving.specs.declared.serving.Words.{Words as AllWords};
 ghost use Rattle.pebbles.specs.Program.{Gives, fresh};
 
 use board_text::Through;
-use serving::{System, Terminals, Words, serve};
+use console::{Console, Terminals};
+use serving::{System, Words, serve};
 use std::alloc::Global;
 use std::fs::{File, Files};
 use std::io::{IsTerminal, Read, Write};
@@ -31,21 +32,18 @@ use std::{env, io};
 
 fn main(rt: HostRuntime) -> ExitCode {
     let alloc = rt.alloc();
-    let terminals = Terminals {
-        input_closed: stand_in(&rt),
-        input: rt.stdin().is_terminal(),
-        errors: rt.stderr().is_terminal(),
+    let console = Console {
+        input: rt.stdin(),
+        output: rt.stdout(),
+        errors: rt.stderr(),
+        terminals: Terminals {
+            input_closed: stand_in(&rt),
+            input: rt.stdin().is_terminal(),
+            errors: rt.stderr().is_terminal(),
+        },
     };
     let words = OwnedWords::of_process(&rt, alloc);
-    serve_owned(
-        &rt,
-        alloc,
-        &words,
-        terminals,
-        rt.stdin(),
-        rt.stdout(),
-        rt.stderr(),
-    )
+    serve_owned(&rt, alloc, &words, console)
 }
 
 /// Serves the words over streams of which nothing was read and to which nothing was written, in the
@@ -54,35 +52,32 @@ fn serve_owned<I: Read + Drop, O: Write + Drop, E: Write + Drop>(
     rt: &(impl Files + Threads + Wait + Sync),
     alloc: Global,
     owned: &OwnedWords,
-    terminals: Terminals,
-    input: I,
-    output: O,
-    errors: E,
+    console: Console<I, O, E>,
 ) -> ExitCode
     ensures { (words : AllWords) × Gives owned.now words
         × (read : Wrapped I) × (written : Wrapped O) × (told : Wrapped E)
-        × ServesAnyWords (λ _. Unknown) terminals
-        (stream_of (λ s. I.remaining s.inner) (λ s. s.has_failed) (fresh input) read)
-        (stream_of (λ s. O.contents s.inner) (λ s. s.has_failed) (fresh output) written)
-        (stream_of (λ s. E.contents s.inner) (λ s. s.has_failed) (fresh errors) told)
+        × ServesAnyWords (λ _. Unknown) console.terminals
+        (stream_of (λ s. I.remaining s.inner) (λ s. s.has_failed) (fresh console.input) read)
+        (stream_of (λ s. O.contents s.inner) (λ s. s.has_failed) (fresh console.output) written)
+        (stream_of (λ s. E.contents s.inner) (λ s. s.has_failed) (fresh console.errors) told)
         (exit_status result) words }
 {
     let mut texts = Vec::new(alloc);
     let words = owned.borrowed(&mut texts);
     let folder = System::new(rt);
-    let mut input = Through::new(input);
-    let mut output = Through::new(output);
-    let mut errors = Through::new(errors);
-    let status = serve(
-        rt,
-        alloc,
-        &words,
+    let Console {
+        input,
+        output,
+        errors,
         terminals,
-        &folder,
-        &mut input,
-        &mut output,
-        &mut errors,
-    );
+    } = console;
+    let mut console = Console {
+        input: Through::new(input),
+        output: Through::new(output),
+        errors: Through::new(errors),
+        terminals,
+    };
+    let status = serve(rt, alloc, &words, &folder, &mut console);
     ExitCode::from(status)
 }
 

@@ -10,8 +10,6 @@ mod outcomes;
 #[cfg(test)]
 mod plays;
 #[cfg(test)]
-mod plays_in_memory;
-#[cfg(test)]
 mod plays_without_ranks;
 #[cfg(test)]
 mod prompts;

@@ -6,7 +6,7 @@ ghost use Rattle.std.specs.Prelude.{◌≡◌};
 use crate::outcomes::{Outcome, PLENTY, Writer, assert_play};
 use board_text::{Board, Source, Through};
 use fakes::{Drip, Failing, Shape, shaped};
-use player::{PlayEnd, play_adversary_with_prompts, play_labeller_with_prompts};
+use player::{AsAdversary, AsLabeller, PlayEnd, play};
 use positions::Side;
 use solved_boards::numbered_values_of;
 use solver::NumberedValues;
@@ -38,8 +38,17 @@ fn outcome(
     let (lines, out, err) = (&mut reader, &mut writer, &mut nobody);
     let moves = NumberedMoves::new(board, values);
     let answer = match person {
-        Side::Adversary => play_adversary_with_prompts(alloc, &moves, lines, out, false, err),
-        Side::Labeller => play_labeller_with_prompts(alloc, &moves, lines, out, false, err),
+        Side::Adversary => {
+            play(
+                alloc,
+                &AsAdversary { moves: &moves },
+                lines,
+                out,
+                false,
+                err,
+            )
+        }
+        Side::Labeller => play(alloc, &AsLabeller { moves: &moves }, lines, out, false, err),
     };
     Outcome {
         answer,

@@ -8,10 +8,7 @@ use board_text::Board;
 use fakes::boards::{CHAIN_OF_THREE, THREE_CYCLE};
 use fakes::plays::{ANSWERS, ASKED, NO_STRATEGY, REPLIES, REQUESTS};
 use fakes::{Drip, Failing};
-use player::{
-    PlayEnd, PlayFault, play_adversary_with_prompts, play_labeller_with_prompts,
-    play_nested_with_prompts,
-};
+use player::{AsAdversary, AsClimber, AsLabeller, PlayEnd, PlayFault, play};
 use positions::Side;
 use solved_boards::numbered_values_of;
 use solver::NumberedValues;
@@ -105,9 +102,25 @@ fn board_play(
     let moves = NumberedMoves::new(board, values);
     let answer = match person {
         Side::Adversary => {
-            play_adversary_with_prompts(alloc, &moves, &mut lines, out, true, err)
+            play(
+                alloc,
+                &AsAdversary { moves: &moves },
+                &mut lines,
+                out,
+                true,
+                err,
+            )
         }
-        Side::Labeller => play_labeller_with_prompts(alloc, &moves, &mut lines, out, true, err),
+        Side::Labeller => {
+            play(
+                alloc,
+                &AsLabeller { moves: &moves },
+                &mut lines,
+                out,
+                true,
+                err,
+            )
+        }
     };
     Prompted {
         answer,
@@ -195,7 +208,8 @@ fn a_person_is_told_nothing_without_a_strategy(rt: HostRuntime) {
 fn climb_play(alloc: Global, lines: &[u8]) -> Prompted {
     let mut lines = Drip::new(lines, PLENTY);
     let (mut output, mut errors) = (writer(), writer());
-    let answer = play_nested_with_prompts(alloc, 2, &mut lines, &mut output, true, &mut errors);
+    let game = AsClimber::of(2);
+    let answer = play(alloc, &game, &mut lines, &mut output, true, &mut errors);
     Prompted {
         answer,
         output,

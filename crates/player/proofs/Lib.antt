@@ -2,8 +2,6 @@ pub mod LineBuffer
 pub mod CutLines
 pub mod ReadLines
 pub mod WrittenPlay
-pub mod ShownTexts
-pub mod MoreTexts
 pub mod ListedLabels
 pub mod ChoiceLines
 pub mod OpeningLines
@@ -16,5 +14,4 @@ pub mod OneTranscript
 pub mod NestedTrees
 pub mod NestedTexts
 pub mod SomeTranscript
-pub mod MemoryPlays
 pub mod Cited

@@ -8,9 +8,9 @@ use Rattle.std.proofs.lemmas.List.{flat_map_more}
 use Rattle.std.specs.Prelude.{All, AllPairs, Bool, Contains, Option}
 use Rattle.std.specs.Fmt.{decimal}
 use Rattle.board_text.specs.LineForms.{spaced_numbers}
-use Rattle.player.specs.Showing.{HasNoControl, IsMore, shown}
-use Rattle.player.proofs.MoreTexts.{then_more}
-use Rattle.player.proofs.ShownTexts.{plain_both}
+use Rattle.console.specs.Showing.{HasNoControl, IsMore, shown}
+use Rattle.console.proofs.Cited.{then_more}
+use Rattle.console.proofs.Cited.{plain_both}
 
 low_or_last : (bound x : ℕ) → x < bound + 1 → (x < bound) ⊎ (bound ≡ x)
 low_or_last bound x low =

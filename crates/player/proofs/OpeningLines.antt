@@ -11,7 +11,8 @@ use Rattle.player.specs.declared.end.PlayEnd.{PlayEnd}
 use Rattle.player.specs.declared.end.PlayFault.{PlayFault}
 use Rattle.player.specs.declared.end.PlayFault.TheVariants.{Read, Write, Memory, Limit}
 use Rattle.player.proofs.ReadLines.{none_yet, came_of}
-use Rattle.player.proofs.WrittenPlay.{goes_on_or_ends, front_behind, front_kept, Appends-none}
+use Rattle.console.proofs.Cited.{Appends-none, front_behind}
+use Rattle.player.proofs.WrittenPlay.{goes_on_or_ends, front_kept}
 
 -- a play, by its opening and what it brings behind it
 module _ (Brings Played : List (List ℕ) → List ℕ → Standing → Type 0) (opening : List ℕ)

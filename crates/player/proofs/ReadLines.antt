@@ -13,7 +13,7 @@ use Rattle.player.specs.Inside.Words.{Spells}
 use Rattle.player.specs.Inside.LineInput.{Unread, GivesLine}
 use Rattle.player.specs.Play.{LinesCame, FullLinesCame, LinesWereAll}
 use Rattle.player.specs.declared.line_meaning.LineMeaning.{LineMeaning}
-use Rattle.player.specs.declared.play.TheConstants.{MOST_LINES}
+use Rattle.player.specs.declared.turns.TheConstants.{MOST_LINES}
 
 pub record HasCome (left_old left_now : Option (List ℕ)) (lines : List (List ℕ)) (unread : Unread) : Type 0 where
   pub came : ((unread.has_ended ≡ false) × FullLinesCame left_old left_now lines unread.bytes)

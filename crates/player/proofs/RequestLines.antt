@@ -18,6 +18,8 @@ use Rattle.player.specs.Transcript.{Standing, Going, Over, PersonAsks, BeginsPla
 use Rattle.player.specs.Transcript.{opening_lines, no_request_line}
 use Rattle.player.specs.Transcript.{stuck_line, takes_line, at_line}
 use Rattle.player.specs.Inside.PlayState.{PlayState}
+use Rattle.player.specs.Opened.{StandsAt}
+use Rattle.player.specs.declared.game.Opened.TheVariants.{Goes}
 use Rattle.player.specs.Inside.Steps.{AddsText}
 use Rattle.player.specs.declared.line_meaning.LineMeaning.TheVariants.{Number, Other}
 use Rattle.player.specs.declared.end.PlayEnd.TheVariants.{Stuck}
@@ -91,9 +93,14 @@ pub begins : (board : PlainBoard) (value : Value) → HasValue board board.start
     → BeginsPlay (PersonAsks board) (opening_lines board value board.start) (Going board.start 0)
 begins board value has = (value, has, refl, refl)
 
--- the text that opens it, by a board that is the same
-pub opening_of : (space board : PlainBoard) (value : Value) (old new : List ℕ) → space ≡ board → old ≡ []
-    → new ≡ old ++ opening_lines space value space.start → new ≡ opening_lines board value board.start
-opening_of space board value old new same none said =
-    said ∙ ap (λ l. l ++ opening_lines space value space.start) none
-    ∙ ap (λ (b : PlainBoard). opening_lines b value b.start) same
+-- the text that opens it, by a board that is the same, and the play from there on
+pub opens_play : (space board : PlainBoard) (value : Value) (old new : List ℕ) (seat : PlayState) → space ≡ board
+    → HasValue board board.start value → new ≡ old ++ opening_lines space value space.start
+    → seat ≡ record { board = board; at = board.start; requests = 0 }
+    → AddsText old new (λ said. (to : Standing) × BeginsPlay (PersonAsks board) said to
+    × StandsAt (λ (s : PlayState). PersonAsks s.board) (λ s. s.at) (λ s. s.requests) (PersonAsks board) (Goes seat) to)
+opens_play space board value old new seat same has said is = rw is (
+  opening_lines board value board.start,
+  said ∙ ap (λ (b : PlainBoard). old ++ opening_lines b value b.start) same,
+  (Going board.start 0, begins board value has, (refl, refl, refl)),
+)

@@ -13,16 +13,13 @@ use Rattle.player.specs.Prompts.{ArePrompts, AreToldResponses, BringsAndTells, E
 use Rattle.player.specs.Prompts.{IsToldAt}
 use Rattle.player.specs.Prompts.{IsToldIn, IsToldLast, NearlyTells, TellsBefore, greeting_of, left_words, shown_line}
 use Rattle.player.specs.Prompts.{start_of, start_words}
-use Rattle.player.specs.Showing.{AreForPerson, HasNoControl}
 use Rattle.player.specs.Transcript.{AreResponses, BeginsPlay, Game, Going, IsPlayed, IsResponse, Over}
 use Rattle.player.specs.Transcript.{Standing}
 use Rattle.player.specs.declared.end.PlayEnd.{PlayEnd}
 use Rattle.player.specs.declared.end.PlayFault.{PlayFault}
 use Rattle.player.specs.declared.end.PlayFault.TheVariants.{Read, Write, Memory, Limit}
-use Rattle.player.specs.declared.play.TheConstants.{MOST_LINES}
-use Rattle.player.proofs.MoreTexts.{nothing_for_person, one_line, then_lines}
+use Rattle.player.specs.declared.turns.TheConstants.{MOST_LINES}
 use Rattle.player.proofs.OpeningLines.{breaks_off, has_ended, over_at_once, unopened, unshown_opening}
-use Rattle.player.proofs.ShownTexts.{plain_if_shown}
 use Rattle.player.proofs.ReadLines.{HasCome}
 use Rattle.player.proofs.WrittenPlay.{brings_more, no_line}
 
@@ -313,45 +310,7 @@ untold_at_once shows game opening end opens left taken_old taken_new written las
   fault = tt;
 }
 
--- ---- all are lines for a person
-
-module _ (game : Game) where
-  here_for_person : (at : Standing) (told : List ℕ) → IsToldAt game at told → AreForPerson true told
-  here_for_person (Going at requests) told (value, choices, has, are, is) =
-      subst (AreForPerson true) (sym is) (one_line HasNoControl _ (plain_if_shown (left_words value ++ choices)))
-  here_for_person (Over end) told none = subst (AreForPerson true) (sym none) (nothing_for_person true)
-
-  prompts_told : (from : Standing) (lines : List (List ℕ)) (text told : List ℕ) (to : Standing)
-      → AreToldResponses game from lines text told to → AreForPerson true told
-  prompts_told from [] text told to (none, here, same) = here_for_person from told here
-  prompts_told from (line ∷ lines) text told to (said, more, prompt, later, next, here, is, rest, text_is, told_is) =
-      subst (AreForPerson true) (sym told_is)
-      (then_lines HasNoControl true prompt later (here_for_person from prompt here)
-      (prompts_told next lines more later to rest))
-
-  brings_for_person : (shows : Bool) (from : Standing) (told : List ℕ) (lines : List (List ℕ)) (text : List ℕ)
-      (to : Standing)
-      → BringsAndTells shows game from told lines text to → AreForPerson shows told
-  brings_for_person true (Going at requests) told lines text to (prompts, brings, is) =
-      subst (AreForPerson true) (sym is)
-      (then_lines HasNoControl true (shown_line (greeting_of game)) prompts
-      (one_line HasNoControl _ (plain_if_shown (greeting_of game)))
-      (prompts_told (Going at requests) lines text prompts to brings))
-  brings_for_person true (Over end) told lines text to (brings, none) =
-      subst (AreForPerson true) (sym none) (nothing_for_person true)
-  brings_for_person false from told lines text to (brings, none) = none
-
-  last_for_person : (shows : Bool) (end : PlayEnd) (told : List ℕ) → IsToldLast shows game end told
-      → AreForPerson shows told
-  last_for_person true end told (value, has, inl (before, is)) =
-      subst (AreForPerson true) (sym is) (one_line HasNoControl _ (plain_if_shown (start_words value)))
-  last_for_person true end told (value, has, inr (reached, none)) =
-      subst (AreForPerson true) (sym none) (nothing_for_person true)
-  last_for_person false end told none = none
-
-  played_for_person : (shows : Bool) (told : List ℕ) (lines : List (List ℕ)) (text : List ℕ) (to : Standing)
-      → IsPlayedAndTold shows game told lines text to → AreForPerson shows told
-  played_for_person shows told lines text to is = brings_for_person shows is.first told lines is.more to is.brings
+-- ---- nobody is told anything
 
 -- whatever ended or broke off was played
 module _ (Played : List (List ℕ) → List ℕ → Standing → Type 0) (Claim : Type 0)
@@ -377,38 +336,41 @@ module _ (Played : List (List ℕ) → List ℕ → Standing → Type 0) (Claim 
   of_broken Write (lines, rest, text, came, either, written) = of_either lines rest text either
   of_broken Memory (lines, rest, text, came, either, written) = of_either lines rest text either
 
-module _ (shows : Bool) (game : Game) (told : List ℕ) (left_old left_new : Option (List ℕ)) where
-  nearly_for_person : (lines : List (List ℕ)) (text : List ℕ) (to : Standing)
-      → NearlyTells (IsPlayedAndTold shows game) (IsPlayed game) left_old left_new told lines text to
-      → AreForPerson shows told
-  nearly_for_person lines text to (inl tells) = played_for_person game shows told lines text to tells
-  nearly_for_person lines text to (inr (played, inl (before, last, is, front, stood, tells))) =
-      played_for_person game shows told before front stood tells
-  nearly_for_person lines text to (inr (played, inr (unread, is, none))) =
-      subst (AreForPerson shows) (sym none) (nothing_for_person shows)
+module _ (game : Game) (told : List ℕ) (left_old left_new : Option (List ℕ)) where
+  nothing_brought : (from : Standing) (lines : List (List ℕ)) (text : List ℕ) (to : Standing)
+      → BringsAndTells false game from told lines text to → told ≡ []
+  nothing_brought from lines text to (brings, none) = none
 
-  before_for_person : (fault : PlayFault) (lines : List (List ℕ)) (text : List ℕ) (to : Standing)
-      → TellsBefore fault (IsPlayedAndTold shows game) (IsPlayed game) left_old left_new told lines text to
-      → AreForPerson shows told
-  before_for_person Read lines text to tells = played_for_person game shows told lines text to tells
-  before_for_person Limit lines text to tells = played_for_person game shows told lines text to tells
-  before_for_person Write lines text to tells = nearly_for_person lines text to tells
-  before_for_person Memory lines text to tells = nearly_for_person lines text to tells
+  nearly_nothing : (lines : List (List ℕ)) (text : List ℕ) (to : Standing)
+      → NearlyTells (IsPlayedAndTold false game) (IsPlayed game) left_old left_new told lines text to → told ≡ []
+  nearly_nothing lines text to (inl tells) = nothing_brought tells.first lines tells.more to tells.brings
+  nearly_nothing lines text to (inr (played, inl (before, last, is, front, stood, tells))) =
+      nothing_brought tells.first before tells.more stood tells.brings
+  nearly_nothing lines text to (inr (played, inr (unread, is, none))) = none
 
-  pub prompts_for_person : (taken_old taken_new : Option (List ℕ)) (result : Result PlayEnd PlayFault)
-      → ArePrompts shows game left_old left_new taken_old taken_new result told → AreForPerson shows told
-  prompts_for_person taken_old taken_new (Ok end) is = both is.ok
+  nothing_before : (fault : PlayFault) (lines : List (List ℕ)) (text : List ℕ) (to : Standing)
+      → TellsBefore fault (IsPlayedAndTold false game) (IsPlayed game) left_old left_new told lines text to
+      → told ≡ []
+  nothing_before Read lines text to tells = nothing_brought tells.first lines tells.more to tells.brings
+  nothing_before Limit lines text to tells = nothing_brought tells.first lines tells.more to tells.brings
+  nothing_before Write lines text to tells = nearly_nothing lines text to tells
+  nothing_before Memory lines text to tells = nearly_nothing lines text to tells
+
+  -- without a person to see it
+  pub nothing_told : (taken_old taken_new : Option (List ℕ)) (result : Result PlayEnd PlayFault)
+      → ArePrompts false game left_old left_new taken_old taken_new result told → told ≡ []
+  nothing_told taken_old taken_new (Ok end) is = both is.ok
     where
       both : (prompts last : List ℕ)
-          × HasEnded (IsPlayedAndTold shows game prompts) left_old left_new taken_old taken_new end
-          × IsToldLast shows game end last × (told ≡ prompts ++ last)
-          → AreForPerson shows told
+          × HasEnded (IsPlayedAndTold false game prompts) left_old left_new taken_old taken_new end
+          × IsToldLast false game end last × (told ≡ prompts ++ last)
+          → told ≡ []
       both (prompts, last, ended, lasts, is) =
-          subst (AreForPerson shows) (sym is)
-          (then_lines HasNoControl shows prompts last
-          (of_ended (IsPlayedAndTold shows game prompts) (AreForPerson shows prompts)
-          (played_for_person game shows prompts) left_old left_new taken_old taken_new end ended)
-          (last_for_person game shows end last lasts))
-  prompts_for_person taken_old taken_new (Err fault) is =
-      of_broken (TellsBefore fault (IsPlayedAndTold shows game) (IsPlayed game) left_old left_new told)
-      (AreForPerson shows told) (before_for_person fault) left_old left_new taken_old taken_new fault is.fault
+          rw (
+            of_ended (IsPlayedAndTold false game prompts) (prompts ≡ [])
+                (λ lines text to tells. tells.brings.1) left_old left_new taken_old taken_new end ended,
+            lasts,
+          ) at is
+  nothing_told taken_old taken_new (Err fault) is =
+      of_broken (TellsBefore fault (IsPlayedAndTold false game) (IsPlayed game) left_old left_new told)
+      (told ≡ []) (nothing_before fault) left_old left_new taken_old taken_new fault is.fault

@@ -6,6 +6,7 @@ use Rattle.std.specs.Io.KnownBytes.{Appends, Keeps, IsAtEnd}
 use Rattle.std.proofs.lemmas.List.{length_push}
 use Rattle.board_text.specs.Streams.{AppendsPrefix}
 use Rattle.board_text.proofs.Cited.{Appends-trans, Appends-kept, front_taken}
+use Rattle.console.proofs.Cited.{front_behind}
 use Rattle.player.specs.Transcript.{Game, Standing, Going, Over, IsResponse, AreResponses, stopped_line}
 use Rattle.player.specs.Inside.Steps.{FailsToWrite}
 use Rattle.player.specs.Play.{LinesCame, GoesOnOrEnds, HasEnded, BreaksOff}
@@ -16,7 +17,7 @@ use Rattle.player.specs.declared.end.PlayFault.TheVariants.{Read, Write, Memory,
 use Rattle.player.proofs.ReadLines.{HasCome, ComesNext, came_of, came_with}
 use Rattle.player.specs.declared.end.PlayEnd.{PlayEnd}
 use Rattle.player.specs.declared.end.PlayEnd.TheVariants.{Stopped}
-use Rattle.player.specs.declared.play.TheConstants.{MOST_LINES}
+use Rattle.player.specs.declared.turns.TheConstants.{MOST_LINES}
 
 -- one more line and its response
 pub brings_more : (game : Game) (from : Standing) (lines : List (List ℕ)) (line text said : List ℕ) (to next : Standing)
@@ -46,16 +47,6 @@ pub goes_on_or_ends : (Played : List (List ℕ) → List ℕ → Standing → Ty
     → GoesOnOrEnds Played left lines rest text
 goes_on_or_ends Played left lines rest text (Going at requests) played = inl (at, requests, played)
 goes_on_or_ends Played left lines rest text (Over end) played = inr (end, inl played)
-
--- a text and then a prefix of more make a prefix of both together
-pub front_behind : (a b c : Option (List ℕ)) (front more : List ℕ) → Appends a b front → AppendsPrefix b c more
-    → AppendsPrefix a c (front ++ more)
-front_behind a b c front more written begun =
-    let size = begun.0 in
-    front_taken a c (front ++ more) (front ++ take size more) (drop size more)
-    (ap (λ l. front ++ l) (sym (take-append-drop size more))
-    ∙ sym (append_assoc front (take size more) (drop size more)))
-    (Appends-trans a b c front (take size more) written begun.2)
 
 -- a text after which nothing was written is a prefix of it and more
 pub front_kept : (a b c : Option (List ℕ)) (front tail : List ℕ) → Appends a b front → Keeps b c
@@ -201,7 +192,3 @@ pub unshown : {X : Type 0} (result : Result X PlayFault) (fault : PlayFault) (Is
     → IfErr result (FailsToWrite taken_old taken_new IsRight)
 unshown result fault IsRight taken_old taken_new text said is write begun same right =
     rw is (rw write (said, subst (AppendsPrefix taken_old taken_new) same begun, right))
-
-pub Appends-none : (a : Option (List ℕ)) → Appends a a []
-Appends-none None = tt
-Appends-none (Some x) = sym (append-nil x)

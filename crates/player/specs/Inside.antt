@@ -4,6 +4,4 @@ pub mod PlayState
 pub mod Transcript
 pub mod Steps
 pub mod Words
-pub mod Faults
 pub mod Prompts
-pub mod Showing

@@ -10,7 +10,7 @@ use Rattle.player.specs.Transcript.{Game, Standing, Going, Over, Stops, IsPlayed
 use Rattle.player.specs.declared.end.PlayEnd.{PlayEnd}
 use Rattle.player.specs.declared.end.PlayFault.{PlayFault}
 use Rattle.player.specs.declared.end.PlayFault.TheVariants.{Read, Write, Memory, Limit}
-use Rattle.player.specs.declared.play.TheConstants.{MOST_LINES}
+use Rattle.player.specs.declared.turns.TheConstants.{MOST_LINES}
 
 -- these lines and the rest were all the bytes that came, each line with its line feed
 abbrev pub FullLinesCame : Option (List ℕ) → Option (List ℕ) → List (List ℕ) → List ℕ → Type 0
@@ -81,14 +81,3 @@ pub record TellsBothStreams (result : Result PlayEnd PlayFault)
     : Type 0 where
   pub read : (reading_failed ≡ true) ↔ (result ≡ Err Read)
   pub write : (writing_failed ≡ true) ↔ (result ≡ Err Write)
-
--- the bytes in memory are a person's lines, or begin with lines that end the play, and the text is
--- their transcript, with this end
-abbrev pub PlaysBytes : Game → List ℕ → List ℕ → PlayEnd → Type 0
-PlaysBytes game bytes text end =
-    (left : List ℕ) × HasEnded (IsPlayed game) (Some bytes) (Some left) (Some []) (Some text) end
-
--- a play over bytes in memory is broken off by this fault
-abbrev pub BreaksOffBytes : Game → List ℕ → PlayFault → Type 0
-BreaksOffBytes game bytes fault = (left text : List ℕ)
-    × BreaksOff (IsPlayed game) (Some bytes) (Some left) (Some []) (Some text) fault

@@ -13,7 +13,7 @@ use Rattle.positions.specs.declared.value.Value.{Value}
 use Rattle.positions.specs.declared.value.Value.TheVariants.{Finite, Forever}
 use Rattle.strategies.specs.Best.{IsBestRequest, IsLess}
 use Rattle.player.specs.Play.{BreaksOff, HasEnded}
-use Rattle.player.specs.Showing.{shown}
+use Rattle.console.specs.Showing.{shown}
 use Rattle.player.specs.Transcript.{Game, PersonAsks, PersonAnswers, PersonClimbs}
 use Rattle.player.specs.Transcript.{Standing, Going, Over, BeginsPlay, AreResponses, IsPlayed}
 use Rattle.player.specs.Transcript.{IsResponse}

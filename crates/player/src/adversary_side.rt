@@ -4,18 +4,17 @@ ghost use Rattle.std.specs.Prelude.{◌≡◌, ◌+◌, ◌<◌, ◌≤◌, ◌^
 ghost use Rattle.std.specs.Prelude.{string_bytes};
 ghost use Rattle.player.specs.Laws.{KeepsToValue};
 ghost use Rattle.player.specs.Play.{HasEnded, BreaksOff, TellsBothStreams};
-ghost use Rattle.player.specs.Prompts.{ArePrompts};
-ghost use Rattle.player.specs.Showing.{IsMore};
 ghost use Rattle.player.specs.Transcript.{IsPlayed, PersonAsks, Replies};
 ghost use Rattle.player.specs.Inside.Transcript.{standing_of};
 ghost use Rattle.player.specs.Inside.Steps.{AddsText};
 
 use crate::end::{PlayEnd, PlayFault};
+use crate::game::{Game, Opened, play};
 use crate::line_meaning::LineMeaning;
-use crate::play::{Play, flush, play_on};
 use crate::prompts::{PEBBLES_GREETING, tell_pebble_choices};
+use crate::turns::Play;
 use crate::writing::{end_stopped, say_no_request, write_opening, write_reply, write_stuck};
-use board_text::{Board, Sink, Source, Through};
+use board_text::{Board, Memory, Sink, Source, Through};
 use positions::Value;
 use solver::Values;
 use std::alloc::{AllocError, Global};
@@ -53,52 +52,40 @@ pub fn play_adversary_side<R: Source, W: Sink>(
 {
     let moves = NumberedMoves::new(board, values.numbered());
     let mut nobody = Through::new(Vec::new(alloc));
-    play_adversary_with_prompts(alloc, &moves, reader, writer, false, &mut nobody)
+    let game = AsAdversary { moves: &moves };
+    play(alloc, &game, reader, writer, false, &mut nobody)
 }
 
-/// Plays as `play_adversary_side` does on the board of `moves`, and if `shows` says so, prompts the
-/// person by lines on `errors`: a greeting, before each line the value and the pebbles that can be
-/// asked for, and at the end that the play could have gone on, if fewer requests were answered than
-/// the value of the start has.
-///
-/// If `errors` fails, or has failed before, nothing more is written there, and the play goes on.
-pub fn play_adversary_with_prompts<M: Moves, R: Source, W: Sink, E: Sink>(
-    alloc: Global,
-    moves: &M,
-    reader: &mut R,
-    writer: &mut W,
-    shows: bool,
-    errors: &mut E,
-) -> Result<PlayEnd, PlayFault>
-    requires reader_ready { R.has_failed reader.old ≡ false }
-    requires reader_unended { R.has_ended reader.old ≡ false }
-    requires writer_ready { W.has_failed writer.old ≡ false }
-    ensures ok { IfOk result (HasEnded (IsPlayed (PersonAsks (M.board moves.now)))
-        (R.remaining reader.old) (R.remaining reader.new)
-        (W.contents writer.old) (W.contents writer.new)) }
-    ensures fault { IfErr result (BreaksOff (IsPlayed (PersonAsks (M.board moves.now)))
-        (R.remaining reader.old) (R.remaining reader.new)
-        (W.contents writer.old) (W.contents writer.new)) }
-    ensures value { IfOk result (KeepsToValue (PersonAsks (M.board moves.now))) }
-    ensures streams { TellsBothStreams result (R.has_failed reader.new) (W.has_failed writer.new) }
-    ensures prompts { (told : List ℕ) × ArePrompts shows (PersonAsks (M.board moves.now))
-        (R.remaining reader.old) (R.remaining reader.new)
-        (W.contents writer.old) (W.contents writer.new) result told
-        × IsMore E.contents E.has_failed errors.old errors.new told }
-{
-    let board = moves.board();
-    let mut text = String::new(alloc);
-    let Ok(()) = write_opening(&mut text, board, moves.value(board.start())) else {
-        return Err(PlayFault::Memory);
-    };
-    flush(&mut text, writer)?;
-    let mut play = AdversarySide::new(moves);
-    play_on(&mut play, &mut text, reader, writer, shows, errors)
+/// A game in which the person is the adversary: each line names a pebble, which is put on the label
+/// of the best answer.
+#[derive(Clone, Copy)]
+pub struct AsAdversary<'a, M: Moves> {
+    /// The best moves on the board.
+    pub moves: &'a M,
+}
+
+impl<'a, M: Moves> Game for AsAdversary<'a, M> {
+    type Playing = AdversarySide<'a, M>;
+
+    ghost game = { λ g. PersonAsks (M.board g.moves.now) };
+
+    fn open(
+        &self,
+        _alloc: Global,
+        text: &mut String,
+    ) -> Result<Opened<AdversarySide<'a, M>>, Memory> {
+        write_opening(text, self.moves.board(), self.start_value())?;
+        Ok(Opened::Goes(AdversarySide::new(self.moves)))
+    }
+
+    fn start_value(&self) -> Value {
+        self.moves.value(self.moves.board().start())
+    }
 }
 
 /// A play in which the person is the adversary.
 #[derive(Drop)]
-struct AdversarySide<'a, M: Moves> {
+pub struct AdversarySide<'a, M: Moves> {
     moves: &'a M,
     configuration: Configuration,
     /// The number of answered requests.

@@ -6,22 +6,22 @@ ghost use Rattle.board_text.specs.Ranges.{InRange};
 ghost use Rattle.nested_cycles.specs.NestedGame.{plain_game};
 ghost use Rattle.player.specs.Laws.{KeepsToValue};
 ghost use Rattle.player.specs.Play.{HasEnded, BreaksOff, TellsBothStreams};
-ghost use Rattle.player.specs.Prompts.{ArePrompts};
-ghost use Rattle.player.specs.Showing.{IsMore};
 ghost use Rattle.player.specs.Transcript.{IsPlayed, NestedReplies, PersonClimbs};
 ghost use Rattle.player.specs.Inside.Transcript.{standing_of};
 ghost use Rattle.player.specs.Inside.Steps.{AddsText};
 
 use crate::end::{PlayEnd, PlayFault};
+use crate::game::{Game, Opened, play};
 use crate::line_meaning::LineMeaning;
 use crate::nested_writing::{write_levels, write_nested_reply};
-use crate::play::{Play, flush, play_on};
 use crate::prompts::{PEBBLES_GREETING, tell_pebble_choices};
+use crate::turns::Play;
 use crate::writing::{end_stopped, say_no_request};
 use board_text::{Memory, Sink, Source, Through};
 use nested_cycles::{MAX_LEVELS, NestedGame};
 use positions::Value;
 use std::alloc::{AllocError, Global};
+use std::marker::Model;
 
 /// Plays on the nested board of level `levels`, 1 to `MAX_LEVELS`, with as many pebbles as levels:
 /// each line of the person names a pebble, which is put on the word of the nested reply.
@@ -50,53 +50,64 @@ pub fn play_nested<R: Source, W: Sink>(
     ensures streams { TellsBothStreams result (R.has_failed reader.new) (W.has_failed writer.new) }
 {
     let mut nobody = Through::new(Vec::new(alloc));
-    play_nested_with_prompts(alloc, levels, reader, writer, false, &mut nobody)
+    play(
+        alloc,
+        &AsClimber::of(levels),
+        reader,
+        writer,
+        false,
+        &mut nobody,
+    )
 }
 
-/// Plays as `play_nested` does, and if `shows` says so, prompts the person by lines on `errors`: a
-/// greeting, before each line that requests can be answered for ever and the pebbles that can be
-/// asked for, and at the end that the play could have gone on.
-///
-/// If `errors` fails, or has failed before, nothing more is written there, and the play goes on.
-pub fn play_nested_with_prompts<R: Source, W: Sink, E: Sink>(
-    alloc: Global,
+/// A game on the nested board of a level, with as many pebbles as levels: each line of the person
+/// names a pebble, which is put on the word of the nested reply.
+#[derive(Drop)]
+pub struct AsClimber {
     levels: u8,
-    reader: &mut R,
-    writer: &mut W,
-    shows: bool,
-    errors: &mut E,
-) -> Result<PlayEnd, PlayFault>
-    requires level { InRange 1 MAX_LEVELS levels }
-    requires reader_ready { R.has_failed reader.old ≡ false }
-    requires reader_unended { R.has_ended reader.old ≡ false }
-    requires writer_ready { W.has_failed writer.old ≡ false }
-    ensures ok { IfOk result (HasEnded (IsPlayed (PersonClimbs levels)) (R.remaining reader.old)
-        (R.remaining reader.new)
-        (W.contents writer.old) (W.contents writer.new)) }
-    ensures fault { IfErr result (BreaksOff (IsPlayed (PersonClimbs levels))
-        (R.remaining reader.old) (R.remaining reader.new)
-        (W.contents writer.old) (W.contents writer.new)) }
-    ensures value { IfOk result (KeepsToValue (PersonClimbs levels)) }
-    ensures streams { TellsBothStreams result (R.has_failed reader.new) (W.has_failed writer.new) }
-    ensures prompts { (told : List ℕ) × ArePrompts shows (PersonClimbs levels)
-        (R.remaining reader.old) (R.remaining reader.new)
-        (W.contents writer.old) (W.contents writer.new) result told
-        × IsMore E.contents E.has_failed errors.old errors.new told }
-{
-    let Ok(mut play) = Climb::new(alloc, levels) else {
-        return Err(PlayFault::Memory);
-    };
-    let mut text = String::new(alloc);
-    let Ok(()) = write_levels(&mut text, levels, play.nested.words()) else {
-        return Err(PlayFault::Memory);
-    };
-    flush(&mut text, writer)?;
-    play_on(&mut play, &mut text, reader, writer, shows, errors)
+}
+
+impl Model for AsClimber {
+    ghost use Rattle.std.specs.Prelude.{ℕ};
+    ghost use Rattle.board_text.specs.Ranges.{InRange};
+    ghost use Rattle.nested_cycles.specs.declared.game.TheConstants.{MAX_LEVELS};
+
+    ghost Value = { ℕ };
+
+    ghost view = { λ g. g.levels };
+
+    ghost invariant = { λ g. InRange 1 MAX_LEVELS g.levels };
+}
+
+impl AsClimber {
+    /// The game on the nested board of level `levels`, 1 to `MAX_LEVELS`.
+    pub fn of(levels: u8) -> AsClimber
+        requires { InRange 1 MAX_LEVELS levels }
+        ensures { result ≡ levels }
+    {
+        AsClimber { levels }
+    }
+}
+
+impl Game for AsClimber {
+    type Playing = Climb;
+
+    ghost game = { λ levels. PersonClimbs levels };
+
+    fn open(&self, alloc: Global, text: &mut String) -> Result<Opened<Climb>, Memory> {
+        let play = Climb::new(alloc, self.levels)?;
+        write_levels(text, self.levels, play.nested.words())?;
+        Ok(Opened::Goes(play))
+    }
+
+    fn start_value(&self) -> Value {
+        Value::Forever
+    }
 }
 
 /// A play on a nested board.
 #[derive(Drop)]
-struct Climb {
+pub struct Climb {
     nested: NestedGame,
     /// The number of answered requests.
     requests: u32,

@@ -13,20 +13,20 @@ ghost use Rattle.player.specs.Laws.{KeepsToValue};
 ghost use Rattle.player.specs.Play.{HasEnded, BreaksOff, TellsBothStreams};
 ghost use Rattle.player.specs.Inside.PlayState.{HasAsked, IsRequestAt, IsStandingAfter, IsLegalAt};
 ghost use Rattle.player.specs.Inside.Prompts.{AreLegalAt};
-ghost use Rattle.player.specs.Prompts.{ArePrompts};
-ghost use Rattle.player.specs.Showing.{HasNoControl, IsMore};
+ghost use Rattle.console.specs.Showing.{HasNoControl, IsMore};
 ghost use Rattle.player.specs.Transcript.{Standing, IsPlayed, BeginsPlay, PersonAnswers};
 ghost use Rattle.player.specs.Transcript.{AsksAfterLine, no_answer_line};
 ghost use Rattle.player.specs.Inside.Transcript.{standing_of};
 ghost use Rattle.player.specs.Inside.Steps.{AddsText};
 
 use crate::end::{PlayEnd, PlayFault};
+use crate::game::{Game, Opened, play};
 use crate::line_meaning::LineMeaning;
-use crate::play::{Play, flush, play_on};
-use crate::prompts::{LABELS_GREETING, tell_last};
-use crate::showing::{write_digits, write_shown};
+use crate::prompts::LABELS_GREETING;
+use crate::turns::Play;
 use crate::writing::{end_stopped, write_at, write_opening, write_stuck};
-use board_text::{Board, MAX_LABELS, Sink, Source, Through};
+use board_text::{Board, MAX_LABELS, Memory, Sink, Source, Through};
+use console::{write_digits, write_shown};
 use positions::{LabelSet, Value, legal_labels};
 use solver::Values;
 use std::alloc::{AllocError, Global};
@@ -65,53 +65,36 @@ pub fn play_labeller_side<R: Source, W: Sink>(
 {
     let moves = NumberedMoves::new(board, values.numbered());
     let mut nobody = Through::new(Vec::new(alloc));
-    play_labeller_with_prompts(alloc, &moves, reader, writer, false, &mut nobody)
+    let game = AsLabeller { moves: &moves };
+    play(alloc, &game, reader, writer, false, &mut nobody)
 }
 
-/// Plays as `play_labeller_side` does on the board of `moves`, and if `shows` says so, prompts the
-/// person by lines on `errors`: a greeting, before each line the value and the labels that are
-/// legal for the pebble that is asked for, and at the end that the play could have gone on, if
-/// fewer requests were answered than the value of the start has.
-///
-/// If `errors` fails, or has failed before, nothing more is written there, and the play goes on.
-pub fn play_labeller_with_prompts<M: Moves, R: Source, W: Sink, E: Sink>(
-    alloc: Global,
-    moves: &M,
-    reader: &mut R,
-    writer: &mut W,
-    shows: bool,
-    errors: &mut E,
-) -> Result<PlayEnd, PlayFault>
-    requires reader_ready { R.has_failed reader.old ≡ false }
-    requires reader_unended { R.has_ended reader.old ≡ false }
-    requires writer_ready { W.has_failed writer.old ≡ false }
-    ensures ok { IfOk result (HasEnded (IsPlayed (PersonAnswers (M.board moves.now)))
-        (R.remaining reader.old) (R.remaining reader.new)
-        (W.contents writer.old) (W.contents writer.new)) }
-    ensures fault { IfErr result (BreaksOff (IsPlayed (PersonAnswers (M.board moves.now)))
-        (R.remaining reader.old) (R.remaining reader.new)
-        (W.contents writer.old) (W.contents writer.new)) }
-    ensures value { IfOk result (KeepsToValue (PersonAnswers (M.board moves.now))) }
-    ensures streams { TellsBothStreams result (R.has_failed reader.new) (W.has_failed writer.new) }
-    ensures prompts { (told : List ℕ) × ArePrompts shows (PersonAnswers (M.board moves.now))
-        (R.remaining reader.old) (R.remaining reader.new)
-        (W.contents writer.old) (W.contents writer.new) result told
-        × IsMore E.contents E.has_failed errors.old errors.new told }
-{
-    let mut text = String::new(alloc);
-    let Ok(next) = open(&mut text, moves) else {
-        return Err(PlayFault::Memory);
-    };
-    flush(&mut text, writer)?;
-    match next {
-        Next::Asks(pebble) => {
-            let mut play = LabellerSide::new(moves, pebble);
-            play_on(&mut play, &mut text, reader, writer, shows, errors)
+/// A game in which the person is the labeller: best requests are made, and each line answers one
+/// with a label.
+#[derive(Clone, Copy)]
+pub struct AsLabeller<'a, M: Moves> {
+    /// The best moves on the board.
+    pub moves: &'a M,
+}
+
+impl<'a, M: Moves> Game for AsLabeller<'a, M> {
+    type Playing = LabellerSide<'a, M>;
+
+    ghost game = { λ g. PersonAnswers (M.board g.moves.now) };
+
+    fn open(
+        &self,
+        _alloc: Global,
+        text: &mut String,
+    ) -> Result<Opened<LabellerSide<'a, M>>, Memory> {
+        match open(text, self.moves)? {
+            Next::Asks(pebble) => Ok(Opened::Goes(LabellerSide::new(self.moves, pebble))),
+            Next::Ends(end) => Ok(Opened::Ends(end)),
         }
-        Next::Ends(end) => {
-            tell_last(moves.value(moves.board().start()), end, shows, errors);
-            Ok(end)
-        }
+    }
+
+    fn start_value(&self) -> Value {
+        self.moves.value(self.moves.board().start())
     }
 }
 
@@ -179,7 +162,7 @@ fn write_request(text: &mut String, request: Request, requests: u32) -> Result<N
 
 /// A play in which the person is the labeller.
 #[derive(Drop)]
-struct LabellerSide<'a, M: Moves> {
+pub struct LabellerSide<'a, M: Moves> {
     moves: &'a M,
     configuration: Configuration,
     /// The pebble that is asked for, which is the best request.

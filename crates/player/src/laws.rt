@@ -11,7 +11,7 @@ ghost use Rattle.player.specs.Transcript.{IsPlayed, IsTranscript};
 ghost use Rattle.player.specs.declared.end.PlayEnd.{PlayEnd as PlayEndData};
 
 use crate::lines::MOST_BYTES;
-use crate::play::MOST_LINES;
+use crate::turns::MOST_LINES;
 
 /// Against a person who is the adversary the labeller's side is stuck only after as many answered
 /// requests as the start's value, and never if that is forever. A person who is the labeller

@@ -4,12 +4,12 @@
 ghost use Rattle.std.specs.Prelude.{◌≤◌, ℕ, List};
 ghost use Rattle.player.specs.Inside.Prompts.{IsToldHere, IsToldAtEnd, greeting_if};
 ghost use Rattle.player.specs.Prompts.{left_words, pebble_choices, start_words};
-ghost use Rattle.player.specs.Showing.{HasNoControl, IsMore, shown};
+ghost use Rattle.console.specs.Showing.{HasNoControl, IsMore, shown};
 
 use crate::end::PlayEnd;
-use crate::play::Play;
-use crate::showing::{write_digits, write_line, write_more, write_shown};
+use crate::turns::Play;
 use board_text::Sink;
+use console::{write_digits, write_line, write_more, write_shown};
 use positions::Value;
 
 /// The greeting of a person who asks for pebbles.

@@ -23,8 +23,8 @@ use Rattle.runs.specs.Run.{Bytes, Ran}
 use Rattle.runs.specs.SolveRun.{IsSolution, IsSolved}
 use Rattle.runs.specs.Texts.{HasNoBoard, HasNoProof, IsBoardAmong, IsBoardWithin, IsByClasses, IsMemory, IsSmallBoard}
 use Rattle.runs.specs.Texts.{IsWithinLimit}
-use Rattle.runs.specs.declared.boards.BoardLimit.{BoardLimit}
-use Rattle.runs.specs.declared.boards.BoardLimit.TheVariants.{Small}
+use Rattle.command_line.specs.declared.asked.BoardLimit.{BoardLimit}
+use Rattle.command_line.specs.declared.asked.BoardLimit.TheVariants.{Small}
 use Rattle.runs.specs.Texts.{IsWrongAmong, IsWrongWithin, OfAnySize}
 use Rattle.graphs.specs.declared.graph.Numbering.{Numbering}
 use Rattle.graphs.specs.declared.graph.Numbering.TheVariants.{Ordered, Classes}

@@ -10,8 +10,8 @@ use Rattle.classes.specs.declared.counting.TheConstants.{MAX_CLASSES}
 use Rattle.classes.proofs.Cited.{few-of-small, ways-within}
 use Rattle.gap_values.specs.declared.rounds.TheConstants.{MAX_GAPS}
 use Rattle.runs.specs.Texts.{IsWithinLimit}
-use Rattle.runs.specs.declared.boards.BoardLimit.{BoardLimit}
-use Rattle.runs.specs.declared.boards.BoardLimit.TheVariants.{Small, Large}
+use Rattle.command_line.specs.declared.asked.BoardLimit.{BoardLimit}
+use Rattle.command_line.specs.declared.asked.BoardLimit.TheVariants.{Small, Large}
 
 -- a board has few enough gaps within either limit
 pub few_gaps : (limit : BoardLimit) (board : PlainBoard) → IsBoard board → IsWithinLimit limit board

@@ -12,7 +12,7 @@ use Rattle.classes.specs.Numbers.{ways}
 use Rattle.gap_values.specs.declared.rounds.TheConstants.{MAX_GAPS}
 use Rattle.graphs.specs.declared.graph.Numbering.{Numbering}
 use Rattle.graphs.specs.declared.graph.Numbering.TheVariants.{Ordered, Classes}
-use Rattle.runs.specs.declared.boards.BoardLimit.TheVariants.{Large}
+use Rattle.command_line.specs.declared.asked.BoardLimit.TheVariants.{Large}
 use Rattle.positions.specs.Claim.{claim_of}
 use Rattle.positions.specs.declared.value.Value.{Value}
 use Rattle.positions.proofs.Cited.{same_value}

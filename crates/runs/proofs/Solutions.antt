@@ -20,8 +20,8 @@ use Rattle.strategies.proofs.Cited.{cases_value, IsLess-irrefl, document_exists,
 use Rattle.runs.specs.Report.{Report, IsReport, IsReportOf, report_text_alone, IsReportOfText}
 use Rattle.runs.specs.SolveRun.{IsSolution, IsSolved}
 use Rattle.runs.specs.Texts.{IsBoardWithin, IsSmallBoard, IsWrongBoard, IsWrongWithin}
-use Rattle.runs.specs.declared.boards.BoardLimit.{BoardLimit}
-use Rattle.runs.specs.declared.boards.BoardLimit.TheVariants.{Small}
+use Rattle.command_line.specs.declared.asked.BoardLimit.{BoardLimit}
+use Rattle.command_line.specs.declared.asked.BoardLimit.TheVariants.{Small}
 use Rattle.runs.proofs.BoardLimits.{within_or_beyond}
 use Rattle.runs.specs.declared.fault.RunFault.{RunFault}
 use Rattle.runs.specs.declared.fault.RunFault.TheVariants.{Board, TooLarge}

@@ -7,8 +7,8 @@ use Rattle.solver.specs.declared.fault.SolveFault.TheVariants as solve
 use Rattle.graphs.specs.Numbered.{graph_by, graph_of, numbered}
 use Rattle.graphs.specs.declared.graph.Numbering.TheVariants.{Classes}
 use Rattle.round_workers.specs.declared.solving.TheConstants.{MIN_SHARED}
-use Rattle.runs.specs.declared.boards.BoardLimit.{BoardLimit}
-use Rattle.runs.specs.declared.boards.BoardLimit.TheVariants.{Small}
+use Rattle.command_line.specs.declared.asked.BoardLimit.{BoardLimit}
+use Rattle.command_line.specs.declared.asked.BoardLimit.TheVariants.{Small}
 use Rattle.runs.specs.declared.fault.RunFault.{RunFault}
 use Rattle.runs.specs.declared.fault.RunFault.TheVariants.{Board, TooLarge, Proof, Memory, Worker, Read, Write, Limit}
 use Rattle.runs.specs.declared.fault.RunFault.TheVariants.{DocumentTooLarge}

@@ -1,23 +1,24 @@
 -- When the notice of a large board is told.
-use Rattle.std.proofs.Common.{◌≡◌, ◌-◌, ◌<◌, ◌≤◌, Bool, List, ℕ, [], ◌++◌, ap, append_assoc, codes, false, inl, inr}
+use Rattle.std.proofs.Common.{◌≡◌, ◌<◌, ◌≤◌, Bool, List, ℕ, [], ◌++◌, ap, append_assoc, false, inl, inr, ◌⊎◌}
 use Rattle.std.proofs.Common.{le-ltb}
 use Rattle.std.proofs.Common.{lt-ltb}
 use Rattle.std.proofs.Common.{refl, subst, sym, true}
 use Rattle.std.proofs.lemmas.Bool.{cases_lt}
-use Rattle.std.specs.Prelude.{Err, Ok, Result, if◌then◌else◌, nat_lt}
-use Rattle.std.specs.Fmt.{decimal}
-use Rattle.board_text.specs.PlainBoard.{PlainBoard, places}
-use Rattle.classes.specs.Numbers.{ways}
-use Rattle.player.specs.Showing.{AreForPerson}
-use Rattle.player.proofs.Cited.{nothing_for_person, shown_line}
+use Rattle.std.specs.Prelude.{Err, IfErr, IfOk, Ok, Result, if◌then◌else◌}
+use Rattle.board_text.specs.PlainBoard.{PlainBoard}
 use Rattle.positions.specs.Ranks.{configurations}
 use Rattle.positions.specs.declared.space.TheConstants.{MAX_CONFIGURATIONS}
 use Rattle.runs.specs.BoardRun.{GaveBoard, GaveNoBoard}
 use Rattle.runs.specs.Notices.{IsNoticed, notice_for, size_notice}
-use Rattle.runs.specs.Run.{Bytes, Gave}
+use Rattle.runs.specs.Run.{Bytes, Fails, Gave, Ran}
+use Rattle.runs.specs.SolveRun.{CannotSolve, IsSolution}
 use Rattle.runs.specs.Texts.{HasNoneWithin, IsBoardWithin}
-use Rattle.runs.specs.declared.boards.BoardLimit.{BoardLimit}
+use Rattle.command_line.specs.declared.asked.BoardLimit.{BoardLimit}
+use Rattle.command_line.specs.declared.asked.BoardLimit.TheVariants.{Small}
+use Rattle.positions.specs.declared.value.Value.{Value}
 use Rattle.runs.specs.declared.fault.RunFault.{RunFault}
+use Rattle.runs.specs.declared.fault.RunFault.TheVariants.{Board, DocumentTooLarge, Limit, Memory, Proof, Read}
+use Rattle.runs.specs.declared.fault.RunFault.TheVariants.{TooLarge, Worker, Write}
 
 -- it isn't, where nobody is there to see it
 pub nobody_sees : (shows : Bool) (board : PlainBoard) → shows ≡ false → [] ≡ notice_for shows board
@@ -46,17 +47,6 @@ large_board false board shows large = cc
 -- three texts as one
 pub three : (a b c : List ℕ) → a ++ (b ++ c) ≡ a ++ b ++ c
 three a b c = sym (append_assoc a b c)
-
--- it is a line for a person
-told_if : (board : PlainBoard) (large : Bool) → AreForPerson true (if large then size_notice board else [])
-told_if board true = shown_line
-    (codes "a large board: its " ++ decimal (ways (board.pebbles - 1) (places board))
-    ++ codes " gaps are solved, which can take seconds")
-told_if board false = nothing_for_person true
-
-pub noticed : (shows : Bool) (board : PlainBoard) → AreForPerson shows (notice_for shows board)
-noticed true board = told_if board (nat_lt MAX_CONFIGURATIONS (configurations board))
-noticed false board = refl
 
 -- ---- of a board that is read
 
@@ -87,3 +77,42 @@ module _ {Answer Other : Type 0} (limit : BoardLimit) (most_bytes : ℕ) (read :
       by (inl (board, within, told_is)) = inl (board, (text, gave, within), told_is)
       by (inr (other, same, missing, none)) =
           inr (fault, refl, inr (text, gave, subst (HasNoneWithin limit text) (one other same) missing), none)
+
+-- ---- of a small board that is solved, nothing is told
+
+unsolved : (workers : ℕ) (text : List ℕ) (fault : RunFault) → CannotSolve Small workers text fault
+    → HasNoneWithin Small text fault ⊎ ((board : PlainBoard) × IsBoardWithin Small text board)
+unsolved workers text Memory cannot = inl tt
+unsolved workers text Worker cannot = inr (cannot.2.0, cannot.2.1)
+unsolved workers text (Board fault) cannot = inl cannot
+unsolved workers text TooLarge cannot = inl cannot
+unsolved workers text DocumentTooLarge cannot = inl cannot
+unsolved workers text (Proof fault) cannot = inl cannot
+unsolved workers text Read cannot = inl cannot
+unsolved workers text Write cannot = inl cannot
+unsolved workers text Limit cannot = inl cannot
+
+module _ (most_bytes : ℕ) (read : Bytes) (shows : Bool) where
+  of_board : (result : Result Value RunFault) (text : List ℕ) (board : PlainBoard) → Gave most_bytes read text
+      → IsBoardWithin Small text board
+      → IsNoticed (GaveBoard Small most_bytes read) (GaveNoBoard Small most_bytes read) shows result []
+  of_board result text board gave within = inl (board, (text, gave, within), small_board shows board within.few)
+
+  pub solved_unnoticed : (workers : ℕ) (written : Bytes) (result : Result Value RunFault)
+      → IfOk result (Ran IsSolution most_bytes read written)
+      → IfErr result (Fails IsSolution (CannotSolve Small workers) most_bytes read written)
+      → IsNoticed (GaveBoard Small most_bytes read) (GaveNoBoard Small most_bytes read) shows result []
+  solved_unnoticed workers written (Ok value) (text, gave, wrote) fails =
+      of_board (Ok value) text wrote.1.0 gave wrote.1.1
+  solved_unnoticed workers written (Err fault) ran (inl unread) = inr (fault, refl, inl unread, refl)
+  solved_unnoticed workers written (Err fault) ran (inr (inl (text, gave, cannot))) =
+      by (unsolved workers text fault cannot)
+    where
+      by : HasNoneWithin Small text fault ⊎ ((board : PlainBoard) × IsBoardWithin Small text board)
+          → IsNoticed {Answer = Value} (GaveBoard Small most_bytes read) (GaveNoBoard Small most_bytes read) shows
+          (Err fault) []
+      by (inl missing) = inr (fault, refl, inr (text, gave, missing), refl)
+      by (inr (board, within)) = of_board (Err fault) text board gave within
+  solved_unnoticed workers written (Err fault) ran
+      (inr (inr (text, value, gave, begun, write))) =
+      of_board (Err fault) text begun.1.0 gave begun.1.1

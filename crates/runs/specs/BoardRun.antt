@@ -3,7 +3,7 @@ use Rattle.std.specs.Prelude.{ℕ, ◌⊎◌, List}
 use Rattle.board_text.specs.PlainBoard.{PlainBoard}
 use Rattle.runs.specs.Run.{Bytes, Gave, IsUnread}
 use Rattle.runs.specs.Texts.{HasNoneAmong, IsBoardAmong, IsWithinLimit}
-use Rattle.runs.specs.declared.boards.BoardLimit.{BoardLimit}
+use Rattle.command_line.specs.declared.asked.BoardLimit.{BoardLimit}
 use Rattle.runs.specs.declared.fault.RunFault.{RunFault}
 
 -- the reader gave all, which is at most so many bytes and the text of this board, which is small

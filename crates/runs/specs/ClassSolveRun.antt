@@ -7,7 +7,7 @@ use Rattle.positions.specs.declared.value.Value.{Value}
 use Rattle.positions.specs.Value.{HasValue}
 use Rattle.proof_text.specs.Proof.{PlainProof}
 use Rattle.runs.specs.Texts.{IsBoardWithin, IsWrongWithin}
-use Rattle.runs.specs.declared.boards.BoardLimit.TheVariants.{Large}
+use Rattle.command_line.specs.declared.asked.BoardLimit.TheVariants.{Large}
 use Rattle.runs.specs.declared.checking.TheConstants.{MAX_PROOF_BYTES}
 use Rattle.runs.specs.declared.fault.RunFault.{RunFault}
 use Rattle.runs.specs.declared.fault.RunFault.TheVariants.{DocumentTooLarge, Memory}

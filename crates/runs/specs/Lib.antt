@@ -10,6 +10,7 @@ pub mod CheckRun
 pub mod NestedText
 pub mod SolveRun
 pub mod ClassSolveRun
+pub mod LimitedSolveRun
 pub mod Headline
 pub mod Report
 pub mod Notices

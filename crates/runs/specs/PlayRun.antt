@@ -14,7 +14,7 @@ use Rattle.runs.specs.Faults.{fault_of_play}
 use Rattle.runs.specs.Notices.{notice_for}
 use Rattle.runs.specs.Run.{Bytes}
 use Rattle.runs.specs.Texts.{IsWithinLimit}
-use Rattle.runs.specs.declared.boards.BoardLimit.{BoardLimit}
+use Rattle.command_line.specs.declared.asked.BoardLimit.{BoardLimit}
 use Rattle.runs.specs.declared.fault.RunFault.{RunFault}
 use Rattle.runs.specs.declared.fault.RunFault.TheVariants.{Memory}
 

@@ -10,7 +10,7 @@ use Rattle.positions.specs.Value.{HasValue}
 use Rattle.proof_text.specs.ProofText.{claim_words}
 use Rattle.positions.specs.Claim.{claim_of}
 use Rattle.runs.specs.Texts.{IsBoardWithin}
-use Rattle.runs.specs.declared.boards.BoardLimit.{BoardLimit}
+use Rattle.command_line.specs.declared.asked.BoardLimit.{BoardLimit}
 
 -- the value of the start, how many configurations have each
 -- finite value from 0 on, and how many last forever

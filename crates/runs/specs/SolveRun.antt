@@ -9,8 +9,8 @@ use Rattle.proof_text.specs.ProofText.{proof_text}
 use Rattle.round_workers.specs.declared.solving.TheConstants.{MIN_SHARED}
 use Rattle.strategies.specs.Document.{IsDocumentOf}
 use Rattle.runs.specs.Texts.{IsBoardWithin, IsSmallBoard, IsWrongWithin}
-use Rattle.runs.specs.declared.boards.BoardLimit.{BoardLimit}
-use Rattle.runs.specs.declared.boards.BoardLimit.TheVariants.{Small}
+use Rattle.command_line.specs.declared.asked.BoardLimit.{BoardLimit}
+use Rattle.command_line.specs.declared.asked.BoardLimit.TheVariants.{Small}
 use Rattle.runs.specs.declared.fault.RunFault.{RunFault}
 use Rattle.runs.specs.declared.fault.RunFault.TheVariants.{Memory, Worker}
 

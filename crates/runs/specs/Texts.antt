@@ -9,8 +9,8 @@ use Rattle.classes.specs.Numbers.{ways}
 use Rattle.gap_values.specs.declared.rounds.TheConstants.{MAX_GAPS}
 use Rattle.positions.specs.Ranks.{configurations}
 use Rattle.positions.specs.declared.space.TheConstants.{MAX_CONFIGURATIONS}
-use Rattle.runs.specs.declared.boards.BoardLimit.{BoardLimit}
-use Rattle.runs.specs.declared.boards.BoardLimit.TheVariants.{Small, Large}
+use Rattle.command_line.specs.declared.asked.BoardLimit.{BoardLimit}
+use Rattle.command_line.specs.declared.asked.BoardLimit.TheVariants.{Small, Large}
 use Rattle.proof_text.specs.ProofFaults as proof_faults
 use Rattle.proof_text.specs.declared.fault.ProofKind.TheVariants as proof_kinds
 use Rattle.runs.specs.declared.fault.RunFault.{RunFault}

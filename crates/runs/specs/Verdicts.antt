@@ -19,7 +19,7 @@ use Rattle.proof_check.specs.declared.fault.CheckFault.TheVariants as check_faul
 use Rattle.runs.specs.Joined.{IsBoardLength}
 use Rattle.runs.specs.Output.{line_of}
 use Rattle.runs.specs.Texts.{IsWithinLimit, IsWrongProof}
-use Rattle.runs.specs.declared.boards.BoardLimit.TheVariants.{Small}
+use Rattle.command_line.specs.declared.asked.BoardLimit.TheVariants.{Small}
 use Rattle.runs.specs.declared.verdicts.Verdict.{Verdict}
 use Rattle.runs.specs.declared.verdicts.Verdict.TheVariants.{Accepted, Refused, RefusedByClasses}
 use Rattle.runs.specs.declared.fault.RunFault.{RunFault}

@@ -1,4 +1,4 @@
-//! The board that a text is: of any size, or within one of two limits.
+//! The board that a text is: of any size, or within a limit.
 
 ghost use Rattle.std.specs.Prelude.{◌-◌, ◌≤◌, ◌↔◌, IfOk, IfErr, IsTrue};
 ghost use Rattle.board_text.specs.PlainBoard.{places};
@@ -9,28 +9,18 @@ ghost use Rattle.runs.specs.Texts.{IsBoardWithin, IsSmallBoard, IsWithinLimit, O
 
 use crate::fault::RunFault;
 use board_text::{Board, parse};
+use command_line::BoardLimit;
 use gap_values::{MAX_GAPS, has_few_gaps};
 use positions::{MAX_CONFIGURATIONS, is_small};
 use std::alloc::Global;
 
-/// How large a board may be.
-#[derive(Clone, Copy, Debug, PartialEq, Eq)]
-pub enum BoardLimit {
-    /// At most `MAX_CONFIGURATIONS` configurations.
-    Small,
-    /// At most `MAX_GAPS` gaps, which are the classes of all pebbles but one.
-    Large,
-}
-
-impl BoardLimit {
-    /// Whether `board` is within the limit.
-    fn allows(self, board: &Board) -> bool
-        ensures { IsTrue result ↔ IsWithinLimit self board.now }
-    {
-        match self {
-            BoardLimit::Small => is_small(board),
-            BoardLimit::Large => has_few_gaps(board),
-        }
+/// Whether `board` is within the limit.
+fn is_within(limit: BoardLimit, board: &Board) -> bool
+    ensures { IsTrue result ↔ IsWithinLimit limit board.now }
+{
+    match limit {
+        BoardLimit::Small => is_small(board),
+        BoardLimit::Large => has_few_gaps(board),
     }
 }
 
@@ -43,7 +33,7 @@ pub(crate) fn any_board(alloc: Global, text: &[u8]) -> Result<Board, RunFault>
 }
 
 /// The board whose text is `text`. It has at most `MAX_CONFIGURATIONS` configurations.
-pub fn small_board(alloc: Global, text: &[u8]) -> Result<Board, RunFault>
+pub(crate) fn small_board(alloc: Global, text: &[u8]) -> Result<Board, RunFault>
     ensures found { IfOk result (IsSmallBoard text.now) }
     ensures few { IfOk result (λ board. configurations board ≤ MAX_CONFIGURATIONS) }
     ensures fault { IfErr result (HasNoBoard text.now) }
@@ -53,13 +43,13 @@ pub fn small_board(alloc: Global, text: &[u8]) -> Result<Board, RunFault>
 
 /// The board whose text is `text`. It is within the `limit`, and within either it has at most
 /// `MAX_GAPS` gaps.
-pub fn board_within(alloc: Global, limit: BoardLimit, text: &[u8]) -> Result<Board, RunFault>
+pub(crate) fn board_within(alloc: Global, limit: BoardLimit, text: &[u8]) -> Result<Board, RunFault>
     ensures found { IfOk result (IsBoardWithin limit text.now) }
     ensures gaps { IfOk result (λ board. ways (board.pebbles - 1) (places board) ≤ MAX_GAPS) }
     ensures fault { IfErr result (HasNoneWithin limit text.now) }
 {
     let board = parse(alloc, text)?;
-    if !limit.allows(&board) {
+    if !is_within(limit, &board) {
         return Err(RunFault::TooLarge);
     }
     Ok(board)

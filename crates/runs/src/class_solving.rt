@@ -3,7 +3,7 @@
 ghost use Rattle.std.specs.Prelude.{◌≡◌, ◌≤◌, ℕ, List, true, false, IfOk, IfErr, flat_map};
 ghost use Rattle.std.specs.Prelude.{string_bytes};
 ghost use Rattle.board_text.specs.Ranges.{InRange};
-ghost use Rattle.player.specs.Showing.{IsMore};
+ghost use Rattle.console.specs.Showing.{IsMore};
 ghost use Rattle.runs.specs.BoardRun.{GaveBoard, GaveNoBoard};
 ghost use Rattle.runs.specs.ClassSolveRun.{CannotSolveByClasses, IsClassSolution};
 ghost use Rattle.runs.specs.ClassSolveRun.{IsSolvedByClasses};
@@ -12,14 +12,16 @@ ghost use Rattle.runs.specs.Notices.{IsNoticed};
 ghost use Rattle.runs.specs.Run.{Ran, Fails, TellsStreams, bytes_of, stream_of};
 ghost use Rattle.runs.specs.Texts.{HasNoneWithin, IsBoardWithin};
 
-use crate::boards::{BoardLimit, board_within};
+use crate::boards::board_within;
 use crate::checking::MAX_PROOF_BYTES;
 use crate::fault::RunFault;
 use crate::notices::tell_size;
 use crate::reading::{MAX_BOARD_BYTES, read_text};
 use crate::solving::Solved;
-use crate::writing::write_text;
-use board_text::{Sink, Source};
+use crate::work::Work;
+use crate::writing::write_parts;
+use board_text::{Memory, Sink, Source};
+use command_line::BoardLimit;
 use gap_values::GapValues;
 use positions::Value;
 use proof_text::print_classes_in_parts;
@@ -28,71 +30,67 @@ use std::alloc::Global;
 use std::thread::Threads;
 use strategies::{GapMoves, MadeDocument, Moves, document_by_classes_in_parts};
 
-/// Reads a board of at most `MAX_GAPS` gaps, finds the value of its start, and writes its document
-/// by classes, which a check reads and accepts. The number of `workers` is 1 to `MAX_WORKERS`; each
-/// closes the gaps of a part of the board, and makes a part of the rows if there are thousands of
-/// them. The bytes written are the same for every number of them.
-///
-/// The reader and the writer must not have failed before, nor the reader have reported its end.
-/// Nothing is written before the whole text is built. If `shows` says so, a person is told on
-/// `errors` that a large board is solved, before it is; if `errors` fails, or has failed before,
-/// nothing more is written there, and the run goes on.
-pub fn run_solve_by_classes<R: Source, W: Sink, E: Sink>(
-    rt: &(impl Threads + Sync),
-    alloc: Global,
-    workers: u8,
-    reader: &mut R,
-    writer: &mut W,
-    shows: bool,
-    errors: &mut E,
-) -> Result<Value, RunFault>
-    requires workers { InRange 1 MAX_WORKERS workers }
-    requires reader_ready { R.has_failed reader.old ≡ false }
-    requires reader_unended { R.has_ended reader.old ≡ false }
-    requires writer_ready { W.has_failed writer.old ≡ false }
-    ensures ok { IfOk result (Ran IsClassSolution MAX_BOARD_BYTES
-        (bytes_of R.remaining reader.old reader.new) (bytes_of W.contents writer.old writer.new)) }
-    ensures fault { IfErr result (Fails IsClassSolution CannotSolveByClasses MAX_BOARD_BYTES
-        (bytes_of R.remaining reader.old reader.new) (bytes_of W.contents writer.old writer.new)) }
-    ensures streams { TellsStreams result (R.has_failed reader.new ≡ true)
-        (stream_of W.contents W.has_failed writer.old writer.new) }
-    ensures notice { (told : List ℕ)
-        × IsNoticed (GaveBoard BoardLimit.Large MAX_BOARD_BYTES
-        (bytes_of R.remaining reader.old reader.new))
-        (GaveNoBoard BoardLimit.Large MAX_BOARD_BYTES
-        (bytes_of R.remaining reader.old reader.new)) shows result told
-        × IsMore E.contents E.has_failed errors.old errors.new told }
-{
-    let text = read_text(alloc, reader, MAX_BOARD_BYTES)?;
-    let solved = solve_by_classes(rt, alloc, workers, text.as_slice(), shows, errors)?;
-    write_parts(writer, &solved.parts)?;
-    Ok(solved.value)
-}
+impl Work {
+    /// Reads a board of at most `MAX_GAPS` gaps, finds the value of its start, and writes its
+    /// document by classes. Each worker closes the gaps of a part of the board, and makes a part of
+    /// the rows if there are thousands of them.
+    pub(crate) fn solve_large<R: Source, W: Sink, E: Sink>(
+        self,
+        rt: &(impl Threads + Sync),
+        alloc: Global,
+        reader: &mut R,
+        writer: &mut W,
+        errors: &mut E,
+    ) -> Result<Value, RunFault>
+        requires workers { InRange 1 MAX_WORKERS self.workers }
+        requires reader_ready { R.has_failed reader.old ≡ false }
+        requires reader_unended { R.has_ended reader.old ≡ false }
+        requires writer_ready { W.has_failed writer.old ≡ false }
+        ensures ok { IfOk result (Ran IsClassSolution MAX_BOARD_BYTES
+            (bytes_of R.remaining reader.old reader.new)
+            (bytes_of W.contents writer.old writer.new)) }
+        ensures fault { IfErr result (Fails IsClassSolution CannotSolveByClasses MAX_BOARD_BYTES
+            (bytes_of R.remaining reader.old reader.new)
+            (bytes_of W.contents writer.old writer.new)) }
+        ensures streams { TellsStreams result (R.has_failed reader.new ≡ true)
+            (stream_of W.contents W.has_failed writer.old writer.new) }
+        ensures notice { (told : List ℕ)
+            × IsNoticed (GaveBoard BoardLimit.Large MAX_BOARD_BYTES
+            (bytes_of R.remaining reader.old reader.new))
+            (GaveNoBoard BoardLimit.Large MAX_BOARD_BYTES
+            (bytes_of R.remaining reader.old reader.new)) self.shows_size result told
+            × IsMore E.contents E.has_failed errors.old errors.new told }
+    {
+        let text = read_text(alloc, reader, MAX_BOARD_BYTES)?;
+        let solved = self.large_solution(rt, alloc, text.as_slice(), errors)?;
+        write_parts(writer, &solved.parts)?;
+        Ok(solved.value)
+    }
 
-/// The value of the start of the board whose text is `text`, and the text of its document by
-/// classes, with the notice.
-fn solve_by_classes<E: Sink>(
-    rt: &(impl Threads + Sync),
-    alloc: Global,
-    workers: u8,
-    text: &[u8],
-    shows: bool,
-    errors: &mut E,
-) -> Result<Solved, RunFault>
-    requires workers { InRange 1 MAX_WORKERS workers }
-    ensures ok { IfOk result (λ solved.
-        IsClassSolution text.now solved.value (flat_map (λ part. part.items) solved.parts.items)) }
-    ensures fault { IfErr result (CannotSolveByClasses text.now) }
-    ensures notice { (told : List ℕ)
-        × IsNoticed (IsBoardWithin BoardLimit.Large text.now)
-        (HasNoneWithin BoardLimit.Large text.now) shows result told
-        × IsMore E.contents E.has_failed errors.old errors.new told }
-{
-    let board = board_within(alloc, BoardLimit::Large, text)?;
-    tell_size(&board, shows, errors);
-    let values = GapValues::of_by(rt, alloc, &board, workers)?;
-    let moves = GapMoves::new(&board, &values);
-    class_solution(rt, alloc, &moves, workers)
+    /// The value of the start of the board whose text is `text`, and the text of its document by
+    /// classes, with the notice.
+    fn large_solution<E: Sink>(
+        self,
+        rt: &(impl Threads + Sync),
+        alloc: Global,
+        text: &[u8],
+        errors: &mut E,
+    ) -> Result<Solved, RunFault>
+        requires workers { InRange 1 MAX_WORKERS self.workers }
+        ensures ok { IfOk result (λ solved. IsClassSolution text.now solved.value
+            (flat_map (λ part. part.items) solved.parts.items)) }
+        ensures fault { IfErr result (CannotSolveByClasses text.now) }
+        ensures notice { (told : List ℕ)
+            × IsNoticed (IsBoardWithin BoardLimit.Large text.now)
+            (HasNoneWithin BoardLimit.Large text.now) self.shows_size result told
+            × IsMore E.contents E.has_failed errors.old errors.new told }
+    {
+        let board = board_within(alloc, BoardLimit::Large, text)?;
+        tell_size(&board, self.shows_size, errors);
+        let values = GapValues::of_by(rt, alloc, &board, self.workers)?;
+        let moves = GapMoves::new(&board, &values);
+        class_solution(rt, alloc, &moves, self.workers)
+    }
 }
 
 /// The value of the start of the board of `moves`, and the text of its document by classes, made in

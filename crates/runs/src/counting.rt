@@ -9,12 +9,12 @@ ghost use Rattle.positions.specs.Ranks.{configurations};
 ghost use Rattle.runs.specs.Inside.Counting.{IsBoardCounted};
 ghost use Rattle.runs.specs.Inside.SolveRun.{IsRefused};
 ghost use Rattle.runs.specs.Texts.{IsWithinLimit};
-ghost use Rattle.runs.specs.declared.boards.BoardLimit.TheVariants.{Small};
+ghost use Rattle.command_line.specs.declared.asked.BoardLimit.TheVariants.{Small};
 
-use crate::boards::BoardLimit;
 use crate::fault::RunFault;
 use crate::solving::numbered_by;
 use board_text::{Board, Memory};
+use command_line::BoardLimit;
 use gap_values::{GapValues, MAX_GAPS, Sizes};
 use positions::{MAX_CONFIGURATIONS, Value};
 use round_workers::MAX_WORKERS;

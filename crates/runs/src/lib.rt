@@ -17,13 +17,12 @@ mod reading;
 mod reporting;
 mod solving;
 mod verdicts;
+mod work;
 mod writing;
 
-pub use boards::{BoardLimit, board_within, small_board};
 pub use checking::{
     JoinedRun, MAX_JOINED_BYTES, MAX_PROOF_BYTES, run_check, run_joined, run_keeping_text,
 };
-pub use class_solving::run_solve_by_classes;
 pub use fault::RunFault;
 pub use joined::{board_length, one_board_length};
 pub use laws::{
@@ -31,15 +30,11 @@ pub use laws::{
     report_or_fault, reports_add_up, solution_or_fault, solved_boards_show_their_value,
     written_documents_mean_the_value,
 };
-pub use nesting::{nested_text, run_nested};
-pub use playing::{
-    Telling, run_climb, run_climb_with_prompts, run_play, run_play_with_prompts, run_play_within,
-};
+pub use nesting::run_nested;
+pub use playing::{Playing, run_climb, run_play};
 pub use reading::MAX_BOARD_BYTES;
-pub use reporting::{
-    report_text, report_text_alone, report_text_within, run_report, run_report_alone,
-    run_report_with_notice, run_report_within,
-};
-pub use solving::{Solved, run_solve, run_solve_alone, solve_text, solve_text_alone};
-pub use verdicts::{Verdict, VerdictLine, check_joined_text, check_text};
+pub use reporting::{report_text_alone, run_report};
+pub use solving::{Solved, run_solve, run_solve_alone, solve_text_alone};
+pub use verdicts::Verdict;
+pub use work::Work;
 pub use writing::write_text;

@@ -1,11 +1,11 @@
 //! The notice that a large board is solved, for a person at a terminal.
 
-ghost use Rattle.player.specs.Showing.{IsMore};
+ghost use Rattle.console.specs.Showing.{IsMore};
 ghost use Rattle.runs.specs.Notices.{notice_for};
 
 use board_text::{Board, Sink};
+use console::{write_digits, write_more, write_shown};
 use gap_values::count_gaps;
-use player::{write_digits, write_more, write_shown};
 use positions::is_small;
 
 /// Says that a large board is solved, with its number of gaps, if `shows` says that a person is

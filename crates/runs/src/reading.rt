@@ -6,9 +6,10 @@ ghost use Rattle.runs.specs.Run.{Gave, IsUnread, bytes_of};
 ghost use Rattle.runs.specs.Texts.{OfAnySize};
 ghost use Rattle.runs.specs.declared.fault.RunFault.TheVariants.{Read, Write};
 
-use crate::boards::{BoardLimit, any_board, board_within};
+use crate::boards::{any_board, board_within};
 use crate::fault::RunFault;
 use board_text::{Board, Source, read_all};
+use command_line::BoardLimit;
 use std::alloc::Global;
 
 /// The most bytes of a board.

@@ -3,7 +3,7 @@
 ghost use Rattle.std.specs.Prelude.{◌≡◌, ℕ, List, ◌++◌, true, false, IfOk, IfErr, OnOk};
 ghost use Rattle.std.specs.Prelude.{string_bytes};
 ghost use Rattle.board_text.specs.Ranges.{InRange};
-ghost use Rattle.player.specs.Showing.{IsMore};
+ghost use Rattle.console.specs.Showing.{IsMore};
 ghost use Rattle.positions.specs.Ranks.{configurations};
 ghost use Rattle.runs.specs.BoardRun.{GaveBoard, GaveNoBoard};
 ghost use Rattle.runs.specs.Notices.{IsNoticed};
@@ -15,13 +15,15 @@ ghost use Rattle.runs.specs.Run.{Ran, Fails, TellsStreams, bytes_of, stream_of};
 ghost use Rattle.runs.specs.SolveRun.{CannotSolve};
 ghost use Rattle.runs.specs.Texts.{HasNoBoard, HasNoneWithin, IsBoardWithin};
 
-use crate::boards::{BoardLimit, board_within, small_board};
+use crate::boards::{board_within, small_board};
 use crate::counting::{Counted, count, count_alone};
 use crate::fault::RunFault;
 use crate::notices::tell_size;
 use crate::reading::{MAX_BOARD_BYTES, read_text};
+use crate::work::Work;
 use crate::writing::write_text;
 use board_text::{Board, Sink, Source, Through};
+use command_line::BoardLimit;
 use positions::{Claim, Value};
 use proof_text::write_claim;
 use round_workers::MAX_WORKERS;
@@ -30,36 +32,12 @@ use std::fmt::Write;
 use std::sync::Wait;
 use std::thread::Threads;
 
-/// Reads a board, finds its values on this thread and writes
-/// how many of its configurations have each value.
+/// Reads a board, finds its values and writes how many of its configurations have each value.
 ///
-/// The reader and the writer must not have failed before, nor the reader have reported its end.
-/// Nothing is written before the whole text is built: after a fault nothing was written, but for
-/// `Write`, after which a prefix of the text was.
-pub fn run_report_alone<R: Source, W: Sink>(
-    alloc: Global,
-    reader: &mut R,
-    writer: &mut W,
-) -> Result<(), RunFault>
-    requires reader_ready { R.has_failed reader.old ≡ false }
-    requires reader_unended { R.has_ended reader.old ≡ false }
-    requires writer_ready { W.has_failed writer.old ≡ false }
-    ensures ok { IfOk result (Ran (Reports BoardLimit.Small) MAX_BOARD_BYTES
-        (bytes_of R.remaining reader.old reader.new) (bytes_of W.contents writer.old writer.new)) }
-    ensures fault { IfErr result (Fails (Reports BoardLimit.Small) HasNoBoard MAX_BOARD_BYTES
-        (bytes_of R.remaining reader.old reader.new) (bytes_of W.contents writer.old writer.new)) }
-    ensures streams { TellsStreams result (R.has_failed reader.new ≡ true)
-        (stream_of W.contents W.has_failed writer.old writer.new) }
-{
-    let text = read_text(alloc, reader, MAX_BOARD_BYTES)?;
-    let report = report_text_alone(alloc, text.as_slice())?;
-    write_text(writer, &report)
-}
-
-/// The same as `run_report_alone`, with several workers.
-///
-/// The number of `workers` is 1 to `MAX_WORKERS`, and they find the
-/// values as in `run_solve`. It may wait for them.
+/// The number of `workers` is 1 to `MAX_WORKERS`, and they find the values as in `run_solve`. It
+/// may wait for them. The reader and the writer must not have failed before, nor the reader have
+/// reported its end. Nothing is written before the whole text is built: after a fault nothing was
+/// written, but for `Write`, after which a prefix of the text was.
 pub fn run_report<R: Source, W: Sink>(
     rt: &(impl Threads + Wait + Sync),
     alloc: Global,
@@ -79,83 +57,70 @@ pub fn run_report<R: Source, W: Sink>(
     ensures streams { TellsStreams result (R.has_failed reader.new ≡ true)
         (stream_of W.contents W.has_failed writer.old writer.new) }
 {
-    run_report_within(rt, alloc, BoardLimit::Small, workers, reader, writer)
-}
-
-/// The same as `run_report`, of a board within the `limit`.
-pub fn run_report_within<R: Source, W: Sink>(
-    rt: &(impl Threads + Wait + Sync),
-    alloc: Global,
-    limit: BoardLimit,
-    workers: u8,
-    reader: &mut R,
-    writer: &mut W,
-) -> Result<(), RunFault>
-    requires workers { InRange 1 MAX_WORKERS workers }
-    requires reader_ready { R.has_failed reader.old ≡ false }
-    requires reader_unended { R.has_ended reader.old ≡ false }
-    requires writer_ready { W.has_failed writer.old ≡ false }
-    ensures ok { IfOk result (Ran (Reports limit) MAX_BOARD_BYTES
-        (bytes_of R.remaining reader.old reader.new) (bytes_of W.contents writer.old writer.new)) }
-    ensures fault { IfErr result (Fails (Reports limit) (CannotSolve limit workers) MAX_BOARD_BYTES
-        (bytes_of R.remaining reader.old reader.new) (bytes_of W.contents writer.old writer.new)) }
-    ensures streams { TellsStreams result (R.has_failed reader.new ≡ true)
-        (stream_of W.contents W.has_failed writer.old writer.new) }
-{
     let mut nobody = Through::new(Vec::new(alloc));
-    run_report_with_notice(
-        rt,
-        alloc,
-        limit,
-        workers,
-        reader,
-        writer,
-        false,
-        &mut nobody,
-    )
+    Work::of(workers).report(rt, alloc, reader, writer, &mut nobody)
 }
 
-/// Reports as `run_report_within` does, and if `shows` says so, tells a person on `errors` that a
-/// large board is solved, before it is.
-///
-/// If `errors` fails, or has failed before, nothing more is written there, and the run goes on.
-pub fn run_report_with_notice<R: Source, W: Sink, E: Sink>(
-    rt: &(impl Threads + Wait + Sync),
-    alloc: Global,
-    limit: BoardLimit,
-    workers: u8,
-    reader: &mut R,
-    writer: &mut W,
-    shows: bool,
-    errors: &mut E,
-) -> Result<(), RunFault>
-    requires workers { InRange 1 MAX_WORKERS workers }
-    requires reader_ready { R.has_failed reader.old ≡ false }
-    requires reader_unended { R.has_ended reader.old ≡ false }
-    requires writer_ready { W.has_failed writer.old ≡ false }
-    ensures ok { IfOk result (Ran (Reports limit) MAX_BOARD_BYTES
-        (bytes_of R.remaining reader.old reader.new) (bytes_of W.contents writer.old writer.new)) }
-    ensures fault { IfErr result (Fails (Reports limit) (CannotSolve limit workers) MAX_BOARD_BYTES
-        (bytes_of R.remaining reader.old reader.new) (bytes_of W.contents writer.old writer.new)) }
-    ensures streams { TellsStreams result (R.has_failed reader.new ≡ true)
-        (stream_of W.contents W.has_failed writer.old writer.new) }
-    ensures notice { (told : List ℕ)
-        × IsNoticed (GaveBoard limit MAX_BOARD_BYTES (bytes_of R.remaining reader.old reader.new))
-        (GaveNoBoard limit MAX_BOARD_BYTES (bytes_of R.remaining reader.old reader.new))
-        shows result told
-        × IsMore E.contents E.has_failed errors.old errors.new told }
-{
-    let text = read_text(alloc, reader, MAX_BOARD_BYTES)?;
-    let report = report_text_with_notice(
-        rt,
-        alloc,
-        limit,
-        workers,
-        text.as_slice(),
-        shows,
-        errors,
-    )?;
-    write_text(writer, &report)
+impl Work {
+    /// Reads a board, finds its values and writes how many of its configurations have each value,
+    /// as `run_report` does, and tells a person on `errors` what is to be told.
+    ///
+    /// If `errors` fails, or has failed before, nothing more is written there, and the run goes
+    /// on.
+    pub fn report<R: Source, W: Sink, E: Sink>(
+        self,
+        rt: &(impl Threads + Wait + Sync),
+        alloc: Global,
+        reader: &mut R,
+        writer: &mut W,
+        errors: &mut E,
+    ) -> Result<(), RunFault>
+        requires workers { InRange 1 MAX_WORKERS self.workers }
+        requires reader_ready { R.has_failed reader.old ≡ false }
+        requires reader_unended { R.has_ended reader.old ≡ false }
+        requires writer_ready { W.has_failed writer.old ≡ false }
+        ensures ok { IfOk result (Ran (Reports self.limit) MAX_BOARD_BYTES
+            (bytes_of R.remaining reader.old reader.new)
+            (bytes_of W.contents writer.old writer.new)) }
+        ensures fault { IfErr result (Fails (Reports self.limit)
+            (CannotSolve self.limit self.workers) MAX_BOARD_BYTES
+            (bytes_of R.remaining reader.old reader.new)
+            (bytes_of W.contents writer.old writer.new)) }
+        ensures streams { TellsStreams result (R.has_failed reader.new ≡ true)
+            (stream_of W.contents W.has_failed writer.old writer.new) }
+        ensures notice { (told : List ℕ) × IsNoticed
+            (GaveBoard self.limit MAX_BOARD_BYTES (bytes_of R.remaining reader.old reader.new))
+            (GaveNoBoard self.limit MAX_BOARD_BYTES (bytes_of R.remaining reader.old reader.new))
+            self.shows_size result told
+            × IsMore E.contents E.has_failed errors.old errors.new told }
+    {
+        let text = read_text(alloc, reader, MAX_BOARD_BYTES)?;
+        let report = self.report_text(rt, alloc, text.as_slice(), errors)?;
+        write_text(writer, &report)
+    }
+
+    /// The report of the board whose text is `text`, with the notice.
+    fn report_text<E: Sink>(
+        self,
+        rt: &(impl Threads + Wait + Sync),
+        alloc: Global,
+        text: &[u8],
+        errors: &mut E,
+    ) -> Result<String, RunFault>
+        requires workers { InRange 1 MAX_WORKERS self.workers }
+        ensures report { IfOk result (λ report.
+            IsReportOfText self.limit text.now (string_bytes report)) }
+        ensures fault { IfErr result (CannotSolve self.limit self.workers text.now) }
+        ensures notice { (told : List ℕ)
+            × IsNoticed (IsBoardWithin self.limit text.now) (HasNoneWithin self.limit text.now)
+            self.shows_size result told
+            × IsMore E.contents E.has_failed errors.old errors.new told }
+    {
+        let board = board_within(alloc, self.limit, text)?;
+        tell_size(&board, self.shows_size, errors);
+        let counted = count(rt, alloc, self.limit, self.workers, &board)?;
+        Ok(report_of(alloc, &board, &counted)?)
+    }
 }
 
 /// The report of the board whose text is `text`. Its values are found on this thread.
@@ -166,61 +131,6 @@ pub fn report_text_alone(alloc: Global, text: &[u8]) -> Result<String, RunFault>
 {
     let board = small_board(alloc, text)?;
     let counted = count_alone(alloc, &board)?;
-    Ok(report_of(alloc, &board, &counted)?)
-}
-
-/// The same as `report_text_alone`, by this number of `workers`,
-/// 1 to `MAX_WORKERS`. It may wait for them.
-pub fn report_text(
-    rt: &(impl Threads + Wait + Sync),
-    alloc: Global,
-    workers: u8,
-    text: &[u8],
-) -> Result<String, RunFault>
-    requires workers { InRange 1 MAX_WORKERS workers }
-    ensures report { IfOk result (λ report.
-        IsReportOfText BoardLimit.Small text.now (string_bytes report)) }
-    ensures fault { IfErr result (CannotSolve BoardLimit.Small workers text.now) }
-{
-    report_text_within(rt, alloc, BoardLimit::Small, workers, text)
-}
-
-/// The same as `report_text`, of a board within the `limit`.
-pub fn report_text_within(
-    rt: &(impl Threads + Wait + Sync),
-    alloc: Global,
-    limit: BoardLimit,
-    workers: u8,
-    text: &[u8],
-) -> Result<String, RunFault>
-    requires workers { InRange 1 MAX_WORKERS workers }
-    ensures report { IfOk result (λ report. IsReportOfText limit text.now (string_bytes report)) }
-    ensures fault { IfErr result (CannotSolve limit workers text.now) }
-{
-    let mut nobody = Through::new(Vec::new(alloc));
-    report_text_with_notice(rt, alloc, limit, workers, text, false, &mut nobody)
-}
-
-/// The same, with a notice that a large board is solved, as `run_report_with_notice` gives it.
-fn report_text_with_notice<E: Sink>(
-    rt: &(impl Threads + Wait + Sync),
-    alloc: Global,
-    limit: BoardLimit,
-    workers: u8,
-    text: &[u8],
-    shows: bool,
-    errors: &mut E,
-) -> Result<String, RunFault>
-    requires workers { InRange 1 MAX_WORKERS workers }
-    ensures report { IfOk result (λ report. IsReportOfText limit text.now (string_bytes report)) }
-    ensures fault { IfErr result (CannotSolve limit workers text.now) }
-    ensures notice { (told : List ℕ)
-        × IsNoticed (IsBoardWithin limit text.now) (HasNoneWithin limit text.now) shows result told
-        × IsMore E.contents E.has_failed errors.old errors.new told }
-{
-    let board = board_within(alloc, limit, text)?;
-    tell_size(&board, shows, errors);
-    let counted = count(rt, alloc, limit, workers, &board)?;
     Ok(report_of(alloc, &board, &counted)?)
 }
 

@@ -10,12 +10,13 @@ ghost use Rattle.runs.specs.SolveRun.{CannotSolve, IsSolution, IsSolved};
 ghost use Rattle.runs.specs.Inside.SolveRun.{IsRefused};
 ghost use Rattle.runs.specs.Texts.{HasNoBoard, IsMemory};
 
-use crate::boards::{BoardLimit, small_board};
+use crate::boards::small_board;
 use crate::fault::RunFault;
 use crate::reading::{MAX_BOARD_BYTES, read_text};
 use crate::writing::write_parts;
 use board_text::{Board, Memory, Sink, Source};
 use classes::MAX_CLASSES;
+use command_line::BoardLimit;
 use gap_values::GapValues;
 use graphs::Numbering;
 use positions::{MAX_CONFIGURATIONS, Space, Value};
@@ -107,7 +108,7 @@ pub fn solve_text_alone(alloc: Global, text: &[u8]) -> Result<Solved, RunFault>
 
 /// The same as `solve_text_alone`, found by this number of `workers`, 1 to `MAX_WORKERS`. It may
 /// wait for them.
-pub fn solve_text(
+pub(crate) fn solve_text(
     rt: &(impl Threads + Wait + Sync),
     alloc: Global,
     workers: u8,

@@ -2,11 +2,12 @@
 use Rattle.std.proofs.Common.{◌≡◌, ◌≢◌, ◌↔◌, ℕ, Bool, List, sym, ap, ◌∙◌, inl, inr}
 use Rattle.std.proofs.lemmas.Result.{MatchResult-from_both, IfErr-at_err, IfErr-weaker}
 use Rattle.std.specs.Prelude.{Result, Ok, Err, IfOk, IfErr}
+use Rattle.command_line.specs.declared.asked.BoardLimit.{BoardLimit}
 use Rattle.player.specs.declared.end.PlayEnd.{PlayEnd}
 use Rattle.positions.specs.declared.side.Side.{Side}
 use Rattle.runs.specs.CheckRun.{CheckFails, RanCheck}
 use Rattle.serving.specs.Folders.{File, OpensWith}
-use Rattle.serving.specs.Jobs.{Checks, Opening, Plays, WritesWhole, limit_of}
+use Rattle.serving.specs.Jobs.{Checks, Opening, Plays, WritesWhole}
 use Rattle.serving.specs.Outcomes.{EndsAs, outcome_of_check, outcome_of_run}
 use Rattle.runs.specs.PlayRun.{PlayFails, RanPlay}
 use Rattle.runs.specs.Run.{Bytes, Fails, Ran, Stream}
@@ -104,17 +105,17 @@ module _ (board proof : File) (b p : Bytes) (opens : OpensWith board b.old) (ope
     whole outcome_of_check broken_check r outcome is output.IsKept unwritten,
   )
 
-module _ (large : Bool) (side : Side) (file : File) (read : Bytes) (opens : OpensWith file read.old)
+module _ (limit : BoardLimit) (side : Side) (file : File) (read : Bytes) (opens : OpensWith file read.old)
     (input output : Stream)
     (r : Result PlayEnd RunFault) (outcome : Outcome) (is : outcome ≡ outcome_of_run r) where
-  pub opened_play : IfOk r (RanPlay (limit_of large) side MAX_BOARD_BYTES read input.bytes output.bytes)
-      → IfErr r (PlayFails (limit_of large) side MAX_BOARD_BYTES
+  pub opened_play : IfOk r (RanPlay limit side MAX_BOARD_BYTES read input.bytes output.bytes)
+      → IfErr r (PlayFails limit side MAX_BOARD_BYTES
       (input.IsKept × output.IsKept) read input.bytes output.bytes)
-      → Plays side large file input output outcome
+      → Plays side limit file input output outcome
   opened_play ok fault = inr (
     read,
     opens,
-    ends outcome_of_run r (RanPlay (limit_of large) side MAX_BOARD_BYTES read input.bytes output.bytes)
-        (PlayFails (limit_of large) side MAX_BOARD_BYTES (input.IsKept × output.IsKept) read input.bytes output.bytes)
+    ends outcome_of_run r (RanPlay limit side MAX_BOARD_BYTES read input.bytes output.bytes)
+        (PlayFails limit side MAX_BOARD_BYTES (input.IsKept × output.IsKept) read input.bytes output.bytes)
         outcome is ok fault,
   )

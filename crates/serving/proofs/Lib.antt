@@ -4,4 +4,6 @@ pub mod ErrorTexts
 pub mod KnownRuns
 pub mod KnownPlays
 pub mod BoardEnds
+pub mod Greetings
+pub mod Untold
 pub mod OneServing

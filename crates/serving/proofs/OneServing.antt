@@ -22,7 +22,8 @@ use Rattle.runs.specs.ClassSolveRun.{CannotSolveByClasses, IsClassSolution, IsUn
 use Rattle.std.proofs.Common.{take}
 use Rattle.command_line.specs.Commands.{program}
 use Rattle.command_line.specs.Explaining.{asks_to_explain, words_of_job}
-use Rattle.command_line.specs.Reading.{AsksFor, AsksForVersion, HasFlag, HasNumber, IsReadAs, ShowsWords, side_word}
+use Rattle.command_line.specs.Reading.{AsksFor, AsksForVersion, HasFlag, HasNumber, IsReadAs, ShowsWords, is_large}
+use Rattle.command_line.specs.Reading.{side_word}
 use Rattle.command_line.specs.declared.asked.Job.{Job}
 use Rattle.command_line.specs.declared.asked.Job.TheVariants as jobs
 use Rattle.command_line.specs.declared.asked.JobFault.{JobFault}
@@ -47,21 +48,22 @@ use Rattle.runs.specs.CheckRun.{CheckFails, RanCheck}
 use Rattle.serving.specs.Folders.{CanFail, Closed, File, Holds, Unknown}
 use Rattle.serving.specs.FaultLines.{line_of_fault}
 use Rattle.serving.specs.Jobs.{Checks, ChecksJoined, Climbs, Counts, IsDone, Opening, Plays, Solves}
-use Rattle.serving.specs.Jobs.{WritesNested, WritesWhole, limit_of}
+use Rattle.serving.specs.Jobs.{WritesNested, WritesWhole}
 use Rattle.runs.specs.NestedText.{IsNestedText}
 use Rattle.serving.specs.Outcomes.{EndsAs, outcome_of_check, outcome_of_run, status_of}
 use Rattle.runs.specs.Report.{Reports}
 use Rattle.runs.specs.Run.{Bytes, Fails, Ran, Stream}
-use Rattle.player.specs.Showing.{AreForPerson}
 use Rattle.serving.specs.Serving.{AnswersWords, WordsAskFor, EndsWith, HasNoMemory, IsHelped, IsEnding, IsExplained}
-use Rattle.serving.specs.Serving.{IsPrompted, IsRefusedWith, IsWritten, is_explained}
-use Rattle.serving.specs.Serving.{ServesAnyWords, ServesWords, is_large, is_typed, lacks_input}
+use Rattle.serving.specs.Serving.{IsRefusedWith, IsWritten, is_explained}
+use Rattle.serving.specs.Serving.{ServesAnyWords, ServesWords, is_typed, lacks_input}
+use Rattle.serving.specs.Telling.{IsToldInJob}
+use Rattle.serving.proofs.Untold.{nothing_in_job}
 use Rattle.serving.specs.Servings.{AreKnown, AskForNoExplanation, HaveOwnText}
 use Rattle.runs.specs.SolveRun.{CannotSolve, IsSolution}
 use Rattle.runs.specs.Texts.{HasNoneAmong, HasNoProof, IsBoardAmong, IsBoardWithin, IsWrongAmong, IsWrongBoard}
 use Rattle.runs.specs.Texts.{IsWithinLimit, IsWrongProof, IsWrongWithin, OfAnySize}
-use Rattle.runs.specs.declared.boards.BoardLimit.{BoardLimit}
-use Rattle.runs.specs.declared.boards.BoardLimit.TheVariants.{Small}
+use Rattle.command_line.specs.declared.asked.BoardLimit.{BoardLimit}
+use Rattle.command_line.specs.declared.asked.BoardLimit.TheVariants.{Small, Large}
 use Rattle.runs.specs.Verdicts.{BeginsWithBoard, CannotAnswer, IsAnswered, IsChecked, IsWrongText}
 use Rattle.runs.specs.declared.checking.TheConstants.{MAX_JOINED_BYTES, MAX_PROOF_BYTES}
 use Rattle.runs.specs.declared.reading.TheConstants.{MAX_BOARD_BYTES}
@@ -70,7 +72,7 @@ use Rattle.runs.specs.declared.fault.RunFault.TheVariants.{Board, TooLarge, Proo
 use Rattle.runs.specs.declared.fault.RunFault.TheVariants.{DocumentTooLarge}
 use Rattle.serving.specs.declared.outcome.Outcome.{Outcome}
 use Rattle.serving.specs.declared.outcome.Outcome.TheVariants.{Broken, Done, Refused}
-use Rattle.serving.specs.declared.serving.Terminals.{Terminals}
+use Rattle.console.specs.declared.streams.Terminals.{Terminals}
 use Rattle.serving.specs.declared.serving.Words.{Words}
 use Rattle.serving.specs.declared.serving.Words.TheVariants.{Given, NotText, OutOfMemory}
 use Rattle.runs.specs.declared.verdicts.Verdict.{Verdict}
@@ -557,18 +559,18 @@ one_board_play limit side lines b outcome other text line (inr (inr (inside, boa
     one_play (game_played side second) (is_game side second small_too.is_board) lines outcome other text line
     (subst (λ (d : PlainBoard). PlayEnds (game_played side d) lines outcome text) same one) two
 
-module _ (large : Bool) (side : Side) (input output : Stream) (lines taken : List ℕ)
+module _ (limit : BoardLimit) (side : Side) (input output : Stream) (lines taken : List ℕ)
     (old : input.bytes.old ≡ Some lines)
     (kept : input.IsKept → input.bytes.new ≡ input.bytes.old)
     (had : Had output taken) (outcome : Outcome) (fair : IsFair outcome) where
   abbrev BoardPlayed : File → Type 0
-  BoardPlayed file = EndsBy output taken (FileEnds (BoardPlayEnds (limit_of large) side lines) file) outcome
+  BoardPlayed file = EndsBy output taken (FileEnds (BoardPlayEnds limit side lines) file) outcome
 
   module _ (read : Bytes) (bytes : List ℕ) (board_old : read.old ≡ Some bytes) (plain : IsPlain outcome) where
     abbrev OnBoard : Type 0
-    OnBoard = EndsBy output taken (BoardPlayEnds (limit_of large) side lines bytes) outcome
+    OnBoard = EndsBy output taken (BoardPlayEnds limit side lines bytes) outcome
 
-    play_on : (board : PlainBoard) → GaveBoard (limit_of large) MAX_BOARD_BYTES read board
+    play_on : (board : PlainBoard) → GaveBoard limit MAX_BOARD_BYTES read board
         → EndsAs outcome_of_run (IsOver (game_played side board) input.bytes output.bytes)
         (IsBrokenOff (game_played side board) input.bytes output.bytes) outcome
         → OnBoard
@@ -581,18 +583,18 @@ module _ (large : Bool) (side : Side) (input output : Stream) (lines taken : Lis
             subst (λ t. length t ≤ MAX_BOARD_BYTES) all gave.1,
             board,
             subst
-                (λ t. IsBoardWithin (limit_of large) t board) all small,
+                (λ t. IsBoardWithin limit t board) all small,
             end.2,
           )),
         )
 
-    no_play : (fault : RunFault) → outcome ≡ Broken fault → GaveNoBoard (limit_of large) MAX_BOARD_BYTES read fault
+    no_play : (fault : RunFault) → outcome ≡ Broken fault → GaveNoBoard limit MAX_BOARD_BYTES read fault
         → output.IsKept
         → OnBoard
     no_play fault same (inl unread) stays =
         let over = unread_is MAX_BOARD_BYTES read bytes fault outcome board_old plain same unread in
         ([], stayed output taken had stays, inl (over.0, over.1, refl))
-    no_play fault same (inr (text, gave, none)) stays = elim (wrong_board (IsWithinLimit (limit_of large)) text fault
+    no_play fault same (inr (text, gave, none)) stays = elim (wrong_board (IsWithinLimit limit) text fault
         none) [
           | inl memory ↦ absurd (fair.memory (same ∙ ap Broken memory))
           | inr bad ↦
@@ -603,21 +605,21 @@ module _ (large : Bool) (side : Side) (input output : Stream) (lines taken : Lis
                   subst (λ t. length t ≤ MAX_BOARD_BYTES) all gave.1,
                   fault,
                   subst
-                      (λ t. IsWrongWithin (limit_of large) t fault) all bad,
+                      (λ t. IsWrongWithin limit t fault) all bad,
                   same,
                   refl,
                 )),
               )
         ]
 
-    played : EndsAs outcome_of_run (RanPlay (limit_of large) side MAX_BOARD_BYTES read input.bytes output.bytes)
-        (PlayFails (limit_of large) side MAX_BOARD_BYTES (input.IsKept × output.IsKept) read input.bytes output.bytes)
+    played : EndsAs outcome_of_run (RanPlay limit side MAX_BOARD_BYTES read input.bytes output.bytes)
+        (PlayFails limit side MAX_BOARD_BYTES (input.IsKept × output.IsKept) read input.bytes output.bytes)
         outcome → OnBoard
     played (result, match, same) = go result match same
       where
         go : (result : Result PlayEnd RunFault) → MatchResult result
-            (RanPlay (limit_of large) side MAX_BOARD_BYTES read input.bytes output.bytes)
-            (PlayFails (limit_of large) side MAX_BOARD_BYTES
+            (RanPlay limit side MAX_BOARD_BYTES read input.bytes output.bytes)
+            (PlayFails limit side MAX_BOARD_BYTES
             (input.IsKept × output.IsKept) read input.bytes output.bytes)
             → outcome ≡ outcome_of_run result → OnBoard
         go (Ok end) (board, gave, over) same = play_on board gave (Ok end, over, same)
@@ -626,7 +628,7 @@ module _ (large : Bool) (side : Side) (input output : Stream) (lines taken : Lis
 
   opened_play : (file : File) → file ≢ Unknown → (outcome ≡ Broken Read → CanFail file ⊎ input.HasFailed) →
       (input.HasFailed → ⊥)
-      → Plays side large file input output outcome → BoardPlayed file
+      → Plays side limit file input output outcome → BoardPlayed file
   opened_play Unknown known unread sound opens = absurd (known refl)
   opened_play Closed known unread sound (inl (can, stays, same)) = ([], stayed output taken had stays.1, (same, refl))
   opened_play Closed known unread sound (inr (read, opens, then)) = absurd opens
@@ -694,18 +696,18 @@ module _ (at : List ℕ → File) (known : AreKnown at) (input output other_inpu
       (opened Says CannotToo IsWrong wrong_too other_output taken had_too other fair_too also.1 (at second)
       (known second) unread_too also.0)
 
-  two_solved : (workers more : ℕ) (large : Bool) (path second : List ℕ) → path ≡ second
+  two_solved : (workers more : ℕ) (limit : BoardLimit) (path second : List ℕ) → path ≡ second
       → (outcome ≡ Broken Read → CanFail (at path)) → (other ≡ Broken Read → CanFail (at second))
-      → Solves workers large (at path) output outcome → Solves more large (at second) other_output other
+      → Solves workers limit (at path) output outcome → Solves more limit (at second) other_output other
       → AreAlike outcome other output other_output
-  two_solved workers more false path second same unread unread_too is also =
+  two_solved workers more Small path second same unread unread_too is also =
       two_solved_as IsSolution (CannotSolve Small workers) (CannotSolve Small more) IsWrongBoard
       (wrong_solving Small workers) (wrong_solving Small more)
       (λ bytes. one_end outcome_of_run IsSolution IsWrongBoard MAX_BOARD_BYTES bytes (solving_one bytes)
       (one_wrong Small bytes)
       (λ answer line fault says wrong. not_wrong Small bytes says.0 says.1 fault wrong))
       path second same unread unread_too is also
-  two_solved workers more true path second same unread unread_too is also =
+  two_solved workers more Large path second same unread unread_too is also =
       two_solved_as IsClassSolution CannotSolveByClasses CannotSolveByClasses IsUnsolvedByClasses
       wrong_class_solving wrong_class_solving
       (λ bytes. one_end outcome_of_run IsClassSolution IsUnsolvedByClasses MAX_BOARD_BYTES bytes
@@ -713,12 +715,11 @@ module _ (at : List ℕ → File) (known : AreKnown at) (input output other_inpu
       (one_unsolved bytes) (class_solution_or_fault bytes))
       path second same unread unread_too is also
 
-  two_counted : (workers more : ℕ) (large : Bool) (path second : List ℕ) → path ≡ second
+  two_counted : (workers more : ℕ) (limit : BoardLimit) (path second : List ℕ) → path ≡ second
       → (outcome ≡ Broken Read → CanFail (at path)) → (other ≡ Broken Read → CanFail (at second))
-      → Counts workers large (at path) output outcome → Counts more large (at second) other_output other
+      → Counts workers limit (at path) output outcome → Counts more limit (at second) other_output other
       → AreAlike outcome other output other_output
-  two_counted workers more large path second same unread unread_too is also =
-      let limit = limit_of large in
+  two_counted workers more limit path second same unread unread_too is also =
       alike (FileEnds (Ends outcome_of_run (Reports limit) (IsWrongWithin limit) MAX_BOARD_BYTES) (at second))
       (one_file (Ends outcome_of_run (Reports limit) (IsWrongWithin limit) MAX_BOARD_BYTES)
       (λ bytes. one_end outcome_of_run (Reports limit) (IsWrongWithin limit) MAX_BOARD_BYTES bytes
@@ -760,20 +761,20 @@ module _ (at : List ℕ → File) (known : AreKnown at) (input output other_inpu
       (nested levels pebbles output taken outcome had fair is)))
       (nested more others other_output taken other had_too fair_too also)
 
-  two_played : (large : Bool) (side next : Side) (path second : List ℕ) → side ≡ next → path ≡ second
+  two_played : (limit : BoardLimit) (side next : Side) (path second : List ℕ) → side ≡ next → path ≡ second
       → (outcome ≡ Broken Read → CanFail (at path) ⊎ input.HasFailed) →
       (other ≡ Broken Read → CanFail (at second) ⊎ other_input.HasFailed)
-      → Plays side large (at path) input output outcome → Plays next large (at second) other_input other_output other
+      → Plays side limit (at path) input output outcome → Plays next limit (at second) other_input other_output other
       → AreAlike outcome other output other_output
-  two_played large side next path second same same_too unread unread_too is also =
-      alike (FileEnds (BoardPlayEnds (limit_of large) next lines) (at second))
-      (one_file (BoardPlayEnds (limit_of large) next lines) (one_board_play (limit_of large) next lines) (at second))
+  two_played limit side next path second same same_too unread unread_too is also =
+      alike (FileEnds (BoardPlayEnds limit next lines) (at second))
+      (one_file (BoardPlayEnds limit next lines) (one_board_play limit next lines) (at second))
       outcome other output other_output taken
-      (subst (λ s. EndsBy output taken (FileEnds (BoardPlayEnds (limit_of large) s lines) (at second)) outcome) same
-      (subst (λ p. EndsBy output taken (FileEnds (BoardPlayEnds (limit_of large) side lines) (at p)) outcome) same_too
-      (opened_play large side input output lines taken had_lines.old had_lines.kept had outcome fair (at path)
+      (subst (λ s. EndsBy output taken (FileEnds (BoardPlayEnds limit s lines) (at second)) outcome) same
+      (subst (λ p. EndsBy output taken (FileEnds (BoardPlayEnds limit side lines) (at p)) outcome) same_too
+      (opened_play limit side input output lines taken had_lines.old had_lines.kept had outcome fair (at path)
       (known path) unread had_lines.sound is)))
-      (opened_play large next other_input other_output lines taken had_lines_too.old had_lines_too.kept had_too other
+      (opened_play limit next other_input other_output lines taken had_lines_too.old had_lines_too.kept had_too other
       fair_too
       (at second) (known second)
       unread_too had_lines_too.sound also)
@@ -831,6 +832,16 @@ module _ (at : List ℕ → File) (known : AreKnown at) (input output other_inpu
       absurd (names_differ (codes "false") (codes "true") refl
       (same_path (one_of id rows) (codes "false") (codes "true") is also))
 
+  same_limit : (rows : List Row) (limit other : BoardLimit) → HasFlag rows (codes "large") (is_large limit)
+      → HasFlag rows (codes "large") (is_large other) → limit ≡ other
+  same_limit rows limit other is also = by limit other (same_flag rows (codes "large") _ _ is also)
+    where
+      by : (limit other : BoardLimit) → is_large limit ≡ is_large other → limit ≡ other
+      by Small Small same = refl
+      by Large Large same = refl
+      by Small Large same = cc
+      by Large Small same = cc
+
   two_done : (name : Text) (rows : List Row) (job more : Job) → AsksFor name rows job → AsksFor name rows more
       → IsDone at input output job outcome → IsDone at other_input other_output more other
       → AreAlike outcome other output other_output
@@ -873,7 +884,7 @@ module _ (at : List ℕ → File) (known : AreKnown at) (input output other_inpu
   two_done name rows (jobs.Solve w g b) (jobs.Solve ow og ob) asks asks_too is also =
       two_solved w ow og b.now ob.now (same_path _ b.now ob.now asks.3 asks_too.3) is.unread also.unread
       (subst (λ l. Solves w l (at b.now) output outcome)
-      (same_flag rows (codes "large") g og asks.2 asks_too.2) is.does.0)
+      (same_limit rows g og asks.2 asks_too.2) is.does.0)
       also.does.0
   two_done name rows (jobs.Solve w g b) (jobs.Report ow og ob) asks asks_too is also =
       absurd (names_differ (codes "solve") (codes "report") refl (sym asks.0 ∙ asks_too.0))
@@ -891,7 +902,7 @@ module _ (at : List ℕ → File) (known : AreKnown at) (input output other_inpu
   two_done name rows (jobs.Report w g b) (jobs.Report ow og ob) asks asks_too is also =
       two_counted w ow og b.now ob.now (same_path _ b.now ob.now asks.3 asks_too.3) is.unread also.unread
       (subst (λ l. Counts w l (at b.now) output outcome)
-      (same_flag rows (codes "large") g og asks.2 asks_too.2) is.does.0)
+      (same_limit rows g og asks.2 asks_too.2) is.does.0)
       also.does.0
   two_done name rows (jobs.Report w g b) (jobs.Play os og ob) asks asks_too is also =
       absurd (names_differ (codes "report") (codes "play") refl (sym asks.0 ∙ asks_too.0))
@@ -910,7 +921,7 @@ module _ (at : List ℕ → File) (known : AreKnown at) (input output other_inpu
       two_played og s os b.now ob.now (same_side s os (same_path _ (side_word s) (side_word os) asks.1 asks_too.1))
       (same_path _ b.now ob.now asks.3 asks_too.3) is.unread also.unread
       (subst (λ l. Plays s l (at b.now) input output outcome)
-      (same_flag rows (codes "large") g og asks.2 asks_too.2) is.does)
+      (same_limit rows g og asks.2 asks_too.2) is.does)
       also.does
   two_done name rows (jobs.Play s g b) (jobs.Climb ol) asks asks_too is also =
       absurd (names_differ (codes "play") (codes "climb") refl (sym asks.0 ∙ asks_too.0))
@@ -952,21 +963,6 @@ wrote : (stream : Stream) (bytes text : List ℕ) → Had stream bytes → IsWri
 wrote stream bytes text had (inl (sound, appends)) = took stream bytes text had appends
 wrote stream bytes text had (inr (failed, cut)) = absurd (had.sound failed)
 
-prompts_are : (terminals : Terminals) (job : Job) (text : List ℕ) → terminals.errors ≡ false
-    → IsPrompted terminals job text → text ≡ []
-prompts_are terminals job text off is =
-    go (is_typed job) terminals.input (is_large job) terminals.errors off is
-  where
-    go : (typed input large errors : Bool) → errors ≡ false
-        → AreForPerson ((typed && (input && errors)) || (large && errors)) text → text ≡ []
-    go typed input large true e is = absurd (true≢false e)
-    go true true true false e is = is
-    go true true false false e is = is
-    go true false true false e is = is
-    go true false false false e is = is
-    go false input true false e is = is
-    go false input false false e is = is
-
 module _ (at : List ℕ → File) (terminals : Terminals) (off : terminals.errors ≡ false) (lines taken told : List ℕ) where
   -- what a serving gave: its status, and the bytes that it left
   pub record Gives (input output errors : Stream) (status : ℕ) : Type 0 where
@@ -1000,17 +996,17 @@ module _ (at : List ℕ → File) (terminals : Terminals) (off : terminals.error
       errors_are : explains ≡ false → errors.bytes.new ≡ Some (told ++ ending outcome)
 
     job_done : (words : List Text) (job : Job) (told_lines : List ℕ) (outcome : Outcome) → WordsAskFor words job
-        → IsPrompted terminals job told_lines
         → IsDone at input output job outcome
+        → IsToldInJob at terminals input output outcome job told_lines
         → EndsWith at terminals explains input output errors status told_lines outcome
         → IsJobDone words job outcome
-    job_done words job told_lines outcome asks prompts done ends = record {
+    job_done words job told_lines outcome asks done tells ends = record {
       asks = asks;
       done = done;
       fair = fair_by outcome (λ e. done.writes.1 e) ends.1;
       status_is = ends.1;
       errors_are = said_is outcome (subst (λ g. EndsWith at terminals explains input output errors status g outcome)
-          (prompts_are terminals job told_lines off prompts) ends);
+          (nothing_in_job at terminals off input output outcome job told_lines tells) ends);
     }
 
     -- help or the version was written
@@ -1199,15 +1195,15 @@ module _ (at : List ℕ → File) (known : AreKnown at) (terminals : Terminals) 
   pub both_served : (words : List Text) → ServesWords at terminals explains input output errors status words
       → ServesWords at terminals explains other_input other_output other_errors other words
       → (status ≡ other) × ((length words ≤ 1) ⊎ (fault_of program words ≡ []) ⊎ AsksForVersion words → AreSame)
-  both_served words (inl (job, asks, inl (has, told_lines, prompts, outcome, done, ends)))
-      (inl (more, asks_too, inl (has_too, told_lines_too, prompts_too, next, done_too, ends_too))) =
+  both_served words (inl (job, asks, inl (has, outcome, told_lines, done, tells, ends)))
+      (inl (more, asks_too, inl (has_too, next, told_lines_too, done_too, tells_too, ends_too))) =
       let both = both_jobs words job more outcome next
       (job_done at terminals off lines taken told input output errors status gives
       explains words job told_lines outcome asks
-      prompts done ends)
+      done tells ends)
       (job_done at terminals off lines taken told other_input other_output other_errors other gives_too
       explains words more
-      told_lines_too next asks_too prompts_too done_too ends_too) in
+      told_lines_too next asks_too done_too tells_too ends_too) in
       (both.0, λ own. both.1)
   both_served words (inl (job, asks, inr (lacks, kept, kept_too, ends)))
       (inl (more, asks_too, inr (lacks_too, held, held_too, ends_too))) =

@@ -1,23 +1,21 @@
 -- Jobs: from the files and standard input to standard output.
-use Rattle.std.specs.Prelude.{◌≡◌, ◌≢◌, ℕ, ◌⊎◌, ◌↔◌, Bool, true, false, List}
+use Rattle.std.specs.Prelude.{◌≡◌, ◌≢◌, ℕ, ◌⊎◌, ◌↔◌, List}
 use Rattle.command_line.specs.declared.asked.Job.{Job}
 use Rattle.command_line.specs.declared.asked.Job.TheVariants.{Joined, Check, Nested, Solve, Report}
 use Rattle.command_line.specs.declared.asked.Job.TheVariants.{Play, Climb}
 use Rattle.player.specs.Transcript.{PersonClimbs}
 use Rattle.positions.specs.declared.side.Side.{Side}
-use Rattle.positions.specs.declared.value.Value.{Value}
 use Rattle.runs.specs.CheckRun.{RanCheck, CheckFails}
-use Rattle.runs.specs.ClassSolveRun.{CannotSolveByClasses, IsClassSolution}
 use Rattle.serving.specs.Folders.{File, OpensWith, CanFail}
 use Rattle.runs.specs.NestedText.{IsNestedText}
 use Rattle.serving.specs.Outcomes.{EndsAs, outcome_of_check, outcome_of_run}
 use Rattle.runs.specs.PlayRun.{IsBrokenOff, IsOver, PlayFails, RanPlay}
 use Rattle.runs.specs.Report.{Reports}
 use Rattle.runs.specs.Run.{Bytes, Fails, Ran, Stream, Wrote, WrotePrefix}
-use Rattle.runs.specs.SolveRun.{CannotSolve, IsSolution}
+use Rattle.runs.specs.LimitedSolveRun.{CannotSolveWithin, SolutionWithin}
+use Rattle.runs.specs.SolveRun.{CannotSolve}
 use Rattle.runs.specs.Verdicts.{CannotAnswer, IsAnswered}
-use Rattle.runs.specs.declared.boards.BoardLimit.{BoardLimit}
-use Rattle.runs.specs.declared.boards.BoardLimit.TheVariants.{Small, Large}
+use Rattle.command_line.specs.declared.asked.BoardLimit.{BoardLimit}
 use Rattle.runs.specs.declared.checking.TheConstants.{MAX_JOINED_BYTES, MAX_PROOF_BYTES}
 use Rattle.runs.specs.declared.reading.TheConstants.{MAX_BOARD_BYTES}
 use Rattle.runs.specs.declared.fault.RunFault.{RunFault}
@@ -60,46 +58,30 @@ Checks board proof output outcome =
     (CheckFails MAX_BOARD_BYTES MAX_PROOF_BYTES (p.new ≡ p.old) b p output.bytes) outcome))
     × WritesWhole output outcome
 
--- what is written for the text of a board that is solved: for a large one its document by classes,
--- for any other its document
-abbrev pub SolutionOf : Bool → List ℕ → Value → List ℕ → Type 0
-SolutionOf true = IsClassSolution
-SolutionOf false = IsSolution
-
--- the faults of a text that isn't solved so
-abbrev pub CannotSolveAs : Bool → ℕ → List ℕ → RunFault → Type 0
-CannotSolveAs true workers = CannotSolveByClasses
-CannotSolveAs false workers = CannotSolve Small workers
-
 -- the board was solved by this number of workers
-abbrev pub Solves : ℕ → Bool → File → Stream → Outcome → Type 0
-Solves workers large board output outcome =
+abbrev pub Solves : ℕ → BoardLimit → File → Stream → Outcome → Type 0
+Solves workers limit board output outcome =
     Opening board output.IsKept (λ read. EndsAs outcome_of_run
-    (Ran (SolutionOf large) MAX_BOARD_BYTES read output.bytes)
-    (Fails (SolutionOf large) (CannotSolveAs large workers) MAX_BOARD_BYTES read output.bytes))
-    outcome
+    (Ran (SolutionWithin limit) MAX_BOARD_BYTES read output.bytes)
+    (Fails (SolutionWithin limit) (CannotSolveWithin limit workers) MAX_BOARD_BYTES read
+    output.bytes)) outcome
     × WritesWhole output outcome
 
--- a large board is limited by its gaps, any other by its configurations
-abbrev pub limit_of : Bool → BoardLimit
-limit_of true = Large
-limit_of false = Small
-
 -- the values of the board were counted by this number of workers
-abbrev pub Counts : ℕ → Bool → File → Stream → Outcome → Type 0
-Counts workers large board output outcome =
+abbrev pub Counts : ℕ → BoardLimit → File → Stream → Outcome → Type 0
+Counts workers limit board output outcome =
     Opening board output.IsKept (λ read. EndsAs outcome_of_run
-    (Ran (Reports (limit_of large)) MAX_BOARD_BYTES read output.bytes)
-    (Fails (Reports (limit_of large)) (CannotSolve (limit_of large) workers)
+    (Ran (Reports limit) MAX_BOARD_BYTES read output.bytes)
+    (Fails (Reports limit) (CannotSolve limit workers)
     MAX_BOARD_BYTES read output.bytes)) outcome
     × WritesWhole output outcome
 
 -- a play on the board, with a person who is this side
-abbrev pub Plays : Side → Bool → File → Stream → Stream → Outcome → Type 0
-Plays side large board input output outcome =
+abbrev pub Plays : Side → BoardLimit → File → Stream → Stream → Outcome → Type 0
+Plays side limit board input output outcome =
     Opening board (input.IsKept × output.IsKept) (λ read. EndsAs outcome_of_run
-    (RanPlay (limit_of large) side MAX_BOARD_BYTES read input.bytes output.bytes)
-    (PlayFails (limit_of large) side MAX_BOARD_BYTES (input.IsKept × output.IsKept)
+    (RanPlay limit side MAX_BOARD_BYTES read input.bytes output.bytes)
+    (PlayFails limit side MAX_BOARD_BYTES (input.IsKept × output.IsKept)
     read input.bytes output.bytes)) outcome
 
 -- a play on the nested board of the level
@@ -125,11 +107,11 @@ module _ (at : List ℕ → File) (input output : Stream) where
       Checks (at board.now) (at proof.now) output outcome × input.IsKept
   DoesJob (Nested levels pebbles) outcome =
       WritesNested levels pebbles output outcome × input.IsKept
-  DoesJob (Solve workers large board) outcome =
-      Solves workers large (at board.now) output outcome × input.IsKept
-  DoesJob (Report workers large board) outcome =
-      Counts workers large (at board.now) output outcome × input.IsKept
-  DoesJob (Play side large board) outcome = Plays side large (at board.now) input output outcome
+  DoesJob (Solve workers limit board) outcome =
+      Solves workers limit (at board.now) output outcome × input.IsKept
+  DoesJob (Report workers limit board) outcome =
+      Counts workers limit (at board.now) output outcome × input.IsKept
+  DoesJob (Play side limit board) outcome = Plays side limit (at board.now) input output outcome
   DoesJob (Climb levels) outcome = Climbs levels input output outcome
 
   -- an input of the job has failed, or can fail: standard input, or a file whose bytes aren't known
@@ -137,9 +119,9 @@ module _ (at : List ℕ → File) (input output : Stream) where
   CanBeUnread Joined = input.HasFailed
   CanBeUnread (Check board proof) = CanFail (at board.now) ⊎ CanFail (at proof.now)
   CanBeUnread (Nested levels pebbles) = ⊥
-  CanBeUnread (Solve workers large board) = CanFail (at board.now)
-  CanBeUnread (Report workers large board) = CanFail (at board.now)
-  CanBeUnread (Play side large board) = CanFail (at board.now) ⊎ input.HasFailed
+  CanBeUnread (Solve workers limit board) = CanFail (at board.now)
+  CanBeUnread (Report workers limit board) = CanFail (at board.now)
+  CanBeUnread (Play side limit board) = CanFail (at board.now) ⊎ input.HasFailed
   CanBeUnread (Climb levels) = input.HasFailed
 
   -- the same; the streams have failed if the outcome says so, and only then; and no read fault is

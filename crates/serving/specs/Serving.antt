@@ -8,19 +8,20 @@ use Rattle.command_line.specs.Commands.{program}
 use Rattle.command_line.specs.Explaining.{asks_to_explain, words_of_job}
 use Rattle.command_line.specs.Reading.{IsReadAs, ShowsWords}
 use Rattle.command_line.specs.declared.asked.Job.{Job}
-use Rattle.command_line.specs.declared.asked.Job.TheVariants.{Joined, Solve, Report, Play, Climb}
+use Rattle.command_line.specs.declared.asked.Job.TheVariants.{Joined, Play, Climb}
 use Rattle.command_line.specs.declared.asked.JobFault.{JobFault}
 use Rattle.command_line.specs.declared.asked.JobFault.TheVariants.{Help, Usage, Memory as NoMemory}
-use Rattle.player.specs.Showing.{AreForPerson, HasNoControl, IsTaken}
+use Rattle.console.specs.Showing.{HasNoControl, IsTaken}
 use Rattle.serving.specs.FaultLines.{line_of_fault}
 use Rattle.serving.specs.Folders.{File}
 use Rattle.serving.specs.Jobs.{IsDone}
 use Rattle.runs.specs.Run.{Stream}
 use Rattle.serving.specs.Outcomes.{status_of}
+use Rattle.serving.specs.Telling.{IsToldInJob}
 use Rattle.runs.specs.declared.fault.RunFault.TheVariants.{Memory, Read, Write}
 use Rattle.serving.specs.declared.outcome.Outcome.{Outcome}
 use Rattle.serving.specs.declared.outcome.Outcome.TheVariants.{Broken, Done, Refused}
-use Rattle.serving.specs.declared.serving.Terminals.{Terminals}
+use Rattle.console.specs.declared.streams.Terminals.{Terminals}
 use Rattle.serving.specs.declared.serving.Words.{Words}
 use Rattle.serving.specs.declared.serving.Words.TheVariants.{Given, NotText, OutOfMemory}
 
@@ -59,27 +60,13 @@ IsEnding explains (Broken fault) said = IsExplained explains (line_of_fault faul
 -- the job reads standard input, with lines that a person may type
 abbrev pub is_typed : Job → Bool
 is_typed Joined = true
-is_typed (Play side large board) = true
+is_typed (Play side limit board) = true
 is_typed (Climb levels) = true
 is_typed job = false
 
 -- the job reads standard input, which is closed
 abbrev pub lacks_input : Terminals → Job → Bool
 lacks_input terminals job = terminals.input_closed && is_typed job
-
--- the job asks for the limit of large boards
-abbrev pub is_large : Job → Bool
-is_large (Solve workers large board) = large
-is_large (Report workers large board) = large
-is_large (Play side large board) = large
-is_large job = false
-
--- what a person is told while the job is done: lines, if standard error is a terminal, and the job
--- reads typed lines, from a terminal too, or the board may be large; else nothing
-abbrev pub IsPrompted : Terminals → Job → List ℕ → Type 0
-IsPrompted terminals job told =
-    AreForPerson ((is_typed job && (terminals.input && terminals.errors))
-    || (is_large job && terminals.errors)) told
 
 -- the text was written; if it is empty, the stream is as it was
 abbrev pub IsSaid : Stream → List ℕ → Type 0
@@ -115,11 +102,13 @@ module _ (at : List ℕ → File) (terminals : Terminals) (explains : Bool)
   AnswersWords (Usage text) = IsRefusedWith (string_bytes text)
   AnswersWords NoMemory = HasNoMemory
 
-  -- the job is done or broken off; or it lacks its input, and that alone is told
+  -- the job is done or broken off, and a person was told what belongs to it; or it lacks its input,
+  -- and that alone is told
   abbrev pub ServesJob : Job → Type 0
   ServesJob job =
-      ((lacks_input terminals job ≡ false) × (told : List ℕ) × IsPrompted terminals job told
-      × (outcome : Outcome) × IsDone at input output job outcome × EndsWith told outcome)
+      ((lacks_input terminals job ≡ false) × (outcome : Outcome) × (told : List ℕ)
+      × IsDone at input output job outcome
+      × IsToldInJob at terminals input output outcome job told × EndsWith told outcome)
       ⊎ ((lacks_input terminals job ≡ true) × input.IsKept × output.IsKept
       × EndsWith [] (Broken Read))
 

@@ -8,7 +8,7 @@ use Rattle.command_line.specs.Reading.{AsksForVersion}
 use Rattle.serving.specs.Folders.{File, Unknown}
 use Rattle.runs.specs.Run.{Stream}
 use Rattle.serving.specs.Serving.{ServesAnyWords}
-use Rattle.serving.specs.declared.serving.Terminals.{Terminals}
+use Rattle.console.specs.declared.streams.Terminals.{Terminals}
 use Rattle.serving.specs.declared.serving.Words.{Words}
 use Rattle.serving.specs.declared.serving.Words.TheVariants.{Given}
 
@@ -51,9 +51,3 @@ pub record IsServed (at : List ℕ → File) (terminals : Terminals) (before : B
   pub had_errors : IsKnown errors before.errors
   pub serves : ServesAnyWords at terminals input output errors status words
   pub given : status ≢ 4
-
--- standard input, output and error
-pub record StandardStreams (I O E : Type 0) : Type 0 where
-  pub input : I
-  pub output : O
-  pub errors : E

@@ -1,8 +1,9 @@
 //! The program as a library: from the words of its command line to its exit status, over a folder
-//! and three streams.
+//! and a console.
 #![tactic(auto)]
 
 mod fault_lines;
+mod files;
 mod folder;
 mod jobs;
 mod outcome;
@@ -12,5 +13,5 @@ mod watched;
 
 pub use explanations::Trouble;
 pub use folder::{Folder, System};
-pub use serving::{Terminals, Words, serve};
+pub use serving::{Words, serve};
 pub use serving_laws::one_serving;

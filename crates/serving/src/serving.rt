@@ -1,25 +1,27 @@
 //! The program, from its words to its exit status.
 
-ghost use Rattle.std.specs.Prelude.{◌≡◌, ◌&&◌, ℕ, List, false};
+ghost use Rattle.std.specs.Prelude.{◌≡◌, ℕ, List, false};
 ghost use Rattle.clap.specs.Walk.{texts};
-ghost use Rattle.player.specs.Showing.{IsMore};
+ghost use Rattle.console.specs.Showing.{IsMore};
 ghost use Rattle.runs.specs.Run.{stream_of};
+ghost use Rattle.serving.specs.Consoles.{IsReady};
 ghost use Rattle.serving.specs.Serving.{IsEnding, IsExplained};
 ghost use Rattle.serving.specs.Serving.{ServesAnyWords, ServesJob, ServesWords};
-ghost use Rattle.serving.specs.Serving.{is_explained, is_typed, lacks_input};
+ghost use Rattle.serving.specs.Serving.{is_typed, lacks_input};
 ghost use Rattle.command_line.specs.Reading.{IsInRange};
 ghost use Rattle.runs.specs.declared.fault.RunFault.TheVariants.{Memory};
 ghost use Rattle.serving.specs.declared.outcome.Outcome.TheVariants.{Broken};
 ghost use Rattle.serving.specs.Outcomes.{status_of};
 
 use crate::fault_lines::fault_line;
+use crate::files::Files;
 use crate::folder::Folder;
 use crate::jobs::carry_out;
 use crate::outcome::Outcome;
 use board_text::{Sink, Source};
-use command_line::{Job, JobFault, asks_to_explain, job, words_of_job};
+use command_line::{Job, JobFault, job, words_of_job};
+use console::{Console, Terminals, write_more};
 use explanations::{Inputs, Note, write_note};
-use player::write_more;
 use runs::{RunFault, write_text};
 use std::alloc::Global;
 use std::sync::Wait;
@@ -38,57 +40,11 @@ pub enum Words<'a, 'w> {
     OutOfMemory,
 }
 
-/// The standard streams that are terminals, and whether there is a standard input.
-#[derive(Clone, Copy, Debug, PartialEq, Eq)]
-pub struct Terminals {
-    /// Whether the process was started with standard input closed.
-    pub input_closed: bool,
-    pub input: bool,
-    pub errors: bool,
-}
-
-impl Terminals {
-    /// Whether standard input and standard error are terminals.
-    pub(crate) fn are_both(self) -> bool
-        ensures { result ≡ (self.input && self.errors) }
-    {
-        self.input && self.errors
-    }
-
-    /// Whether a person sees that a large board is solved, if the board may be `large`.
-    pub(crate) fn see_size(self, large: bool) -> bool
-        ensures { result ≡ (large && self.errors) }
-    {
-        large && self.errors
-    }
-
-    /// Whether `job` reads standard input, and that is closed.
-    fn lacks_input(self, job: &Job<'_>) -> bool
-        ensures { result ≡ lacks_input self job.now }
-    {
-        self.input_closed && is_typed(job)
-    }
-}
-
-/// Who is told what beside the output.
-#[derive(Clone, Copy)]
-pub(crate) struct Audience {
-    pub(crate) terminals: Terminals,
-    /// Whether each fault is explained.
-    pub(crate) explains: bool,
-}
-
-impl Audience {
-    /// The audience of a run on these words.
-    fn of(words: &[&str], terminals: Terminals) -> Audience
-        ensures terminals { result.terminals ≡ terminals }
-        ensures explains { result.explains ≡ is_explained terminals (texts words.now) }
-    {
-        Audience {
-            terminals,
-            explains: terminals.errors || asks_to_explain(words),
-        }
-    }
+/// Whether `job` reads standard input, and that is closed.
+fn lacks_input(terminals: Terminals, job: &Job<'_>) -> bool
+    ensures { result ≡ lacks_input terminals job.now }
+{
+    terminals.input_closed && is_typed(job)
 }
 
 /// Whether `job` reads standard input.
@@ -100,40 +56,35 @@ fn is_typed(job: &Job<'_>) -> bool
 
 /// Does the job that `words` ask for, and gives the exit status.
 ///
-/// Paths are opened in the folder. Results, transcripts and help go to `output`, fault lines and
-/// usage texts to `errors`, and if that is a terminal, or `--explain` is among the words, an
-/// explanation after each. If standard input and `errors` are terminals, a person who types is told
-/// there what can be typed.
+/// Paths are opened in the folder. Results, transcripts and help go to the output, fault lines and
+/// usage texts to standard error, and if that is a terminal, or `--explain` is among the words, an
+/// explanation after each. If it is a terminal, a person is told there that a large board is
+/// solved, and if the input is one too, what can be typed.
 /// A job that reads standard input isn't begun if that is closed, which is a read fault.
 /// The streams must not have failed before. With several workers it may wait for them.
 pub fn serve<F: Folder, I: Source, O: Sink, E: Sink>(
     rt: &(impl Threads + Wait + Sync),
     alloc: Global,
     words: &Words<'_, '_>,
-    terminals: Terminals,
     folder: &F,
-    input: &mut I,
-    output: &mut O,
-    errors: &mut E,
+    console: &mut Console<I, O, E>,
 ) -> u8
-    requires input_ready { I.has_failed input.old ≡ false }
-    requires input_unended { I.has_ended input.old ≡ false }
-    requires output_ready { O.has_failed output.old ≡ false }
-    requires errors_ready { E.has_failed errors.old ≡ false }
-    ensures { ServesAnyWords (F.at folder.now) terminals
-        (stream_of I.remaining I.has_failed input.old input.new)
-        (stream_of O.contents O.has_failed output.old output.new)
-        (stream_of E.contents E.has_failed errors.old errors.new)
+    requires ready { IsReady I.has_failed I.has_ended O.has_failed console.old }
+    requires errors_ready { E.has_failed console.old.errors ≡ false }
+    ensures { ServesAnyWords (F.at folder.now) console.old.terminals
+        (stream_of I.remaining I.has_failed console.old.input console.new.input)
+        (stream_of O.contents O.has_failed console.old.output console.new.output)
+        (stream_of E.contents E.has_failed console.old.errors console.new.errors)
         result words.now }
 {
+    let at_terminal = console.terminals.errors;
     match *words {
         Words::Given(words) => {
-            let audience = Audience::of(words, terminals);
-            let words = words_of_job(words);
-            serve_words(rt, alloc, words, audience, folder, input, output, errors)
+            let files = Files::of(folder, console.terminals, words);
+            serve_words(rt, alloc, words_of_job(words), &files, console)
         }
-        Words::NotText => refuse(NOT_TEXT, &Note::no_text(), terminals.errors, errors),
-        Words::OutOfMemory => tell_no_memory(terminals.errors, errors),
+        Words::NotText => refuse(NOT_TEXT, &Note::no_text(), at_terminal, &mut console.errors),
+        Words::OutOfMemory => tell_no_memory(at_terminal, &mut console.errors),
     }
 }
 
@@ -142,32 +93,28 @@ fn serve_words<F: Folder, I: Source, O: Sink, E: Sink>(
     rt: &(impl Threads + Wait + Sync),
     alloc: Global,
     words: &[&str],
-    audience: Audience,
-    folder: &F,
-    input: &mut I,
-    output: &mut O,
-    errors: &mut E,
+    files: &Files<'_, F>,
+    console: &mut Console<I, O, E>,
 ) -> u8
-    requires input_ready { I.has_failed input.old ≡ false }
-    requires input_unended { I.has_ended input.old ≡ false }
-    requires output_ready { O.has_failed output.old ≡ false }
-    requires errors_ready { E.has_failed errors.old ≡ false }
-    ensures { ServesWords (F.at folder.now) audience.terminals audience.explains
-        (stream_of I.remaining I.has_failed input.old input.new)
-        (stream_of O.contents O.has_failed output.old output.new)
-        (stream_of E.contents E.has_failed errors.old errors.new)
+    requires ready { IsReady I.has_failed I.has_ended O.has_failed console.old }
+    requires errors_ready { E.has_failed console.old.errors ≡ false }
+    ensures { ServesWords (F.at files.now.folder.now) console.old.terminals files.now.explains
+        (stream_of I.remaining I.has_failed console.old.input console.new.input)
+        (stream_of O.contents O.has_failed console.old.output console.new.output)
+        (stream_of E.contents E.has_failed console.old.errors console.new.errors)
         result (texts words.now) }
 {
     match job(alloc, words) {
-        Ok(job) => serve_job(rt, alloc, &job, audience, folder, input, output, errors),
+        Ok(job) => serve_job(rt, alloc, &job, files, console),
         Err(JobFault::Help { text }) => {
-            let outcome = Outcome::of_run(write_text(output, &text));
-            tell_of_words(outcome, audience.explains, errors)
+            let outcome = Outcome::of_run(write_text(&mut console.output, &text));
+            tell_of_words(outcome, files.explains, &mut console.errors)
         }
         Err(JobFault::Usage { text }) => {
-            refuse(&text, &Note::of_words(words), audience.explains, errors)
+            let note = Note::of_words(words);
+            refuse(&text, &note, files.explains, &mut console.errors)
         }
-        Err(JobFault::Memory) => tell_no_memory(audience.explains, errors),
+        Err(JobFault::Memory) => tell_no_memory(files.explains, &mut console.errors),
     }
 }
 
@@ -176,29 +123,34 @@ fn serve_job<F: Folder, I: Source, O: Sink, E: Sink>(
     rt: &(impl Threads + Wait + Sync),
     alloc: Global,
     job: &Job<'_>,
-    audience: Audience,
-    folder: &F,
-    input: &mut I,
-    output: &mut O,
-    errors: &mut E,
+    files: &Files<'_, F>,
+    console: &mut Console<I, O, E>,
 ) -> u8
     requires numbers { IsInRange job.now }
-    requires input_ready { I.has_failed input.old ≡ false }
-    requires input_unended { I.has_ended input.old ≡ false }
-    requires output_ready { O.has_failed output.old ≡ false }
-    requires errors_ready { E.has_failed errors.old ≡ false }
-    ensures { ServesJob (F.at folder.now) audience.terminals audience.explains
-        (stream_of I.remaining I.has_failed input.old input.new)
-        (stream_of O.contents O.has_failed output.old output.new)
-        (stream_of E.contents E.has_failed errors.old errors.new)
+    requires ready { IsReady I.has_failed I.has_ended O.has_failed console.old }
+    requires errors_ready { E.has_failed console.old.errors ≡ false }
+    ensures { ServesJob (F.at files.now.folder.now) console.old.terminals files.now.explains
+        (stream_of I.remaining I.has_failed console.old.input console.new.input)
+        (stream_of O.contents O.has_failed console.old.output console.new.output)
+        (stream_of E.contents E.has_failed console.old.errors console.new.errors)
         result job.now }
 {
-    if audience.terminals.lacks_input(job) {
+    if lacks_input(console.terminals, job) {
         let closed = Outcome::Broken(RunFault::Read);
-        return tell(closed, &Note::no_input(), audience.explains, errors);
+        return tell(
+            closed,
+            &Note::no_input(),
+            files.explains,
+            &mut console.errors,
+        );
     }
-    let ended = carry_out(rt, alloc, job, audience, folder, input, output, errors);
-    tell(ended.outcome, &ended.note, audience.explains, errors)
+    let ended = carry_out(rt, alloc, job, files, console);
+    tell(
+        ended.outcome,
+        &ended.note,
+        files.explains,
+        &mut console.errors,
+    )
 }
 
 /// Says that memory to read the words in was refused, and gives the exit status.

@@ -4,8 +4,8 @@ ghost use Rattle.std.specs.Prelude.{◌≡◌, ℕ, List};
 ghost use Rattle.serving.specs.Folders.{File};
 ghost use Rattle.runs.specs.Run.{stream_of};
 ghost use Rattle.serving.specs.Servings.{AskForNoExplanation, BytesBefore, HaveOwnText, IsServed};
-ghost use Rattle.serving.specs.Servings.{StandardStreams};
-ghost use Rattle.serving.specs.declared.serving.Terminals.{Terminals as TerminalsData};
+ghost use Rattle.console.specs.declared.streams.Console.{Console as ConsoleData};
+ghost use Rattle.console.specs.declared.streams.Terminals.{Terminals as TerminalsData};
 ghost use Rattle.serving.specs.declared.serving.Words.{Words as WordsData};
 
 use board_text::{Sink, Source};
@@ -17,8 +17,8 @@ use board_text::{Sink, Source};
 /// is refused.
 pub fn one_serving<I: Source, O: Sink, E: Sink>()
     ensures { (at : List ℕ → File) → (terminals : TerminalsData) → (before : BytesBefore)
-        → (words : WordsData) → (old : StandardStreams I O E) → (new : StandardStreams I O E)
-        → (other_old : StandardStreams I O E) → (other_new : StandardStreams I O E)
+        → (words : WordsData) → (old : ConsoleData I O E) → (new : ConsoleData I O E)
+        → (other_old : ConsoleData I O E) → (other_new : ConsoleData I O E)
         → (status : ℕ) → (other : ℕ)
         → IsServed at terminals before words
         (stream_of I.remaining I.has_failed old.input new.input)

@@ -4,8 +4,8 @@ pub returns : goal.returns
 returns g c = (
   c.borrowed-words.result,
   c.borrowed-words.ensures,
-  c.serve-status.new.input,
-  c.serve-status.new.output,
-  c.serve-status.new.errors,
-  rw c.from.ensures (rw (c.new-input.ensures, c.new-output.ensures, c.new-errors.ensures) at c.serve-status.ensures),
+  c.serve-status.new.console.input,
+  c.serve-status.new.console.output,
+  c.serve-status.new.console.errors,
+  rw c.from.ensures (rw (c.new.ensures, c.new-2.ensures, c.new-3.ensures) at c.serve-status.ensures),
 )

@@ -5,8 +5,8 @@ use Rattle.classes.specs.Numbers.{class_count}
 use Rattle.round_workers.specs.declared.solving.TheConstants.{MIN_SHARED}
 use Rattle.runs.specs.declared.fault.RunFault.{RunFault}
 use Rattle.runs.specs.ClassSolveRun.{HasLongDocument}
-use Rattle.runs.specs.declared.boards.BoardLimit.{BoardLimit}
-use Rattle.runs.specs.declared.boards.BoardLimit.TheVariants.{Small}
+use Rattle.command_line.specs.declared.asked.BoardLimit.{BoardLimit}
+use Rattle.command_line.specs.declared.asked.BoardLimit.TheVariants.{Small}
 use Rattle.runs.specs.declared.fault.RunFault.TheVariants.{DocumentTooLarge, Memory, Worker}
 
 -- out of memory, or a thread wasn't started, which several workers on a small board with enough

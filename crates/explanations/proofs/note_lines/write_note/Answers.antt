@@ -1,7 +1,7 @@
 use Rattle.std.proofs.Common.{refl, ◌++◌, ◌∷◌, [], subst}
 use Rattle.board_text.specs.LineForms.{with_line_feed}
-use Rattle.player.specs.Showing.{IsMore, shown}
-use Rattle.player.proofs.Cited.{then_more}
+use Rattle.console.specs.Showing.{IsMore, shown}
+use Rattle.console.proofs.Cited.{then_more}
 use Rattle.explanations.proofs.NoteLines.{colon_is_plain, line_of_parts, plain_line}
 use Rattle.explanations.proofs.note_lines.write_note.Goals as goal
 

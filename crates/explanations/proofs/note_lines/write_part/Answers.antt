@@ -1,6 +1,6 @@
 use Rattle.std.specs.Fmt.{decimal}
-use Rattle.player.specs.Showing.{shown}
-use Rattle.player.proofs.Cited.{plain_if_shown}
+use Rattle.console.specs.Showing.{shown}
+use Rattle.console.proofs.Cited.{plain_if_shown}
 use Rattle.explanations.proofs.note_lines.write_part.Goals as goal
 
 pub returns-in-Words : goal.returns-in-Words

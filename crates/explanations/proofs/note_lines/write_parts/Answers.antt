@@ -1,6 +1,6 @@
 use Rattle.std.proofs.Common.{◌++◌, [], refl}
-use Rattle.player.specs.Showing.{shown}
-use Rattle.player.proofs.Cited.{none_more, plain_both, then_more}
+use Rattle.console.specs.Showing.{shown}
+use Rattle.console.proofs.Cited.{none_more, plain_both, then_more}
 use Rattle.explanations.proofs.note_lines.write_parts.Goals as goal
 
 pub loop-part-init : goal.loop-part-init

@@ -1,5 +1,5 @@
 use Rattle.std.proofs.Common.{ℕ, List}
-use Rattle.player.specs.Showing.{HasNoControl, IsMore}
+use Rattle.console.specs.Showing.{HasNoControl, IsMore}
 use Rattle.explanations.proofs.note_lines.write_parts.Given as goal
 
 abbrev pub invariant-loop-part : goal.invariant-loop-part

@@ -1,7 +1,7 @@
 use Rattle.std.proofs.Common.{false, true}
 use Rattle.player.specs.Inside.Prompts.{greeting_if}
-use Rattle.player.specs.Showing.{IsMore}
-use Rattle.player.proofs.MoreTexts.{if_there, none_more}
+use Rattle.console.specs.Showing.{IsMore}
+use Rattle.console.proofs.Cited.{if_there, none_more}
 use Rattle.player.proofs.prompts.greet.Goals as goal
 
 pub returns-then-not-shows : goal.returns-then-not-shows

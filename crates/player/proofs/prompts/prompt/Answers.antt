@@ -2,8 +2,8 @@ use Rattle.std.proofs.Common.{[], ◌++◌, false, refl, true}
 use Rattle.board_text.specs.LineForms.{with_line_feed}
 use Rattle.player.specs.Inside.Prompts.{IsToldHere}
 use Rattle.player.specs.Prompts.{left_words, shown_line}
-use Rattle.player.specs.Showing.{shown}
-use Rattle.player.proofs.MoreTexts.{if_there, none_more, then_more, then_shown}
+use Rattle.console.specs.Showing.{shown}
+use Rattle.console.proofs.Cited.{if_there, none_more, then_more, then_shown}
 use Rattle.player.proofs.prompts.prompt.Goals as goal
 
 pub returns-then-not-shows : goal.returns-then-not-shows

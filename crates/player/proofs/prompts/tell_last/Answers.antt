@@ -2,8 +2,8 @@ use Rattle.std.proofs.Common.{[], false, inl, refl, true}
 use Rattle.board_text.specs.LineForms.{with_line_feed}
 use Rattle.player.specs.Inside.Prompts.{IsToldAtEnd}
 use Rattle.player.specs.Prompts.{start_words, shown_line}
-use Rattle.player.specs.Showing.{shown}
-use Rattle.player.proofs.MoreTexts.{if_there, none_more, then_more}
+use Rattle.console.specs.Showing.{shown}
+use Rattle.console.proofs.Cited.{if_there, none_more, then_more}
 use Rattle.player.proofs.ToldPlays.{reached}
 use Rattle.player.proofs.prompts.tell_last.Goals as goal
 use Rattle.player.proofs.prompts.tell_last.Goals.{then-not-shows-via-then-not-shows}

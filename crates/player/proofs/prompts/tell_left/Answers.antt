@@ -1,8 +1,8 @@
 use Rattle.std.proofs.Common.{codes, refl}
 use Rattle.std.specs.Fmt.{decimal}
-use Rattle.player.specs.Showing.{shown}
-use Rattle.player.proofs.MoreTexts.{then_more}
-use Rattle.player.proofs.ShownTexts.{plain_both}
+use Rattle.console.specs.Showing.{shown}
+use Rattle.console.proofs.Cited.{then_more}
+use Rattle.console.proofs.Cited.{plain_both}
 use Rattle.player.proofs.prompts.tell_left.Goals as goal
 
 pub returns-in-Finite-clause-words : goal.returns-in-Finite-clause-words

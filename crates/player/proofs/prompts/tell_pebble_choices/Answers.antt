@@ -1,8 +1,8 @@
 use Rattle.std.proofs.Common.{codes, ◌-◌, ◌++◌, refl, subst}
 use Rattle.std.specs.Fmt.{decimal}
-use Rattle.player.specs.Showing.{IsMore, shown}
+use Rattle.console.specs.Showing.{IsMore, shown}
 use Rattle.player.proofs.ChoiceLines.{many_pebbles, one_pebble}
-use Rattle.player.proofs.MoreTexts.{then_shown}
+use Rattle.console.proofs.Cited.{then_shown}
 use Rattle.player.proofs.prompts.tell_pebble_choices.Goals as goal
 
 pub returns-then-pebbles-eq1 : goal.returns-then-pebbles-eq1

@@ -1,6 +1,6 @@
 use Rattle.std.proofs.Common.{codes}
 use Rattle.std.specs.Fmt.{decimal}
-use Rattle.player.proofs.MoreTexts.{then_shown}
+use Rattle.console.proofs.Cited.{then_shown}
 use Rattle.player.proofs.prompts.tell_start.Goals as goal
 
 pub returns-in-Finite : goal.returns-in-Finite

@@ -1,5 +1,5 @@
 use Rattle.runs.proofs.AcceptedDocuments.{not_wrong}
-use Rattle.runs.specs.declared.boards.BoardLimit.TheVariants.{Small}
+use Rattle.command_line.specs.declared.asked.BoardLimit.TheVariants.{Small}
 use Rattle.runs.proofs.BoardLimits.{few_gaps}
 use Rattle.runs.proofs.Solutions.{report_exists, report_or_wrong}
 use Rattle.runs.proofs.OneOutcome.{one_report}

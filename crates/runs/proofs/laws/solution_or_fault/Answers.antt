@@ -1,4 +1,4 @@
-use Rattle.runs.specs.declared.boards.BoardLimit.TheVariants.{Small}
+use Rattle.command_line.specs.declared.asked.BoardLimit.TheVariants.{Small}
 use Rattle.runs.proofs.AcceptedDocuments.{not_wrong}
 use Rattle.runs.proofs.Solutions.{solution_exists, solution_or_wrong}
 use Rattle.runs.proofs.OneOutcome.{one_solution, one_wrong}

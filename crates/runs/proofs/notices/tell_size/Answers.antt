@@ -3,8 +3,8 @@ use Rattle.std.specs.Fmt.{decimal}
 use Rattle.board_text.specs.LineForms.{with_line_feed}
 use Rattle.classes.specs.Numbers.{ways}
 use Rattle.board_text.specs.PlainBoard.{places}
-use Rattle.player.specs.Showing.{IsMore, shown}
-use Rattle.player.proofs.Cited.{none_more, then_more, then_shown}
+use Rattle.console.specs.Showing.{IsMore, shown}
+use Rattle.console.proofs.Cited.{none_more, then_more, then_shown}
 use Rattle.runs.proofs.ToldNotices.{large_board, nobody_sees, small_board, three}
 use Rattle.runs.proofs.notices.tell_size.Goals as goal
 use Rattle.runs.proofs.notices.tell_size.Goals.{then-not-shows-via-then-not-shows}

@@ -1,4 +1,4 @@
-use Rattle.runs.specs.declared.boards.BoardLimit.TheVariants.{Small}
+use Rattle.command_line.specs.declared.asked.BoardLimit.TheVariants.{Small}
 use Rattle.runs.proofs.BoardLimits.{few_gaps}
 use Rattle.runs.proofs.reporting.report_text_alone.Goals as goal
 

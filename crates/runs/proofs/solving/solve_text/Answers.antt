@@ -1,6 +1,6 @@
 use Rattle.std.proofs.lemmas.Result.{IfErr-weaker}
 use Rattle.classes.proofs.Cited.{few-of-small}
-use Rattle.runs.specs.declared.boards.BoardLimit.TheVariants.{Small}
+use Rattle.command_line.specs.declared.asked.BoardLimit.TheVariants.{Small}
 use Rattle.runs.proofs.SolverFaults.{any_worker}
 use Rattle.runs.proofs.solving.solve_text.Goals as goal
 

@@ -1,5 +1,5 @@
-use Rattle.std.proofs.Common.{◌&&◌, false, refl, sym, true≢false, ◌∙◌}
-use Rattle.serving.proofs.ErrorTexts.{none_prompted, or_first}
+use Rattle.std.proofs.Common.{[], false, refl, sym, true≢false, ◌∙◌}
+use Rattle.console.proofs.Cited.{none_more}
 use Rattle.serving.proofs.jobs.carry_out.Goals as goal
 
 pub returns-in-Joined-clause-done : goal.returns-in-Joined-clause-done
@@ -34,7 +34,7 @@ returns-in-Check-clause-done g c =
     rw c.in-Check.is record {
       does = (c.check.ensures.done, refl);
       writes = c.check.ensures.writes;
-      reads = (λ failed. absurd (true≢false (sym failed ∙ c.requires.input_ready)));
+      reads = (λ failed. absurd (true≢false (sym failed ∙ c.requires.ready.input)));
       unread = c.check.ensures.unread;
     }
 
@@ -43,53 +43,47 @@ returns-in-Nested-clause-done g c =
     rw c.in-Nested.is record {
       does = (c.write_nested.ensures.done, refl);
       writes = c.write_nested.ensures.writes;
-      reads = (λ failed. absurd (true≢false (sym failed ∙ c.requires.input_ready)));
+      reads = (λ failed. absurd (true≢false (sym failed ∙ c.requires.ready.input)));
       unread = c.write_nested.ensures.unread;
     }
 
 pub returns-in-Solve-clause-done : goal.returns-in-Solve-clause-done
 returns-in-Solve-clause-done g c =
     rw c.in-Solve.is record {
-      does = (c.solve.ensures.done, refl);
+      does = (c.solve.ensures.done, c.solve.ensures.kept);
       writes = c.solve.ensures.writes;
-      reads = (λ failed. absurd (true≢false (sym failed ∙ c.requires.input_ready)));
+      reads = (λ failed. absurd (true≢false (sym (rw c.solve.ensures.kept at failed) ∙ c.requires.ready.input)));
       unread = c.solve.ensures.unread;
     }
 
 pub returns-in-Report-clause-done : goal.returns-in-Report-clause-done
 returns-in-Report-clause-done g c =
     rw c.in-Report.is record {
-      does = (c.report.ensures.done, refl);
+      does = (c.report.ensures.done, c.report.ensures.kept);
       writes = c.report.ensures.writes;
-      reads = (λ failed. absurd (true≢false (sym failed ∙ c.requires.input_ready)));
+      reads = (λ failed. absurd (true≢false (sym (rw c.report.ensures.kept at failed) ∙ c.requires.ready.input)));
       unread = c.report.ensures.unread;
     }
 
-pub returns-in-Joined-clause-prompts : goal.returns-in-Joined-clause-prompts
-returns-in-Joined-clause-prompts g c =
-    let p = c.check_joined.ensures.prompts in
-    let terminals = c.args.audience.terminals in
-    rw c.in-Joined.is (p.0, or_first (terminals.input && terminals.errors) false p.0 p.1, p.2)
+pub returns-in-Joined-clause-told : goal.returns-in-Joined-clause-told
+returns-in-Joined-clause-told g c = rw c.in-Joined.is (_, refl, c.check_joined.ensures.told)
 
-pub returns-in-Play-clause-prompts : goal.returns-in-Play-clause-prompts
-returns-in-Play-clause-prompts g c = rw c.in-Play.is c.play.ensures.prompts
+pub returns-in-Check-clause-told : goal.returns-in-Check-clause-told
+returns-in-Check-clause-told g c =
+    rw c.in-Check.is ([], refl, none_more g.E.Sink.contents g.E.Sink.has_failed c.args.console.now.errors)
 
-pub returns-in-Climb-clause-prompts : goal.returns-in-Climb-clause-prompts
-returns-in-Climb-clause-prompts g c =
-    let p = c.climb.ensures.prompts in
-    let terminals = c.args.audience.terminals in
-    rw c.in-Climb.is (p.0, or_first (terminals.input && terminals.errors) false p.0 p.1, p.2)
+pub returns-in-Nested-clause-told : goal.returns-in-Nested-clause-told
+returns-in-Nested-clause-told g c =
+    rw c.in-Nested.is ([], refl, none_more g.E.Sink.contents g.E.Sink.has_failed c.args.console.now.errors)
 
-pub returns-in-Check-clause-prompts : goal.returns-in-Check-clause-prompts
-returns-in-Check-clause-prompts g c =
-    none_prompted g.E.Sink.contents g.E.Sink.has_failed c.args.audience.terminals c.args.job.now c.args.errors.now
+pub returns-in-Solve-clause-told : goal.returns-in-Solve-clause-told
+returns-in-Solve-clause-told g c = rw c.in-Solve.is c.solve.ensures.told
 
-pub returns-in-Nested-clause-prompts : goal.returns-in-Nested-clause-prompts
-returns-in-Nested-clause-prompts g c =
-    none_prompted g.E.Sink.contents g.E.Sink.has_failed c.args.audience.terminals c.args.job.now c.args.errors.now
+pub returns-in-Report-clause-told : goal.returns-in-Report-clause-told
+returns-in-Report-clause-told g c = rw c.in-Report.is c.report.ensures.told
 
-pub returns-in-Solve-clause-prompts : goal.returns-in-Solve-clause-prompts
-returns-in-Solve-clause-prompts g c = rw c.in-Solve.is c.solve.ensures.notice
+pub returns-in-Play-clause-told : goal.returns-in-Play-clause-told
+returns-in-Play-clause-told g c = rw (c.in-Play.is, ← c.are_both.ensures) c.play.ensures.told
 
-pub returns-in-Report-clause-prompts : goal.returns-in-Report-clause-prompts
-returns-in-Report-clause-prompts g c = rw c.in-Report.is c.report.ensures.notice
+pub returns-in-Climb-clause-told : goal.returns-in-Climb-clause-told
+returns-in-Climb-clause-told g c = rw c.in-Climb.is c.climb.ensures.told

@@ -1,14 +1,10 @@
-use Rattle.std.proofs.Common.{subst}
-use Rattle.player.specs.Showing.{AreForPerson}
+use Rattle.std.proofs.Common.{ap, subst, ◌∙◌}
+use Rattle.player.specs.Prompts.{ArePrompts}
 use Rattle.player.specs.Transcript.{PersonClimbs}
-use Rattle.player.proofs.Cited.{prompts_for_person}
+use Rattle.serving.specs.Outcomes.{outcome_of_run}
 use Rattle.serving.proofs.jobs.climb.Goals as goal
 
-pub returns-clause-prompts : goal.returns-clause-prompts
-returns-clause-prompts g c =
-    let p = c.run_climb_with_prompts-ended.ensures.prompts in (
-      p.0,
-      subst (λ shows. AreForPerson shows p.0) c.are_both-shows.ensures
-          (prompts_for_person c.are_both-shows.result (PersonClimbs c.args.levels) p.0 _ _ _ _ p.1 p.3),
-      p.4,
-    )
+pub returns-clause-told : goal.returns-clause-told
+returns-clause-told g c =
+    let told = rw c.are_both-shows.ensures at c.run_climb-ended.ensures.prompts in
+    (told.0, (told.1, c.of.ensures ∙ c.of_run.ensures ∙ ap outcome_of_run told.2, told.3), told.4)

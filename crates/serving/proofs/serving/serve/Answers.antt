@@ -9,14 +9,14 @@ use Rattle.serving.proofs.serving.serve.Goals as goal
 pub returns-in-Given : goal.returns-in-Given
 returns-in-Given g c =
     rw c.in-Given.is
-    (rw (c.of-audience.ensures.terminals, c.of-audience.ensures.explains, c.words_of_job-words.ensures) at
-    c.serve_words.ensures)
+    (rw (c.of-files.ensures.folder, c.of-files.ensures.explains, c.words_of_job.ensures) at c.serve_words.ensures)
 
 pub returns-in-NotText : goal.returns-in-NotText
 returns-in-NotText g c =
     rw c.in-NotText.is (
-      refused g.E.Sink.contents g.E.Sink.has_failed c.args.errors.now c.requires.errors_ready c.refuse.new.errors
-          c.args.terminals.errors (with_line_feed (codes "error: a word on the command line is not text"))
+      refused g.E.Sink.contents g.E.Sink.has_failed c.args.console.now.errors c.requires.errors_ready
+          c.refuse.new.errors
+          c.args.console.now.terminals.errors (with_line_feed (codes "error: a word on the command line is not text"))
           c.refuse.ensures.said,
       refl,
       refl,
@@ -29,9 +29,9 @@ returns-in-OutOfMemory g c =
       refl,
       refl,
       (
-        ended g.E.Sink.contents g.E.Sink.has_failed c.args.errors.now c.requires.errors_ready
+        ended g.E.Sink.contents g.E.Sink.has_failed c.args.console.now.errors c.requires.errors_ready
             c.tell_no_memory.new.errors
-            c.args.terminals.errors (Broken Memory) c.tell_no_memory.ensures.told,
+            c.args.console.now.terminals.errors (Broken Memory) c.tell_no_memory.ensures.told,
         c.tell_no_memory.ensures.status,
       ),
     )

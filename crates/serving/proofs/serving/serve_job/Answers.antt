@@ -10,26 +10,25 @@ returns-then-lacks_input g c = inr (
   refl,
   refl,
   (
-    ended g.E.Sink.contents g.E.Sink.has_failed c.args.errors.now c.requires.errors_ready c.tell.new.errors
-        c.args.audience.explains (Broken Read) c.tell.ensures.told,
+    ended g.E.Sink.contents g.E.Sink.has_failed c.args.console.now.errors c.requires.errors_ready c.tell.new.errors
+        c.args.files.now.explains (Broken Read) c.tell.ensures.told,
     c.tell.ensures.status,
   ),
 )
 
 pub returns : goal.returns
 returns g c =
-    let prompts = c.carry_out-ended.ensures.prompts in
+    let told = c.carry_out-ended.ensures.told in
     inl (
       sym c.lacks_input.ensures ∙ c.if-lacks_input.false,
-      prompts.0,
-      prompts.1,
       c.carry_out-ended.result.outcome,
+      told.0,
       c.carry_out-ended.ensures.done,
+      told.1,
       (
-        prompted g.E.Sink.contents g.E.Sink.has_failed c.args.errors.now c.requires.errors_ready
-            c.carry_out-ended.new.errors
-            c.tell-2.new.errors prompts.0 c.args.audience.explains c.carry_out-ended.result.outcome prompts.2
-            c.tell-2.ensures.told,
+        prompted g.E.Sink.contents g.E.Sink.has_failed c.args.console.now.errors c.requires.errors_ready
+            c.carry_out-ended.new.console.errors c.tell-2.new.errors told.0 c.args.files.now.explains
+            c.carry_out-ended.result.outcome told.2 c.tell-2.ensures.told,
         c.tell-2.ensures.status,
       ),
     )

@@ -18,9 +18,10 @@ returns-in-Ok g c = inl (
 pub returns-in-Err-Help : goal.returns-in-Err-Help
 returns-in-Err-Help g c =
     let fault = c.in-Err-Help.field-0 in
-    let output = stream_of g.O.Sink.contents g.O.Sink.has_failed c.args.output.now c.write_text.new.writer in
-    let input = stream_of g.I.Source.remaining g.I.Source.has_failed c.args.input.now c.args.input.now in
-    let errors = stream_of g.E.Sink.contents g.E.Sink.has_failed c.args.errors.now c.tell_of_words.new.errors in
+    let output = stream_of g.O.Sink.contents g.O.Sink.has_failed c.args.console.now.output c.write_text.new.writer in
+    let input = stream_of g.I.Source.remaining g.I.Source.has_failed c.args.console.now.input c.args.console.now.input
+    in
+    let errors = stream_of g.E.Sink.contents g.E.Sink.has_failed c.args.console.now.errors c.tell_of_words.new.errors in
     let w = c.write_text.ensures in
     let told = rw c.of_run-outcome.ensures at c.tell_of_words.ensures.told in
     let status = rw c.of_run-outcome.ensures at c.tell_of_words.ensures.status in
@@ -34,11 +35,11 @@ returns-in-Err-Help g c =
             (rw (c.deref.ensures, c.in-Err-Help.field-0-is) at w.ok) (rw (c.deref.ensures, c.in-Err-Help.field-0-is)
             at w.prefix) w.fault w.failed,
         refl,
-        helped output c.write_text.result w.fault w.failed (λ o. EndsWith (g.F.Folder.at c.args.folder.now)
-            c.args.audience.terminals c.args.audience.explains input output errors c.tell_of_words.result [] o) (
-              ended g.E.Sink.contents g.E.Sink.has_failed c.args.errors.now c.requires.errors_ready
+        helped output c.write_text.result w.fault w.failed (λ o. EndsWith (g.F.Folder.at c.args.files.now.folder.now)
+            c.args.console.now.terminals c.args.files.now.explains input output errors c.tell_of_words.result [] o) (
+              ended g.E.Sink.contents g.E.Sink.has_failed c.args.console.now.errors c.requires.errors_ready
                   c.tell_of_words.new.errors
-                  c.args.audience.explains _ told,
+                  c.args.files.now.explains _ told,
               status,
             ),
       ),
@@ -53,8 +54,9 @@ returns-in-Err-Usage g c =
       c.in-Err-Usage.ensures.shows,
       c.in-Err-Usage.ensures.takes,
       rw c.in-Err-Usage.field-0-is (
-        refused g.E.Sink.contents g.E.Sink.has_failed c.args.errors.now c.requires.errors_ready c.refuse.new.errors
-            c.args.audience.explains
+        refused g.E.Sink.contents g.E.Sink.has_failed c.args.console.now.errors c.requires.errors_ready
+            c.refuse.new.errors
+            c.args.files.now.explains
             (string_bytes c.in-Err-Usage.text) (rw (c.deref-in-Err-Usage.ensures, c.in-Err-Usage.field-0-is) at
             c.refuse.ensures.said),
         refl,
@@ -75,9 +77,9 @@ returns-in-Err-Memory g c =
         refl,
         refl,
         (
-          ended g.E.Sink.contents g.E.Sink.has_failed c.args.errors.now c.requires.errors_ready
+          ended g.E.Sink.contents g.E.Sink.has_failed c.args.console.now.errors c.requires.errors_ready
               c.tell_no_memory.new.errors
-              c.args.audience.explains (Broken Memory) c.tell_no_memory.ensures.told,
+              c.args.files.now.explains (Broken Memory) c.tell_no_memory.ensures.told,
           c.tell_no_memory.ensures.status,
         ),
       ),

@@ -1,10 +1,10 @@
 use Rattle.std.proofs.Common.{◌<◌, ◌∙◌, ◌++◌, ◌∷◌, [], ap, arith, refl, subst, sym}
 use Rattle.board_text.specs.LineForms.{spaced_numbers}
 use Rattle.board_text.specs.declared.board.TheConstants.{MAX_LABELS}
-use Rattle.player.specs.Showing.{IsMore, shown}
+use Rattle.console.specs.Showing.{IsMore, shown}
 use Rattle.player.specs.Inside.PlayState.{IsLegalAt}
 use Rattle.player.proofs.ListedLabels.{all_listed, none_listed, none_more, one_more, spaced_plain, told_spaced}
-use Rattle.player.proofs.MoreTexts.{none_more as nothing_more}
+use Rattle.console.proofs.Cited.{none_more as nothing_more}
 use Rattle.player.proofs.labeller_side.LabellerSide.tell_legal_labels.Goals as goal
 use Rattle.player.proofs.labeller_side.LabellerSide.tell_legal_labels.Goals.{else-contains, then-contains}
 

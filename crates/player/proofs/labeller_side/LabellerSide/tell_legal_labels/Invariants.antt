@@ -1,7 +1,7 @@
 use Rattle.std.proofs.Common.{ℕ, List}
 use Rattle.board_text.specs.LineForms.{spaced_numbers}
 use Rattle.player.specs.Inside.PlayState.{IsLegalAt}
-use Rattle.player.specs.Showing.{HasNoControl, IsMore}
+use Rattle.console.specs.Showing.{HasNoControl, IsMore}
 use Rattle.player.proofs.ListedLabels.{AreListed}
 use Rattle.player.proofs.labeller_side.LabellerSide.tell_legal_labels.Given as goal
 

@@ -2,9 +2,9 @@ use Rattle.std.proofs.Common.{codes, refl, subst, ◌++◌}
 use Rattle.std.specs.Fmt.{decimal}
 use Rattle.board_text.specs.LineForms.{spaced_numbers}
 use Rattle.player.specs.Prompts.{label_choices}
-use Rattle.player.specs.Showing.{IsMore, shown}
+use Rattle.console.specs.Showing.{IsMore, shown}
 use Rattle.player.proofs.ChoiceLines.{are_choices, five}
-use Rattle.player.proofs.MoreTexts.{then_shown}
+use Rattle.console.proofs.Cited.{then_shown}
 use Rattle.player.proofs.labeller_side.LabellerSidePlay.tell_choices.Goals as goal
 
 pub returns : goal.returns

@@ -1,0 +1,4 @@
+pub mod ShownTexts
+pub mod Fronts
+pub mod MoreTexts
+pub mod Cited

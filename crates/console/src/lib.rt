@@ -1,0 +1,9 @@
+//! The standard streams of a program, what of them is a terminal, and the words that a person is
+//! told there.
+#![tactic(auto)]
+
+mod showing;
+mod streams;
+
+pub use showing::{write_digits, write_line, write_more, write_shown};
+pub use streams::{Console, Terminals};

@@ -1,6 +1,0 @@
-use Rattle.std.proofs.Common.{◌≡◌, ◌++◌, drop, take}
-use Rattle.player.specs.Showing.{shown}
-use Rattle.player.proofs.showing.around_control.Given as goal
-
-abbrev pub invariant-loop-at : goal.invariant-loop-at
-invariant-loop-at l = shown l.bytes ≡ take l.at l.bytes ++ shown (drop l.at l.bytes)

@@ -1,6 +1,0 @@
-use Rattle.std.proofs.Common.{arith}
-use Rattle.player.proofs.ShownTexts.{plain_decimal}
-use Rattle.player.proofs.showing.write_digits.Goals as goal
-
-pub returns-clause-plain : goal.returns-clause-plain
-returns-clause-plain g c = plain_decimal c.args.number (omega (arith, c.ranges.number))

@@ -1,0 +1,95 @@
+-- Where standard error is no terminal, a person is told nothing.
+use Rattle.std.proofs.Common.{◌≡◌, ℕ, ◌&&◌, Bool, true, false, List, [], inl, inr, refl, ap, subst, ◌∙◌}
+use Rattle.std.specs.Prelude.{◌⊎◌, Err, Result}
+use Rattle.board_text.specs.PlainBoard.{PlainBoard}
+use Rattle.command_line.specs.declared.asked.BoardLimit.{BoardLimit}
+use Rattle.command_line.specs.declared.asked.Job.{Job}
+use Rattle.command_line.specs.declared.asked.Job.TheVariants.{Joined, Check, Nested, Solve, Report, Play, Climb}
+use Rattle.console.specs.declared.streams.Terminals.{Terminals}
+use Rattle.player.specs.Prompts.{ArePrompts}
+use Rattle.player.specs.Transcript.{PersonClimbs}
+use Rattle.player.specs.declared.end.PlayEnd.{PlayEnd}
+use Rattle.player.specs.declared.end.PlayFault.{PlayFault}
+use Rattle.player.proofs.Cited.{nothing_told}
+use Rattle.positions.specs.declared.side.Side.{Side}
+use Rattle.runs.specs.BoardRun.{GaveBoard, GaveNoBoard}
+use Rattle.runs.specs.Notices.{IsNoticed}
+use Rattle.runs.specs.PlayRun.{IsToldInRun, game_played, run_of_play}
+use Rattle.runs.specs.Run.{Bytes, Stream}
+use Rattle.runs.specs.declared.fault.RunFault.{RunFault}
+use Rattle.runs.specs.declared.fault.RunFault.TheVariants.{Memory}
+use Rattle.runs.specs.declared.reading.TheConstants.{MAX_BOARD_BYTES}
+use Rattle.serving.specs.Folders.{File}
+use Rattle.serving.specs.Telling.{IsToldInJob, OpensAndTells, types_and_sees}
+use Rattle.serving.proofs.Greetings.{ungreeted}
+use Rattle.serving.specs.declared.outcome.Outcome.{Outcome}
+
+-- nobody sees standard error
+unseen : (typed sees : Bool) → sees ≡ false → (typed && sees) ≡ false
+unseen true sees off = off
+unseen false sees off = refl
+
+unnoticed : {Answer : Type 0} (IsGiven : PlainBoard → Type 0) (IsMissing : RunFault → Type 0) (shows : Bool)
+    → shows ≡ false → (result : Result Answer RunFault) (told : List ℕ)
+    → IsNoticed IsGiven IsMissing shows result told → told ≡ []
+unnoticed IsGiven IsMissing true off result told is = cc
+unnoticed IsGiven IsMissing false off result told (inl (board, given, is)) = is
+unnoticed IsGiven IsMissing false off result told (inr (fault, broke, missing, none)) = none
+
+unprompted : (limit : BoardLimit) (side : Side) (most_bytes : ℕ) (Untouched : Type 0) (board lines written : Bytes)
+    (result : Result PlayEnd RunFault) (told : List ℕ)
+    → IsToldInRun limit side most_bytes Untouched board lines written false false result told → told ≡ []
+unprompted limit side most_bytes Untouched board lines written result told (inl none) = none.4
+unprompted limit side most_bytes Untouched board lines written result told (inr (b, gave, prompts, is, how)) =
+    is ∙ by how
+  where
+    by : ((result ≡ Err Memory) × Untouched × (prompts ≡ []))
+        ⊎ ((played : Result PlayEnd PlayFault) × (result ≡ run_of_play played)
+        × ArePrompts false (game_played side b) lines.old lines.new written.old written.new played prompts)
+        → prompts ≡ []
+    by (inl (refused, kept, none)) = none
+    by (inr (played, same, are)) =
+        nothing_told (game_played side b) prompts lines.old lines.new written.old written.new played are
+
+unopened : {Answer : Type 0} (file : File) (Tells : Bytes → Result Answer RunFault → List ℕ → Type 0)
+    (outcome : Outcome) (told : List ℕ)
+    → ((read : Bytes) (result : Result Answer RunFault) → Tells read result told → told ≡ [])
+    → OpensAndTells file Tells outcome told → told ≡ []
+unopened file Tells outcome told none (inl (fails, is)) = is
+unopened file Tells outcome told none (inr (read, opens, result, same, tells)) = none read result tells
+
+module _ (at : List ℕ → File) (terminals : Terminals) (off : terminals.errors ≡ false) (input output : Stream)
+    (outcome : Outcome) where
+  unseen_here : types_and_sees terminals ≡ false
+  unseen_here = unseen terminals.input terminals.errors off
+
+  -- of the size of a board
+  size_untold : {Answer : Type 0} (limit : BoardLimit) (file : File) (told : List ℕ)
+      → OpensAndTells {Answer = Answer} file (λ read. IsNoticed (GaveBoard limit MAX_BOARD_BYTES read)
+      (GaveNoBoard limit MAX_BOARD_BYTES read) terminals.errors) outcome told → told ≡ []
+  size_untold {Answer} limit file told is =
+      unopened {Answer = Answer} file (λ read. IsNoticed (GaveBoard limit MAX_BOARD_BYTES read)
+      (GaveNoBoard limit MAX_BOARD_BYTES read) terminals.errors) outcome told
+      (λ read result tells. unnoticed (GaveBoard limit MAX_BOARD_BYTES read) (GaveNoBoard limit MAX_BOARD_BYTES read)
+      terminals.errors off result told tells) is
+
+  pub nothing_in_job : (job : Job) (told : List ℕ) → IsToldInJob at terminals input output outcome job told → told ≡ []
+  nothing_in_job Joined told is = is ∙ ungreeted terminals unseen_here
+  nothing_in_job (Check board proof) told is = is
+  nothing_in_job (Nested levels pebbles) told is = is
+  nothing_in_job (Solve workers limit board) told is = size_untold limit (at board.now) told is
+  nothing_in_job (Report workers limit board) told is = size_untold limit (at board.now) told is
+  nothing_in_job (Play side limit board) told is =
+      unopened {Answer = PlayEnd} (at board.now)
+      (λ read. IsToldInRun limit side MAX_BOARD_BYTES (input.IsKept × output.IsKept) read input.bytes output.bytes
+      terminals.errors (types_and_sees terminals)) outcome told
+      (λ read result tells. unprompted limit side MAX_BOARD_BYTES (input.IsKept × output.IsKept) read input.bytes
+      output.bytes result told
+      (subst (λ prompts. IsToldInRun limit side MAX_BOARD_BYTES (input.IsKept × output.IsKept) read input.bytes
+      output.bytes false prompts result told) unseen_here
+      (subst (λ sees. IsToldInRun limit side MAX_BOARD_BYTES (input.IsKept × output.IsKept) read input.bytes
+      output.bytes sees (types_and_sees terminals) result told) off tells))) is
+  nothing_in_job (Climb levels) told (played, same, are) =
+      nothing_told (PersonClimbs levels) told input.bytes.old input.bytes.new output.bytes.old output.bytes.new played
+      (subst (λ shows. ArePrompts shows (PersonClimbs levels) input.bytes.old input.bytes.new output.bytes.old
+      output.bytes.new played told) unseen_here are)
