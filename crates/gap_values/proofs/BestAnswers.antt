@@ -1,9 +1,14 @@
--- The best answer of a gap, label by label.
-use Rattle.std.proofs.Common.{◌≡◌, ℕ, suc, ◌+◌, ◌-◌, ◌<◌, ◌≤◌, ◌⊎◌, List, Some, refl, sym, subst, inl, inr, arith, ◌↔◌}
+-- The best answer of a gap, answer by answer.
+use Rattle.std.proofs.Common.{◌≡◌, ℕ, suc, ◌+◌, ◌-◌, ◌<◌, ◌≤◌, ◌↔◌, List, Option, None, Some, MatchOption}
+use Rattle.std.proofs.Common.{true, refl, subst, inl, inr, arith}
 use Rattle.std.proofs.lemmas.Bool.{cases_lt}
+use Rattle.board_text.specs.Domination.{has_bit}
+use Rattle.board_text.specs.declared.board.TheConstants.{MAX_LABELS}
 use Rattle.board_text.specs.PlainBoard.{PlainBoard, IsBoard, places}
 use Rattle.positions.specs.Counts.{IsSmallest}
+use Rattle.positions.specs.LabelWalk.{Walk, TakesSmallest}
 use Rattle.positions.specs.Value.{HasValueAtMost}
+use Rattle.positions.proofs.Cited.{AreFrom, after_step, next_of, none_left}
 use Rattle.positions.proofs.Values.{at_most_from_tree, tree_from_at_most}
 use Rattle.classes.specs.Classes.{IsClass}
 use Rattle.positions.specs.Gaps.{AnswersGap}
@@ -24,102 +29,73 @@ pub record HasWord (board : PlainBoard) (words gap : List ℕ) (label word : ℕ
 abbrev pub IsBelow : PlainBoard → List ℕ → List ℕ → ℕ → ℕ → Type 0
 IsBelow board words gap label bound = (word : ℕ) × HasWord board words gap label word × (word < bound)
 
--- of the labels before this one the smallest answer with the greatest word, and the bound above it; or none
-pub record IsBestBefore (board : PlainBoard) (words gap : List ℕ) (labels label best bound : ℕ) : Type 0 where
+-- the label is the smallest of the answers with the greatest word, which is one less than the bound
+pub record IsBestLabel (board : PlainBoard) (words gap : List ℕ) (bound best : ℕ) : Type 0 where
+  pub answers : AnswersGap board gap best
+  pub has : HasWord board words gap best (bound - 1)
+  pub some : 0 < bound
+  pub before : (other : ℕ) → other < best → AnswersGap board gap other → IsBelow board words gap other (bound - 1)
+
+-- of the labels before this one the best answer, and the bound above all words; or none
+pub record IsBestBefore (board : PlainBoard) (words gap : List ℕ) (label : ℕ) (best : Option ℕ)
+    (bound : ℕ) : Type 0 where
   pub all : (other : ℕ) → other < label → AnswersGap board gap other → IsBelow board words gap other bound
-  pub low : best ≤ labels
   pub few : bound ≤ 4294967295
-  pub found : (best ≡ labels × (bound ≡ 0)) ⊎ ((best < label)
-      × AnswersGap board gap best × HasWord board words gap best (bound - 1) × (0 < bound)
-      × ((other : ℕ) → other < best → AnswersGap board gap other → IsBelow board words gap other (bound - 1)))
+  pub found : MatchOption best (bound ≡ 0) (IsBestLabel board words gap bound)
 
 below-more : (board : PlainBoard) (words gap : List ℕ) (label low high : ℕ) → low ≤ high
     → IsBelow board words gap label low → IsBelow board words gap label high
 below-more board words gap label low high less is =
     let under : is.0 < low = is.2 in (is.0, is.1, omega arith)
 
-pub best-begins : (board : PlainBoard) (words gap : List ℕ) (labels : ℕ)
-    → IsBestBefore board words gap labels 0 labels 0
-best-begins board words gap labels = record {
-  all = λ other none. absurd (omega arith);
-  low = omega arith;
-  few = omega arith;
-  found = inl (refl, refl);
-}
+module _ (board : PlainBoard) (words gap : List ℕ) where
+  pub best-begins : (label : ℕ) → label ≡ 0 → IsBestBefore board words gap label None 0
+  best-begins label zero = record {
+    all = λ other none. absurd (omega arith);
+    few = omega arith;
+    found = refl;
+  }
 
--- a better answer
-pub best-more : (board : PlainBoard) (words gap : List ℕ) (labels label best bound word : ℕ) → label < labels
-    → IsBestBefore board words gap labels label best bound → AnswersGap board gap label
-    → HasWord board words gap label word → bound ≤ word → word < 4294967295
-    → IsBestBefore board words gap labels (label + 1) label (word + 1)
-best-more board words gap labels label best bound word inside was answer has most finite = record {
-  all = λ other low answers. elim (cases_lt other label) [
-    | inl before ↦ below-more board words gap other bound (word + 1) (omega arith) (was.all other before answers)
-    | inr last ↦
-        let same : label ≡ other = omega arith in
-        subst (λ n. IsBelow board words gap n (word + 1)) same (word, has, omega arith)
-  ];
-  low = omega arith;
-  few = omega arith;
-  found =
-      let one : word ≡ word + 1 - 1 = omega arith in
-      inr (
-        omega arith,
-        answer,
-        subst (HasWord board words gap label) one has,
-        omega arith,
-        λ other before answers. below-more board words gap other bound (word + 1 - 1) (omega arith)
-            (was.all other before answers),
-      );
-}
-
-kept-more : (board : PlainBoard) (words gap : List ℕ) (labels label best bound : ℕ)
-    → IsBestBefore board words gap labels label best bound
-    → (AnswersGap board gap label → IsBelow board words gap label bound)
-    → IsBestBefore board words gap labels (label + 1) best bound
-kept-more board words gap labels label best bound was here = record {
-  all = λ other low answers. elim (cases_lt other label) [
-    | inl before ↦ was.all other before answers
-    | inr last ↦
-        let same : label ≡ other = omega arith in
-        subst (λ n. IsBelow board words gap n bound) same
-        (here (subst (AnswersGap board gap) (sym same) answers))
-  ];
-  low = was.low;
-  few = was.few;
-  found = elim was.found [
-    | inl none ↦ inl none
-    | inr some ↦ inr (let low : best < label = some.0 in omega arith, some.1, some.2, some.3, some.4)
-  ];
-}
-
-pub best-kept : (board : PlainBoard) (words gap : List ℕ) (labels label best bound word : ℕ)
-    → IsBestBefore board words gap labels label best bound
-    → HasWord board words gap label word → word < bound → IsBestBefore board words gap labels (label + 1) best bound
-best-kept board words gap labels label best bound word was has less =
-    kept-more board words gap labels label best bound was (λ answer. (word, has, less))
-
-pub best-passed : (board : PlainBoard) (words gap : List ℕ) (labels label best bound : ℕ)
-    → IsBestBefore board words gap labels label best bound
-    → (AnswersGap board gap label → ⊥) → IsBestBefore board words gap labels (label + 1) best bound
-best-passed board words gap labels label best bound was none =
-    kept-more board words gap labels label best bound was (λ answer. absurd (none answer))
-
-pub best-none : (board : PlainBoard) (words gap : List ℕ) (label best bound : ℕ)
-    → board.labels ≤ label → best ≡ board.labels
-    → label ≤ board.labels
-    → IsBestBefore board words gap board.labels label best bound
-    → (other : ℕ) → AnswersGap board gap other → ⊥
-best-none board words gap label best bound past none end was other answer =
-    let low : other < board.labels = answer.is_label in
-    elim was.found [
-      | inl empty ↦
-          let is = was.all other (omega arith) answer in
-          let under : is.0 < bound = is.2 in
-          let zero : bound ≡ 0 = empty.1 in
-          omega arith
-      | inr some ↦ let inside : best < label = some.0 in omega arith
+  module _ (from label bound word : ℕ) (best : Option ℕ) (was : IsBestBefore board words gap from best bound)
+      (next : IsSmallest (λ l. (from ≤ l) × AnswersGap board gap l) (Some label))
+      (has : HasWord board words gap label word) where
+    -- a bound over the words of the labels up to this one
+    up-to : (high : ℕ) → bound ≤ high → word < high → (other : ℕ) → other < label + 1
+        → AnswersGap board gap other → IsBelow board words gap other high
+    up-to high most less other low answer = elim (cases_lt other from) [
+      | inl early ↦ below-more board words gap other bound high most (was.all other early answer)
+      | inr late ↦
+          let least : label ≤ other = next.1 other (late, answer) in
+          let same : label ≡ other = omega arith in
+          subst (λ n. IsBelow board words gap n high) same (word, has, less)
     ]
+
+    -- a better answer
+    pub best-more : bound ≤ word → word < 4294967295 → IsBestBefore board words gap (label + 1) (Some label) (word + 1)
+    best-more most finite = record {
+      all = up-to (word + 1) (omega arith) (omega arith);
+      few = omega arith;
+      found =
+          let one : word ≡ word + 1 - 1 = omega arith in
+          record {
+            answers = next.0.1;
+            has = subst (HasWord board words gap label) one has;
+            some = omega arith;
+            before = λ other before answer.
+                let early : other < from = elim (cases_lt other from) [
+                  | inl early ↦ early
+                  | inr late ↦ let least : label ≤ other = next.1 other (late, answer) in omega arith
+                ] in
+                below-more board words gap other bound (word + 1 - 1) (omega arith) (was.all other early answer);
+          };
+    }
+
+    pub best-kept : word < bound → IsBestBefore board words gap (label + 1) best bound
+    best-kept less = record {
+      all = up-to bound (omega arith) less;
+      few = was.few;
+      found = was.found;
+    }
 
 module _ (board : PlainBoard) (words gap : List ℕ) (is_board : IsBoard board) (table : AreRounds board words)
     (is_gap : IsClass (places board) (board.pebbles - 1) gap) where
@@ -134,23 +110,34 @@ module _ (board : PlainBoard) (words gap : List ℕ) (is_board : IsBoard board) 
         λ closed. at_most_from_tree board most (member_with gap label) (trees.1 closed),
       )
 
-  pub best-is : (label best bound : ℕ) → board.labels ≤ label → best < board.labels
-      → IsBestBefore board words gap board.labels label best bound
-      → IsSmallest (HasGreatestMember board gap) (Some best)
-  best-is label best bound past some was = elim was.found [
-    | inl none ↦ let same : best ≡ board.labels = none.0 in absurd (omega arith)
-    | inr found ↦
-        let positive : 0 < bound = found.3 in
+  -- the best of the answers before a label is the best of all if no answer is left from there on
+  module _ (from bound : ℕ) (none : IsSmallest (λ l. (from ≤ l) × AnswersGap board gap l) None) where
+    early : (other : ℕ) → AnswersGap board gap other → other < from
+    early other answer = elim (cases_lt other from) [
+      | inl before ↦ before
+      | inr late ↦ absurd (none other (late, answer))
+    ]
+
+    pub best-is : (best : Option ℕ) → IsBestBefore board words gap from best bound
+        → MatchOption best ((label : ℕ) → AnswersGap board gap label → ⊥)
+        (λ label. IsSmallest (HasGreatestMember board gap) (Some label))
+    best-is None was = λ other answer.
+        let is = was.all other (early other answer) answer in
+        let under : is.0 < bound = is.2 in
+        let zero : bound ≡ 0 = was.found in
+        omega arith
+    best-is (Some best) was =
+        let found = was.found in
+        let positive : 0 < bound = found.some in
         let top : ℕ = bound - 1 in
-        let top_few : top ≤ 4294967295 = found.2.few in (
+        let top_few : top ≤ 4294967295 = found.has.few in (
           record {
-            answers = found.1;
+            answers = found.answers;
             greatest = λ other answers most value.
-                let low : other < board.labels = answers.is_label in
-                let is = was.all other (omega arith) answers in
+                let is = was.all other (early other answers) answers in
                 let under : is.0 < bound = is.2 in
-                let before = before-to top (suc most) ((found.2.is (suc most)).1
-                ((at-most best most found.1).0 value)) in
+                let before = before-to top (suc most) ((found.has.is (suc most)).1
+                ((at-most best most found.answers).0 value)) in
                 let less : top < suc most = before.0 in
                 let finite : top < 4294967295 = before.1 in
                 (at-most other most answers).1
@@ -159,43 +146,59 @@ module _ (board : PlainBoard) (words gap : List ℕ) (is_board : IsBoard board) 
           λ other greatest. elim (cases_lt other best) [
             | inr least ↦ least
             | inl smaller ↦
-                let is = found.4 other smaller greatest.answers in
+                let is = found.before other smaller greatest.answers in
                 let word : ℕ = is.0 in
                 let under : word < top = is.2 in
                 let value = (at-most other word greatest.answers).1
                 ((is.1.is (suc word)).0 (before-from word (suc word) (omega arith) (omega arith))) in
-                let mine = greatest.greatest best found.1 word value in
-                let before = before-to top (suc word) ((found.2.is (suc word)).1
-                ((at-most best word found.1).0 mine)) in
+                let mine = greatest.greatest best found.answers word value in
+                let before = before-to top (suc word) ((found.has.is (suc word)).1
+                ((at-most best word found.answers).0 mine)) in
                 let less : top < suc word = before.0 in
                 absurd (omega arith)
           ],
         )
-  ]
 
   -- the first answer whose result lasts for ever
-  pub best-lasting : (labels label best bound word : ℕ) → word ≡ 4294967295
-      → IsBestBefore board words gap labels label best bound
-      → AnswersGap board gap label → HasWord board words gap label word
+  pub best-lasting : (from label bound word : ℕ) (best : Option ℕ) → word ≡ 4294967295
+      → IsBestBefore board words gap from best bound
+      → IsSmallest (λ l. (from ≤ l) × AnswersGap board gap l) (Some label) → HasWord board words gap label word
       → IsSmallest (HasGreatestMember board gap) (Some label)
-  best-lasting labels label best bound word top was answer has =
+  best-lasting from label bound word best top was next has =
       let lasts : (most : ℕ) → HasValueAtMost board (member_with gap label) most → ⊥ = λ most value.
       let finite : word < 4294967295 = (before-to word (suc most)
-      ((has.is (suc most)).1 ((at-most label most answer).0 value))).1 in
+      ((has.is (suc most)).1 ((at-most label most next.0.1).0 value))).1 in
       omega arith
       in (
         record {
-          answers = answer;
+          answers = next.0.1;
           greatest = λ other answers most value. absurd (lasts most value);
         },
-        λ other greatest. elim (cases_lt other label) [
-          | inr least ↦ least
+        λ other greatest. elim (cases_lt other from) [
+          | inr late ↦ next.1 other (late, greatest.answers)
           | inl before ↦
               let is = was.all other before greatest.answers in
               let less : is.0 < bound = is.2 in
               let few = was.few in
               let value = (at-most other is.0 greatest.answers).1
               ((is.1.is (suc is.0)).0 (before-from is.0 (suc is.0) (omega arith) (omega (arith, less, few)))) in
-              absurd (lasts is.0 (greatest.greatest label answer is.0 value))
+              absurd (lasts is.0 (greatest.greatest label next.0.1 is.0 value))
         ],
       )
+
+  -- a walk over the answers of a gap comes to the next one, or to none
+  module _ (walk : Walk) (are : AreFrom (AnswersGap board gap) walk) where
+    few-answers : (label : ℕ) → AnswersGap board gap label → label < MAX_LABELS
+    few-answers label answer = let few = is_board.labels.1 in let low = answer.is_label in omega (arith, few, low)
+
+    pub next-answer : (after : Walk) (label : ℕ) → TakesSmallest walk after label
+        → IsSmallest (λ l. (walk.from ≤ l) × AnswersGap board gap l) (Some label)
+    next-answer = next_of (AnswersGap board gap) few-answers walk are
+
+    pub answers-after : (after : Walk) (label : ℕ) → TakesSmallest walk after label → AreFrom
+        (AnswersGap board gap) after
+    answers-after = after_step (AnswersGap board gap) few-answers walk are
+
+    pub answers-over : ((label : ℕ) → label < MAX_LABELS → has_bit walk.left label ≡ true → ⊥)
+        → IsSmallest (λ l. (walk.from ≤ l) × AnswersGap board gap l) None
+    answers-over = none_left (AnswersGap board gap) few-answers walk are
