@@ -384,14 +384,43 @@ fn one_worker_waits_for_the_others_to_come(rt: HostRuntime) {
     }
 }
 
-#[test]
-fn one_worker_waits_for_the_others_to_leave(rt: HostRuntime) {
-    let board = shaped(rt.alloc(), Shape::Order, 64, 2).expect(&rt, "a board");
-    for held in 0..16 {
+/// Asserts the values of the chain of 64 labels by 16 workers, of which in each round one waits
+/// until all others have left: in turn each of the four workers from `first` on.
+fn assert_waits_for_the_others_to_leave(
+    rt: &(impl Abort + Threads + Wait + Sync),
+    alloc: Global,
+    first: u32,
+)
+    requires { first ≤ 12 }
+{
+    let board = shaped(alloc, Shape::Order, 64, 2).expect(rt, "a board");
+    for held in first..first + 4 {
         let waits = Waits::ForOthersToLeave(held);
-        let watch = watched(&rt, rt.alloc(), &board, 16, waits);
-        assert_met(&rt, &watch, 64);
+        let watch = watched(rt, alloc, &board, 16, waits);
+        assert_met(rt, &watch, 64);
     }
+}
+
+// Each worker waits in a run of its own. A run starts 960 threads one after the other, which take
+// long if the processors are not free: so these are four tests.
+#[test]
+fn workers_0_to_3_wait_for_the_others_to_leave(rt: HostRuntime) {
+    assert_waits_for_the_others_to_leave(&rt, rt.alloc(), 0);
+}
+
+#[test]
+fn workers_4_to_7_wait_for_the_others_to_leave(rt: HostRuntime) {
+    assert_waits_for_the_others_to_leave(&rt, rt.alloc(), 4);
+}
+
+#[test]
+fn workers_8_to_11_wait_for_the_others_to_leave(rt: HostRuntime) {
+    assert_waits_for_the_others_to_leave(&rt, rt.alloc(), 8);
+}
+
+#[test]
+fn workers_12_to_15_wait_for_the_others_to_leave(rt: HostRuntime) {
+    assert_waits_for_the_others_to_leave(&rt, rt.alloc(), 12);
 }
 
 // A run refuses at most one growth or start, whichever. That call says so, and the others give the
