@@ -8,8 +8,7 @@ use Rattle.std.specs.Prelude.{Err, IfErr, IfOk, Ok, Result, if◌then◌else◌}
 use Rattle.board_text.specs.PlainBoard.{PlainBoard}
 use Rattle.positions.specs.Ranks.{configurations}
 use Rattle.positions.specs.declared.space.TheConstants.{MAX_CONFIGURATIONS}
-use Rattle.runs.specs.BoardRun.{GaveBoard, GaveNoBoard}
-use Rattle.runs.specs.Notices.{IsNoticed, notice_for, size_notice}
+use Rattle.runs.specs.Notices.{IsNoticedInRun, IsNoticedOfText, notice_for, size_notice}
 use Rattle.runs.specs.Run.{Bytes, Fails, Gave, Ran}
 use Rattle.runs.specs.SolveRun.{CannotSolve, IsSolution}
 use Rattle.runs.specs.Texts.{HasNoneWithin, IsBoardWithin}
@@ -19,6 +18,7 @@ use Rattle.positions.specs.declared.value.Value.{Value}
 use Rattle.runs.specs.declared.fault.RunFault.{RunFault}
 use Rattle.runs.specs.declared.fault.RunFault.TheVariants.{Board, DocumentTooLarge, Limit, Memory, Proof, Read}
 use Rattle.runs.specs.declared.fault.RunFault.TheVariants.{TooLarge, Worker, Write}
+use Rattle.runs.specs.declared.reading.TheConstants.{MAX_BOARD_BYTES}
 
 -- it isn't, where nobody is there to see it
 pub nobody_sees : (shows : Bool) (board : PlainBoard) → shows ≡ false → [] ≡ notice_for shows board
@@ -50,30 +50,26 @@ three a b c = sym (append_assoc a b c)
 
 -- ---- of a board that is read
 
-module _ {Answer Other : Type 0} (limit : BoardLimit) (most_bytes : ℕ) (read : Bytes) (text : List ℕ)
-    (gave : Gave most_bytes read text)
-    (shows : Bool) (told : List ℕ) (result : Result Answer RunFault)
-    (is : IsNoticed (IsBoardWithin limit text) (HasNoneWithin limit text) shows result told) where
+module _ {Answer Other : Type 0} (limit : BoardLimit) (read : Bytes) (text : List ℕ)
+    (gave : Gave MAX_BOARD_BYTES read text) (shows : Bool) (told : List ℕ) (result : Result Answer RunFault)
+    (is : IsNoticedOfText limit text shows result told) where
   pub noticed_then : (answer : Answer) → result ≡ Ok answer → (other : Result Other RunFault)
-      → IsNoticed (GaveBoard limit most_bytes read) (GaveNoBoard limit most_bytes read) shows other told
+      → IsNoticedInRun limit read shows other told
   noticed_then answer ok other = by is
     where
-      by : IsNoticed (IsBoardWithin limit text) (HasNoneWithin limit text) shows result told
-          → IsNoticed (GaveBoard limit most_bytes read) (GaveNoBoard limit most_bytes read) shows other told
+      by : IsNoticedOfText limit text shows result told → IsNoticedInRun limit read shows other told
       by (inl (board, within, told_is)) = inl (board, (text, gave, within), told_is)
       by (inr (fault, broke, missing, none)) = cc
 
   pub noticed_before : (fault : RunFault) → result ≡ Err fault
-      → IsNoticed {Answer = Other} (GaveBoard limit most_bytes read) (GaveNoBoard limit most_bytes read) shows
-      (Err fault) told
+      → IsNoticedInRun {Answer = Other} limit read shows (Err fault) told
   noticed_before fault broke = by is
     where
       one : (other : RunFault) → result ≡ Err other → other ≡ fault
       one other same = cc
 
-      by : IsNoticed (IsBoardWithin limit text) (HasNoneWithin limit text) shows result told
-          → IsNoticed {Answer = Other} (GaveBoard limit most_bytes read) (GaveNoBoard limit most_bytes read) shows
-          (Err fault) told
+      by : IsNoticedOfText limit text shows result told
+          → IsNoticedInRun {Answer = Other} limit read shows (Err fault) told
       by (inl (board, within, told_is)) = inl (board, (text, gave, within), told_is)
       by (inr (other, same, missing, none)) =
           inr (fault, refl, inr (text, gave, subst (HasNoneWithin limit text) (one other same) missing), none)
@@ -92,16 +88,15 @@ unsolved workers text Read cannot = inl cannot
 unsolved workers text Write cannot = inl cannot
 unsolved workers text Limit cannot = inl cannot
 
-module _ (most_bytes : ℕ) (read : Bytes) (shows : Bool) where
-  of_board : (result : Result Value RunFault) (text : List ℕ) (board : PlainBoard) → Gave most_bytes read text
-      → IsBoardWithin Small text board
-      → IsNoticed (GaveBoard Small most_bytes read) (GaveNoBoard Small most_bytes read) shows result []
+module _ (read : Bytes) (shows : Bool) where
+  of_board : (result : Result Value RunFault) (text : List ℕ) (board : PlainBoard) → Gave MAX_BOARD_BYTES read text
+      → IsBoardWithin Small text board → IsNoticedInRun Small read shows result []
   of_board result text board gave within = inl (board, (text, gave, within), small_board shows board within.few)
 
   pub solved_unnoticed : (workers : ℕ) (written : Bytes) (result : Result Value RunFault)
-      → IfOk result (Ran IsSolution most_bytes read written)
-      → IfErr result (Fails IsSolution (CannotSolve Small workers) most_bytes read written)
-      → IsNoticed (GaveBoard Small most_bytes read) (GaveNoBoard Small most_bytes read) shows result []
+      → IfOk result (Ran IsSolution MAX_BOARD_BYTES read written)
+      → IfErr result (Fails IsSolution (CannotSolve Small workers) MAX_BOARD_BYTES read written)
+      → IsNoticedInRun Small read shows result []
   solved_unnoticed workers written (Ok value) (text, gave, wrote) fails =
       of_board (Ok value) text wrote.1.0 gave wrote.1.1
   solved_unnoticed workers written (Err fault) ran (inl unread) = inr (fault, refl, inl unread, refl)
@@ -109,8 +104,7 @@ module _ (most_bytes : ℕ) (read : Bytes) (shows : Bool) where
       by (unsolved workers text fault cannot)
     where
       by : HasNoneWithin Small text fault ⊎ ((board : PlainBoard) × IsBoardWithin Small text board)
-          → IsNoticed {Answer = Value} (GaveBoard Small most_bytes read) (GaveNoBoard Small most_bytes read) shows
-          (Err fault) []
+          → IsNoticedInRun {Answer = Value} Small read shows (Err fault) []
       by (inl missing) = inr (fault, refl, inr (text, gave, missing), refl)
       by (inr (board, within)) = of_board (Err fault) text board gave within
   solved_unnoticed workers written (Err fault) ran

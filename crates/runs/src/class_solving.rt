@@ -4,13 +4,11 @@ ghost use Rattle.std.specs.Prelude.{◌≡◌, ◌≤◌, ℕ, List, true, false
 ghost use Rattle.std.specs.Prelude.{string_bytes};
 ghost use Rattle.board_text.specs.Ranges.{InRange};
 ghost use Rattle.console.specs.Showing.{IsMore};
-ghost use Rattle.runs.specs.BoardRun.{GaveBoard, GaveNoBoard};
 ghost use Rattle.runs.specs.ClassSolveRun.{CannotSolveByClasses, IsClassSolution};
 ghost use Rattle.runs.specs.ClassSolveRun.{IsSolvedByClasses};
 ghost use Rattle.runs.specs.Inside.SolveRun.{IsUnshown};
-ghost use Rattle.runs.specs.Notices.{IsNoticed};
+ghost use Rattle.runs.specs.Notices.{IsNoticedInRun, IsNoticedOfText};
 ghost use Rattle.runs.specs.Run.{Ran, Fails, TellsStreams, bytes_of, stream_of};
-ghost use Rattle.runs.specs.Texts.{HasNoneWithin, IsBoardWithin};
 
 use crate::boards::board_within;
 use crate::checking::MAX_PROOF_BYTES;
@@ -54,11 +52,8 @@ impl Work {
             (bytes_of W.contents writer.old writer.new)) }
         ensures streams { TellsStreams result (R.has_failed reader.new ≡ true)
             (stream_of W.contents W.has_failed writer.old writer.new) }
-        ensures notice { (told : List ℕ)
-            × IsNoticed (GaveBoard BoardLimit.Large MAX_BOARD_BYTES
-            (bytes_of R.remaining reader.old reader.new))
-            (GaveNoBoard BoardLimit.Large MAX_BOARD_BYTES
-            (bytes_of R.remaining reader.old reader.new)) self.shows_size result told
+        ensures notice { (told : List ℕ) × IsNoticedInRun BoardLimit.Large
+            (bytes_of R.remaining reader.old reader.new) self.shows_size result told
             × IsMore E.contents E.has_failed errors.old errors.new told }
     {
         let text = read_text(alloc, reader, MAX_BOARD_BYTES)?;
@@ -81,8 +76,7 @@ impl Work {
             (flat_map (λ part. part.items) solved.parts.items)) }
         ensures fault { IfErr result (CannotSolveByClasses text.now) }
         ensures notice { (told : List ℕ)
-            × IsNoticed (IsBoardWithin BoardLimit.Large text.now)
-            (HasNoneWithin BoardLimit.Large text.now) self.shows_size result told
+            × IsNoticedOfText BoardLimit.Large text.now self.shows_size result told
             × IsMore E.contents E.has_failed errors.old errors.new told }
     {
         let board = board_within(alloc, BoardLimit::Large, text)?;

@@ -5,15 +5,14 @@ ghost use Rattle.std.specs.Prelude.{string_bytes};
 ghost use Rattle.board_text.specs.Ranges.{InRange};
 ghost use Rattle.console.specs.Showing.{IsMore};
 ghost use Rattle.positions.specs.Ranks.{configurations};
-ghost use Rattle.runs.specs.BoardRun.{GaveBoard, GaveNoBoard};
-ghost use Rattle.runs.specs.Notices.{IsNoticed};
+ghost use Rattle.runs.specs.Notices.{IsNoticedInRun, IsNoticedOfText};
 ghost use Rattle.runs.specs.Inside.Counting.{IsBoardCounted};
 ghost use Rattle.runs.specs.Report.{IsReportOf, IsReportOfText, Reports};
 ghost use Rattle.runs.specs.Report.{count_line, count_lines, end_lines, head_lines};
 ghost use Rattle.runs.specs.Report.{size_line, start_value_line};
 ghost use Rattle.runs.specs.Run.{Ran, Fails, TellsStreams, bytes_of, stream_of};
 ghost use Rattle.runs.specs.SolveRun.{CannotSolve};
-ghost use Rattle.runs.specs.Texts.{HasNoBoard, HasNoneWithin, IsBoardWithin};
+ghost use Rattle.runs.specs.Texts.{HasNoBoard};
 
 use crate::boards::{board_within, small_board};
 use crate::counting::{Counted, count, count_alone};
@@ -88,10 +87,8 @@ impl Work {
             (bytes_of W.contents writer.old writer.new)) }
         ensures streams { TellsStreams result (R.has_failed reader.new ≡ true)
             (stream_of W.contents W.has_failed writer.old writer.new) }
-        ensures notice { (told : List ℕ) × IsNoticed
-            (GaveBoard self.limit MAX_BOARD_BYTES (bytes_of R.remaining reader.old reader.new))
-            (GaveNoBoard self.limit MAX_BOARD_BYTES (bytes_of R.remaining reader.old reader.new))
-            self.shows_size result told
+        ensures notice { (told : List ℕ) × IsNoticedInRun self.limit
+            (bytes_of R.remaining reader.old reader.new) self.shows_size result told
             × IsMore E.contents E.has_failed errors.old errors.new told }
     {
         let text = read_text(alloc, reader, MAX_BOARD_BYTES)?;
@@ -112,8 +109,7 @@ impl Work {
             IsReportOfText self.limit text.now (string_bytes report)) }
         ensures fault { IfErr result (CannotSolve self.limit self.workers text.now) }
         ensures notice { (told : List ℕ)
-            × IsNoticed (IsBoardWithin self.limit text.now) (HasNoneWithin self.limit text.now)
-            self.shows_size result told
+            × IsNoticedOfText self.limit text.now self.shows_size result told
             × IsMore E.contents E.has_failed errors.old errors.new told }
     {
         let board = board_within(alloc, self.limit, text)?;

@@ -3,9 +3,8 @@
 ghost use Rattle.std.specs.Prelude.{◌≡◌, ℕ, List, false, true, IfOk, IfErr};
 ghost use Rattle.board_text.specs.Ranges.{InRange};
 ghost use Rattle.console.specs.Showing.{IsMore};
-ghost use Rattle.runs.specs.BoardRun.{GaveBoard, GaveNoBoard};
 ghost use Rattle.runs.specs.LimitedSolveRun.{CannotSolveWithin, SolutionWithin};
-ghost use Rattle.runs.specs.Notices.{IsNoticed};
+ghost use Rattle.runs.specs.Notices.{IsNoticedInRun};
 ghost use Rattle.runs.specs.Run.{Ran, Fails, TellsStreams, bytes_of, stream_of};
 
 use crate::fault::RunFault;
@@ -75,10 +74,8 @@ impl Work {
             (bytes_of W.contents writer.old writer.new)) }
         ensures streams { TellsStreams result (R.has_failed reader.new ≡ true)
             (stream_of W.contents W.has_failed writer.old writer.new) }
-        ensures notice { (told : List ℕ) × IsNoticed
-            (GaveBoard self.limit MAX_BOARD_BYTES (bytes_of R.remaining reader.old reader.new))
-            (GaveNoBoard self.limit MAX_BOARD_BYTES (bytes_of R.remaining reader.old reader.new))
-            self.shows_size result told
+        ensures notice { (told : List ℕ) × IsNoticedInRun self.limit
+            (bytes_of R.remaining reader.old reader.new) self.shows_size result told
             × IsMore E.contents E.has_failed errors.old errors.new told }
     {
         match self.limit {

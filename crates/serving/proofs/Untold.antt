@@ -12,8 +12,7 @@ use Rattle.player.specs.declared.end.PlayEnd.{PlayEnd}
 use Rattle.player.specs.declared.end.PlayFault.{PlayFault}
 use Rattle.player.proofs.Cited.{nothing_told}
 use Rattle.positions.specs.declared.side.Side.{Side}
-use Rattle.runs.specs.BoardRun.{GaveBoard, GaveNoBoard}
-use Rattle.runs.specs.Notices.{IsNoticed}
+use Rattle.runs.specs.Notices.{IsNoticedInRun}
 use Rattle.runs.specs.PlayRun.{IsToldInRun, game_played, run_of_play}
 use Rattle.runs.specs.Run.{Bytes, Stream}
 use Rattle.runs.specs.declared.fault.RunFault.{RunFault}
@@ -29,12 +28,11 @@ unseen : (typed sees : Bool) → sees ≡ false → (typed && sees) ≡ false
 unseen true sees off = off
 unseen false sees off = refl
 
-unnoticed : {Answer : Type 0} (IsGiven : PlainBoard → Type 0) (IsMissing : RunFault → Type 0) (shows : Bool)
-    → shows ≡ false → (result : Result Answer RunFault) (told : List ℕ)
-    → IsNoticed IsGiven IsMissing shows result told → told ≡ []
-unnoticed IsGiven IsMissing true off result told is = cc
-unnoticed IsGiven IsMissing false off result told (inl (board, given, is)) = is
-unnoticed IsGiven IsMissing false off result told (inr (fault, broke, missing, none)) = none
+unnoticed : {Answer : Type 0} (limit : BoardLimit) (read : Bytes) (shows : Bool) → shows ≡ false
+    → (result : Result Answer RunFault) (told : List ℕ) → IsNoticedInRun limit read shows result told → told ≡ []
+unnoticed limit read true off result told is = cc
+unnoticed limit read false off result told (inl (board, given, is)) = is
+unnoticed limit read false off result told (inr (fault, broke, missing, none)) = none
 
 unprompted : (limit : BoardLimit) (side : Side) (most_bytes : ℕ) (Untouched : Type 0) (board lines written : Bytes)
     (result : Result PlayEnd RunFault) (told : List ℕ)
@@ -65,13 +63,11 @@ module _ (at : List ℕ → File) (terminals : Terminals) (off : terminals.error
 
   -- of the size of a board
   size_untold : {Answer : Type 0} (limit : BoardLimit) (file : File) (told : List ℕ)
-      → OpensAndTells {Answer = Answer} file (λ read. IsNoticed (GaveBoard limit MAX_BOARD_BYTES read)
-      (GaveNoBoard limit MAX_BOARD_BYTES read) terminals.errors) outcome told → told ≡ []
+      → OpensAndTells {Answer = Answer} file (λ read. IsNoticedInRun limit read terminals.errors) outcome told
+      → told ≡ []
   size_untold {Answer} limit file told is =
-      unopened {Answer = Answer} file (λ read. IsNoticed (GaveBoard limit MAX_BOARD_BYTES read)
-      (GaveNoBoard limit MAX_BOARD_BYTES read) terminals.errors) outcome told
-      (λ read result tells. unnoticed (GaveBoard limit MAX_BOARD_BYTES read) (GaveNoBoard limit MAX_BOARD_BYTES read)
-      terminals.errors off result told tells) is
+      unopened {Answer = Answer} file (λ read. IsNoticedInRun limit read terminals.errors) outcome told
+      (λ read result tells. unnoticed limit read terminals.errors off result told tells) is
 
   pub nothing_in_job : (job : Job) (told : List ℕ) → IsToldInJob at terminals input output outcome job told → told ≡ []
   nothing_in_job Joined told is = is ∙ ungreeted terminals unseen_here

@@ -10,8 +10,7 @@ use Rattle.player.specs.Transcript.{PersonClimbs}
 use Rattle.player.specs.declared.end.PlayEnd.{PlayEnd}
 use Rattle.player.specs.declared.end.PlayFault.{PlayFault}
 use Rattle.positions.specs.declared.value.Value.{Value}
-use Rattle.runs.specs.BoardRun.{GaveBoard, GaveNoBoard}
-use Rattle.runs.specs.Notices.{IsNoticed}
+use Rattle.runs.specs.Notices.{IsNoticedInRun}
 use Rattle.runs.specs.PlayRun.{IsToldInRun, run_of_play}
 use Rattle.runs.specs.Run.{Bytes, Stream}
 use Rattle.runs.specs.declared.fault.RunFault.{RunFault}
@@ -55,11 +54,9 @@ module _ (at : List ℕ → File) (terminals : Terminals) (input output : Stream
   IsToldInJob (Check board proof) told = told ≡ []
   IsToldInJob (Nested levels pebbles) told = told ≡ []
   IsToldInJob (Solve workers limit board) told = OpensAndTells {Answer = Value} (at board.now)
-      (λ read. IsNoticed (GaveBoard limit MAX_BOARD_BYTES read)
-      (GaveNoBoard limit MAX_BOARD_BYTES read) terminals.errors) outcome told
+      (λ read. IsNoticedInRun limit read terminals.errors) outcome told
   IsToldInJob (Report workers limit board) told = OpensAndTells {Answer = Unit {0}} (at board.now)
-      (λ read. IsNoticed (GaveBoard limit MAX_BOARD_BYTES read)
-      (GaveNoBoard limit MAX_BOARD_BYTES read) terminals.errors) outcome told
+      (λ read. IsNoticedInRun limit read terminals.errors) outcome told
   IsToldInJob (Play side limit board) told = OpensAndTells {Answer = PlayEnd} (at board.now)
       (λ read. IsToldInRun limit side MAX_BOARD_BYTES (input.IsKept × output.IsKept) read
       input.bytes output.bytes terminals.errors (types_and_sees terminals)) outcome told

@@ -8,8 +8,7 @@ ghost use Rattle.command_line.specs.Reading.{IsInRange};
 ghost use Rattle.console.specs.Showing.{IsMore};
 ghost use Rattle.player.specs.declared.end.PlayEnd.{PlayEnd as EndData};
 ghost use Rattle.positions.specs.declared.value.Value.{Value as ValueData};
-ghost use Rattle.runs.specs.BoardRun.{GaveBoard, GaveNoBoard};
-ghost use Rattle.runs.specs.Notices.{IsNoticed};
+ghost use Rattle.runs.specs.Notices.{IsNoticedInRun};
 ghost use Rattle.runs.specs.PlayRun.{IsToldInRun};
 ghost use Rattle.runs.specs.Run.{bytes_of, stream_of};
 ghost use Rattle.serving.specs.Consoles.{IsReady};
@@ -22,8 +21,9 @@ ghost use Rattle.serving.specs.Telling.{joined_greeting, types_and_sees};
 use crate::files::Files;
 use crate::folder::Folder;
 use crate::outcome::Outcome;
+use crate::watched::Watched;
 use board_text::{MAX_PEBBLES, Sink, Source};
-use command_line::{Job, MAX_WORKERS};
+use command_line::{BoardLimit, Job, MAX_WORKERS};
 use console::{Console, Terminals, write_line};
 use explanations::{Inputs, Note, Origin};
 use nested_cycles::{MAX_BOARD_LEVELS, MAX_LEVELS};
@@ -69,6 +69,22 @@ impl<'a> Ended<'a> {
             outcome,
             note: outcome.note(inputs),
         }
+    }
+
+    /// The end of a job over the board at `path` alone, within the `limit`, as far as `reader` gave
+    /// it.
+    fn of_board<F: Folder>(
+        outcome: Outcome,
+        limit: BoardLimit,
+        files: &Files<'_, F>,
+        path: &'a str,
+        reader: &Watched<F::Reader>,
+    ) -> Ended<'a>
+        ensures { result.outcome ≡ outcome }
+    {
+        let trouble = files.trouble_of(path, reader);
+        let text = Origin::board(path, reader.text(), reader.count(), trouble);
+        Ended::of(outcome, &Inputs::alone(limit, text, text))
     }
 }
 
@@ -252,8 +268,7 @@ fn solve<'a, F: Folder, I: Source, O: Sink, E: Sink>(
     ensures unread { result.outcome ≡ Broken Read → CanFail (F.at files.now.folder.now board.now) }
     ensures told { (told : List ℕ) × OpensAndTells {Answer = ValueData}
         (F.at files.now.folder.now board.now)
-        (λ read. IsNoticed (GaveBoard work.limit MAX_BOARD_BYTES read)
-        (GaveNoBoard work.limit MAX_BOARD_BYTES read) work.shows_size) result.outcome told
+        (λ read. IsNoticedInRun work.limit read work.shows_size) result.outcome told
         × IsMore E.contents E.has_failed console.old.errors console.new.errors told }
 {
     let Ok(mut reader) = files.open(alloc, board) else {
@@ -266,16 +281,7 @@ fn solve<'a, F: Folder, I: Source, O: Sink, E: Sink>(
         &mut console.output,
         &mut console.errors,
     );
-    let text = Origin::board(
-        board,
-        reader.text(),
-        reader.count(),
-        files.trouble_of(board, &reader),
-    );
-    Ended::of(
-        Outcome::of_run(solved),
-        &Inputs::alone(work.limit, text, text),
-    )
+    Ended::of_board(Outcome::of_run(solved), work.limit, files, board, &reader)
 }
 
 /// Reports on the board at a path.
@@ -297,8 +303,7 @@ fn report<'a, F: Folder, I: Source, O: Sink, E: Sink>(
     ensures unread { result.outcome ≡ Broken Read → CanFail (F.at files.now.folder.now board.now) }
     ensures told { (told : List ℕ) × OpensAndTells {Answer = Unit {0}}
         (F.at files.now.folder.now board.now)
-        (λ read. IsNoticed (GaveBoard work.limit MAX_BOARD_BYTES read)
-        (GaveNoBoard work.limit MAX_BOARD_BYTES read) work.shows_size) result.outcome told
+        (λ read. IsNoticedInRun work.limit read work.shows_size) result.outcome told
         × IsMore E.contents E.has_failed console.old.errors console.new.errors told }
 {
     let Ok(mut reader) = files.open(alloc, board) else {
@@ -311,16 +316,7 @@ fn report<'a, F: Folder, I: Source, O: Sink, E: Sink>(
         &mut console.output,
         &mut console.errors,
     );
-    let text = Origin::board(
-        board,
-        reader.text(),
-        reader.count(),
-        files.trouble_of(board, &reader),
-    );
-    Ended::of(
-        Outcome::of_run(done),
-        &Inputs::alone(work.limit, text, text),
-    )
+    Ended::of_board(Outcome::of_run(done), work.limit, files, board, &reader)
 }
 
 /// Plays on the board at a path with a person, who writes to standard input.

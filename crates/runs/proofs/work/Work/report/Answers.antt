@@ -43,7 +43,7 @@ returns-in_err-report-clause-notice g c =
     let read = bytes_of g.R.Source.remaining c.args.reader.now c.read_text.new.reader in
     let told = rw c.as_slice.ensures.value at c.report_text.ensures.notice in (
       told.0,
-      rw (p.1, p.2) (noticed_before c.args.self.limit MAX_BOARD_BYTES read c.in_ok-text.text.items
+      rw (p.1, p.2) (noticed_before c.args.self.limit read c.in_ok-text.text.items
           c.in_ok-text.ensures.ok
           c.args.self.shows_size told.0 c.report_text.result told.1 c.in_err-report.field-0.0 c.in_err-report.was),
       told.2,
@@ -54,7 +54,7 @@ returns-clause-notice g c =
     let read = bytes_of g.R.Source.remaining c.args.reader.now c.read_text.new.reader in
     let told = rw c.as_slice.ensures.value at c.report_text.ensures.notice in (
       told.0,
-      noticed_then c.args.self.limit MAX_BOARD_BYTES read c.in_ok-text.text.items c.in_ok-text.ensures.ok
+      noticed_then c.args.self.limit read c.in_ok-text.text.items c.in_ok-text.ensures.ok
           c.args.self.shows_size told.0
           c.report_text.result told.1 c.in_ok-report.report c.in_ok-report.was c.write_text.result,
       told.2,

@@ -1,7 +1,6 @@
 use Rattle.std.proofs.Common.{[]}
 use Rattle.console.proofs.Cited.{none_more}
 use Rattle.runs.specs.Run.{bytes_of}
-use Rattle.runs.specs.declared.reading.TheConstants.{MAX_BOARD_BYTES}
 use Rattle.runs.proofs.ToldNotices.{solved_unnoticed}
 use Rattle.runs.proofs.work.Work.solve.Goals as goal
 
@@ -15,7 +14,7 @@ pub returns-in-Small-clause-notice : goal.returns-in-Small-clause-notice
 returns-in-Small-clause-notice g c = (
   [],
   rw c.in-Small.is
-      (solved_unnoticed MAX_BOARD_BYTES (bytes_of g.R.Source.remaining c.args.reader.now c.run_solve.new.reader)
+      (solved_unnoticed (bytes_of g.R.Source.remaining c.args.reader.now c.run_solve.new.reader)
       c.args.self.shows_size c.args.self.workers
       (bytes_of g.W.Sink.contents c.args.writer.now c.run_solve.new.writer) c.run_solve.result c.run_solve.ensures.ok
       c.run_solve.ensures.fault),

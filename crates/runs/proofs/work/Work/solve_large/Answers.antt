@@ -55,7 +55,7 @@ returns-in_err-solved-clause-notice g c =
     let read = bytes_of g.R.Source.remaining c.args.reader.now c.read_text.new.reader in
     let told = rw c.as_slice.ensures.value at c.large_solution.ensures.notice in (
       told.0,
-      rw (p.1, p.2) (noticed_before Large MAX_BOARD_BYTES read c.in_ok-text.text.items c.in_ok-text.ensures.ok
+      rw (p.1, p.2) (noticed_before Large read c.in_ok-text.text.items c.in_ok-text.ensures.ok
           c.args.self.shows_size told.0 c.large_solution.result told.1 c.in_err-solved.field-0.0 c.in_err-solved.was),
       told.2,
     )
@@ -67,7 +67,7 @@ returns-in_err-write_parts-clause-notice g c =
     let read = bytes_of g.R.Source.remaining c.args.reader.now c.read_text.new.reader in
     let told = rw c.as_slice.ensures.value at c.large_solution.ensures.notice in (
       told.0,
-      noticed_then Large MAX_BOARD_BYTES read c.in_ok-text.text.items c.in_ok-text.ensures.ok c.args.self.shows_size
+      noticed_then Large read c.in_ok-text.text.items c.in_ok-text.ensures.ok c.args.self.shows_size
           told.0
           c.large_solution.result told.1 c.in_ok-solved.solved c.in_ok-solved.was _,
       told.2,
@@ -78,7 +78,7 @@ returns-clause-notice g c =
     let read = bytes_of g.R.Source.remaining c.args.reader.now c.read_text.new.reader in
     let told = rw c.as_slice.ensures.value at c.large_solution.ensures.notice in (
       told.0,
-      noticed_then Large MAX_BOARD_BYTES read c.in_ok-text.text.items c.in_ok-text.ensures.ok c.args.self.shows_size
+      noticed_then Large read c.in_ok-text.text.items c.in_ok-text.ensures.ok c.args.self.shows_size
           told.0
           c.large_solution.result told.1 c.in_ok-solved.solved c.in_ok-solved.was _,
       told.2,
