@@ -6,7 +6,7 @@ from collections import Counter
 from functools import partial
 
 from harness import CRATES, TOP, Check, standing
-from mutations import DEFINITIONS, edits_of, of_crate, read, read_sums, texts, waiting
+from mutations import DEFINITIONS, edits_of, of_crate, read, read_sums, texts
 from promises import of_folder
 
 # a row of docs/proving/edits.md: a crate, its wrong bodies that are owed, and those that the gate has beside them
@@ -99,8 +99,8 @@ def untried():
     strangers = [crate for crate in then if crate not in with_some]
     if strangers:
         return f'tests/mutations/promises.sums names {", ".join(strangers)}, of which there is nothing to try'
-    return f'a definition or a clause changed in or below {", ".join(found)}: `tests/mutations/run --changed FOLDER`, in a copy of the ' \
-           'repository whose crates are proved, tries what the gate does not' if found else None
+    return f'a definition or a clause changed in or below {", ".join(found)}: `tests/mutations/run --changed FOLDER`, in a clone of the ' \
+           'repository, tries what the gate does not' if found else None
 
 
 def checks():
@@ -111,4 +111,4 @@ def checks():
     yield Check('the weakened definitions', partial(wrong_in_definitions))
     yield Check('the texts of wrong bodies', partial(of_no_crate))
     yield Check('the wrong bodies of the gate', partial(others_in_gate))
-    yield Check(f'the promises on which wrong bodies were tried ({len(waiting())} crates wait)', partial(untried))
+    yield Check('the promises on which wrong bodies were tried', partial(untried))

@@ -9,8 +9,7 @@ The text NAME.txt has the further wrong bodies of the crate NAME, definitions.tx
 tries are the edits of crates/NAME/must-fail/, a file each; its name is the mistake, with `_` between the words.
 
 promises.sums has a line for each crate with further wrong bodies or weakened definitions: its name, and the checksum of the promises on
-which all of them were refused (promises.py). `tests/mutations/run --changed` alone writes it. The word `waiting` after a checksum says that
-not all were tried on these promises yet: they changed while the rule began. tests/docs says how many wait.
+which all of them were refused (promises.py). `tests/mutations/run --changed` alone writes it.
 """
 import os
 import re
@@ -24,7 +23,6 @@ ANSWER = ('refused', 'tried')
 SUMS = os.path.join(HERE, 'promises.sums')
 # names of definitions that changed (promises.py)
 RENAMED = 'renamed.txt'
-WAITING = 'waiting'
 
 
 def parted(line):
@@ -65,8 +63,8 @@ class Mutation:
 
     @property
     def name(self):
-        """The name of the edit that makes it."""
-        return self.mistake.replace(' ', '_')
+        """The name of the edit that makes it, which the kit wants of letters, digits, `_`, `-` and `.` alone."""
+        return re.sub(r'[^\w.-]', '', self.mistake.replace(' ', '_'))
 
     def made_in(self, text):
         """This text with the mutation. None if an old text doesn't stand once."""
@@ -121,29 +119,19 @@ def of_crate(crate):
 
 # ---- checksums
 
-def sums():
-    """The lines of promises.sums: by crate its checksum, and with some the word for those that wait."""
+def read_sums():
+    """The checksums of the promises on which all of a crate were tried, by crate."""
     if not os.path.isfile(SUMS):
         return {}
     with open(SUMS) as file:
-        return {name: rest for name, *rest in map(str.split, file)}
-
-
-def read_sums():
-    """The checksums of the promises that were tried, or wait to be, by crate."""
-    return {name: rest[0] for name, rest in sums().items()}
-
-
-def waiting():
-    """The crates of which not all were tried on these promises."""
-    return [name for name, rest in sums().items() if WAITING in rest]
+        return dict(map(str.split, file))
 
 
 def write_sum(crates, crate, checksum):
     """Writes the checksum of a crate, in the order of these crates, and drops those of others."""
-    lines = sums() | {crate: [checksum]}
+    sums = read_sums() | {crate: checksum}
     with open(SUMS, 'w') as file:
-        file.writelines(f'{" ".join([name, *lines[name]])}\n' for name in crates if name in lines)
+        file.writelines(f'{name} {sums[name]}\n' for name in crates if name in sums)
 
 
 # ---- the edits that the gate tries
