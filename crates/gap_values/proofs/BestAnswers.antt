@@ -1,6 +1,6 @@
 -- The best answer of a gap, answer by answer.
 use Rattle.std.proofs.Common.{◌≡◌, ℕ, suc, ◌+◌, ◌-◌, ◌<◌, ◌≤◌, ◌↔◌, List, Option, None, Some, MatchOption}
-use Rattle.std.proofs.Common.{true, refl, subst, inl, inr, arith}
+use Rattle.std.proofs.Common.{true, get_or, refl, sym, subst, inl, inr, arith}
 use Rattle.std.proofs.lemmas.Bool.{cases_lt}
 use Rattle.board_text.specs.Domination.{has_bit}
 use Rattle.board_text.specs.declared.board.TheConstants.{MAX_LABELS}
@@ -12,11 +12,13 @@ use Rattle.positions.proofs.Cited.{AreFrom, after_step, next_of, none_left}
 use Rattle.positions.proofs.Values.{at_most_from_tree, tree_from_at_most}
 use Rattle.classes.specs.Classes.{IsClass}
 use Rattle.positions.specs.Gaps.{AnswersGap}
-use Rattle.classes.specs.ClassGaps.{member_with}
+use Rattle.classes.specs.ClassGaps.{gap_at, member_with}
+use Rattle.classes.specs.Numbers.{class_number}
 use Rattle.gap_values.specs.BestOfGap.{HasGreatestMember}
 use Rattle.gap_values.specs.GapTables.{IsClosedBefore, HasClosedGap}
 use Rattle.gap_values.specs.Inside.Words.{round_of_word, gap_table, AreRounds}
 use Rattle.gap_values.proofs.ClosedGaps.{tree-if-closed, class-configuration}
+use Rattle.gap_values.proofs.RoundSteps.{before-later}
 use Rattle.gap_values.proofs.Words.{before-from, before-to, result-is}
 
 -- the least word of the gaps of the result
@@ -159,31 +161,52 @@ module _ (board : PlainBoard) (words gap : List ℕ) (is_board : IsBoard board) 
           ],
         )
 
-  -- the first answer whose result lasts for ever
-  pub best-lasting : (from label bound word : ℕ) (best : Option ℕ) → word ≡ 4294967295
+  -- the first answer whose result lasts as long as any result can
+  pub best-lasting : (from label bound word limit : ℕ) (best : Option ℕ) → limit ≤ word → bound ≤ limit
+      → ((other : ℕ) → AnswersGap board gap other → (high : ℕ) → limit < high → limit < 4294967295
+      → HasClosedGap board (gap_table words) (member_with gap other) high)
       → IsBestBefore board words gap from best bound
       → IsSmallest (λ l. (from ≤ l) × AnswersGap board gap l) (Some label) → HasWord board words gap label word
       → IsSmallest (HasGreatestMember board gap) (Some label)
-  best-lasting from label bound word best top was next has =
-      let lasts : (most : ℕ) → HasValueAtMost board (member_with gap label) most → ⊥ = λ most value.
-      let finite : word < 4294967295 = (before-to word (suc most)
-      ((has.is (suc most)).1 ((at-most label most next.0.1).0 value))).1 in
-      omega arith
-      in (
-        record {
-          answers = next.0.1;
-          greatest = λ other answers most value. absurd (lasts most value);
-        },
-        λ other greatest. elim (cases_lt other from) [
-          | inr late ↦ next.1 other (late, greatest.answers)
-          | inl before ↦
-              let is = was.all other before greatest.answers in
-              let less : is.0 < bound = is.2 in
-              let few = was.few in
-              let value = (at-most other is.0 greatest.answers).1
-              ((is.1.is (suc is.0)).0 (before-from is.0 (suc is.0) (omega arith) (omega (arith, less, few)))) in
-              absurd (lasts is.0 (greatest.greatest label next.0.1 is.0 value))
-        ],
+  best-lasting from label bound word limit best top low closes was next has = (
+    record {
+      answers = next.0.1;
+      greatest = λ other answers most value.
+          let before = before-to word (suc most)
+          ((has.is (suc most)).1 ((at-most label most next.0.1).0 value)) in
+          let less : word < suc most = before.0 in
+          let finite : word < 4294967295 = before.1 in
+          (at-most other most answers).1 (closes other answers (suc most) (omega (arith, less, top))
+          (omega (arith, finite, top)));
+    },
+    λ other greatest. elim (cases_lt other from) [
+      | inr late ↦ next.1 other (late, greatest.answers)
+      | inl earlier ↦
+          let is = was.all other earlier greatest.answers in
+          let less : is.0 < bound = is.2 in
+          let few = was.few in
+          let value = (at-most other is.0 greatest.answers).1
+          ((is.1.is (suc is.0)).0 (before-from is.0 (suc is.0) (omega arith) (omega (arith, less, few)))) in
+          let before = before-to word (suc is.0) ((has.is (suc is.0)).1
+          ((at-most label is.0 next.0.1).0 (greatest.greatest label next.0.1 is.0 value))) in
+          let under : word < suc is.0 = before.0 in
+          absurd (omega (arith, under, less, top, low))
+    ],
+  )
+
+  -- a result of a closed gap closes before it
+  pub closes-before : (own : ℕ) → get_or words (class_number gap) 0 ≡ own → own < 4294967295
+      → (other : ℕ) → AnswersGap board gap other → (high : ℕ) → own - 1 < high
+      → HasClosedGap board (gap_table words) (member_with gap other) high
+  closes-before own same finite other answers high less =
+      let mine : IsClosedBefore (round_of_word (get_or words (class_number gap) 0)) (suc own) =
+      subst (λ w. IsClosedBefore (round_of_word w) (suc own)) (sym same)
+      (before-from own (suc own) (omega arith) finite) in
+      let closed = (table.table gap is_gap own).0 mine other answers in (
+        closed.0,
+        closed.1,
+        before-later (get_or words (class_number (gap_at (member_with gap other) closed.0)) 0) own high
+            (omega (arith, less)) closed.2,
       )
 
   -- a walk over the answers of a gap comes to the next one, or to none

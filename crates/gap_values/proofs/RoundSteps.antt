@@ -51,7 +51,7 @@ late-not : (round word b : ℕ) → b ≤ round → IsLate round word → IsClos
 late-not round word b low (inl none) before = let less = before-to word b before in omega (arith, less.1)
 late-not round word b low (inr now) before = let less = before-to word b before in omega (arith, less.0)
 
-before-later : (word low high : ℕ) → low ≤ high → IsClosedBefore (round_of_word word) low
+pub before-later : (word low high : ℕ) → low ≤ high → IsClosedBefore (round_of_word word) low
     → IsClosedBefore (round_of_word word) high
 before-later word low high less before =
     let is = before-to word low before in before-from word high (omega (arith, is.0)) is.1

@@ -132,16 +132,16 @@ put_taken a k m xs ys low few =
     ∙ ap (λ l. take a xs ++ l) (take-append-le m ys (post_of a k xs) few)
 
 -- the part that is written has as many bytes as it had
-part_long : (count k : ℕ) (room ys : List ℕ) → length room ≡ 512 → count + k ≤ 512
+part_long : (count k : ℕ) (room ys : List ℕ) → length room ≡ 1024 → count + k ≤ 1024
     → length ys ≡ length (take k (drop count room)) → length ys ≡ k
 part_long count k room ys all fits long =
     long ∙ length-take-le k (drop count room) (let rest = length-drop count room in omega arith)
 
-pub gathered_more : (count k size : ℕ) (written room ys : List ℕ) → IsGathered written room count → count + k ≤ 512
+pub gathered_more : (count k size : ℕ) (written room ys : List ℕ) → IsGathered written room count → count + k ≤ 1024
     → length ys ≡ length (take k (drop count room)) → size ≤ k → IsUtf8 (take size ys)
     → IsGathered written (put_mid count k room ys) (count + size)
 gathered_more count k size written room ys is fits long few utf8 =
-    let all : length room ≡ 512 = is.size in
+    let all : length room ≡ 1024 = is.size in
     let short : length ys ≡ k = part_long count k room ys all fits long in
     record {
       size = same_len_mid count k room ys long ∙ all;
@@ -151,11 +151,11 @@ gathered_more count k size written room ys is fits long few utf8 =
           (IsUtf8-append (take count room) (take size ys) is.gathered utf8);
     }
 
-pub bytes_more : (count k size : ℕ) (written room ys old : List ℕ) → IsGathered written room count → count + k ≤ 512
+pub bytes_more : (count k size : ℕ) (written room ys old : List ℕ) → IsGathered written room count → count + k ≤ 1024
     → length ys ≡ length (take k (drop count room)) → size ≤ k → written ++ take count room ≡ old
     → written ++ take (count + size) (put_mid count k room ys) ≡ old ++ take size ys
 bytes_more count k size written room ys old is fits long few before =
-    let all : length room ≡ 512 = is.size in
+    let all : length room ≡ 1024 = is.size in
     let short : length ys ≡ k = part_long count k room ys all fits long in
     ap (λ l. written ++ l) (put_taken count k size room ys (omega arith) (omega arith))
     ∙ sym (append_assoc written (take count room) (take size ys)) ∙ ap (λ l. l ++ take size ys) before

@@ -1,6 +1,6 @@
 //! Text to which rows append words of up to four bytes, which are gathered a few rows at once.
 
-ghost use Rattle.std.specs.Prelude.{◌≡◌, ◌+◌, ◌<◌, ◌≤◌, ◌++◌, ◌∷◌, length, IfOk, MatchOption, OnOk};
+ghost use Rattle.std.specs.Prelude.{◌≡◌, ◌+◌, ◌<◌, ◌≤◌, ◌++◌, ◌∷◌, length, IfOk, IfSome, MatchOption, OnOk};
 ghost use Rattle.std.specs.Prelude.{string_bytes};
 ghost use Rattle.std.specs.Fmt.{decimal};
 ghost use Rattle.std.specs.Str.{IsAscii};
@@ -13,7 +13,10 @@ use std::alloc::{AllocError, Global};
 use std::marker::Model;
 
 /// The number of bytes that are gathered before they are appended to the text.
-const ROOM: usize = 512;
+pub(crate) const ROOM: usize = 1024;
+
+/// A bound on the bytes of a number and a space before it.
+pub(crate) const SIZE_OF_NUMBER: usize = 41;
 
 /// A space and the text of a number or a place, of up to four bytes in all.
 #[derive(Clone, Copy)]
@@ -86,6 +89,16 @@ impl PlaceWords {
             size: 2,
         })?;
         Ok(PlaceWords { labels, words })
+    }
+
+    /// The word of `number`, if it is a label.
+    fn number(&self, number: u32) -> Option<Word>
+        ensures { IfSome result (IsWordWith (32 ∷ decimal number)) }
+    {
+        if number >= self.labels as u32 {
+            return None;
+        }
+        Some(self.words[number as usize])
     }
 
     /// The word of `place`, if it is one of the board.
@@ -167,11 +180,25 @@ impl RowText {
         requires room { self.old.count + 4 ≤ ROOM }
         requires few { word.size ≤ 4 }
         requires ascii { IsAscii (bytes_of_word word) }
-        ensures { self.new.bytes ≡ self.old.bytes ++ bytes_of_word word }
+        ensures bytes { self.new.bytes ≡ self.old.bytes ++ bytes_of_word word }
+        ensures count { self.new.count ≡ self.old.count + word.size }
     {
         let count = self.count;
         self.room[count..count + 4].copy_from_slice(&word.bytes);
         self.count = count + word.size as usize;
+    }
+
+    /// Makes room for `size` bytes.
+    #[inline(always)]
+    pub(crate) fn make_room(&mut self, size: usize) -> Result<(), AllocError>
+        requires { size ≤ ROOM }
+        ensures bytes { OnOk result (self.new.bytes ≡ self.old.bytes) }
+        ensures room { OnOk result (self.new.count + size ≤ ROOM) }
+    {
+        if self.count + size > ROOM {
+            self.flush()?;
+        }
+        Ok(())
     }
 
     /// Appends `text`, which has few bytes: their number is known where this is called.
@@ -180,14 +207,22 @@ impl RowText {
         requires { length text.now ≤ ROOM }
         ensures { OnOk result (self.new.bytes ≡ self.old.bytes ++ text.now) }
     {
+        self.make_room(text.len())?;
+        self.put_str(text);
+        Ok(())
+    }
+
+    /// The same, if there is room.
+    #[inline(always)]
+    pub(crate) fn put_str(&mut self, text: &str)
+        requires { self.old.count + length text.now ≤ ROOM }
+        ensures bytes { self.new.bytes ≡ self.old.bytes ++ text.now }
+        ensures count { self.new.count ≡ self.old.count + length text.now }
+    {
         let bytes = text.as_bytes();
-        if self.count + bytes.len() > ROOM {
-            self.flush()?;
-        }
         let end = self.count + bytes.len();
         self.room[self.count..end].copy_from_slice(bytes);
         self.count = end;
-        Ok(())
     }
 
     /// Appends `text`, however long it is.
@@ -227,6 +262,47 @@ impl RowText {
         }
         self.push_str(" ")?;
         self.push_str(Buffer::new().format(number))
+    }
+
+    /// Appends a place with a space before it, for which there is room.
+    #[inline(always)]
+    pub(crate) fn put_place(&mut self, words: &PlaceWords, place: u16)
+        requires { self.old.count + SIZE_OF_NUMBER ≤ ROOM }
+        ensures bytes { self.new.bytes ≡ self.old.bytes ++ 32 ∷ place_word words.now place }
+        ensures count { self.new.count ≤ self.old.count + SIZE_OF_NUMBER }
+    {
+        match words.word(place) {
+            Some(word) => self.put(word),
+            None => self.put_any_number(u32::from(place)),
+        }
+    }
+
+    /// Appends a number with a space before it, for which there is room.
+    #[inline(always)]
+    pub(crate) fn put_number(&mut self, words: &PlaceWords, number: u32)
+        requires { self.old.count + SIZE_OF_NUMBER ≤ ROOM }
+        ensures bytes { self.new.bytes ≡ self.old.bytes ++ 32 ∷ decimal number }
+        ensures count { self.new.count ≤ self.old.count + SIZE_OF_NUMBER }
+    {
+        match words.number(number) {
+            Some(word) => self.put(word),
+            None => self.put_any_number(number),
+        }
+    }
+
+    /// The same, without words.
+    #[inline(never)]
+    fn put_any_number(&mut self, number: u32)
+        requires { self.old.count + SIZE_OF_NUMBER ≤ ROOM }
+        ensures bytes { self.new.bytes ≡ self.old.bytes ++ 32 ∷ decimal number }
+        ensures count { self.new.count ≤ self.old.count + SIZE_OF_NUMBER }
+    {
+        if number < 1000 {
+            self.put(Word::of(number));
+            return;
+        }
+        self.put_str(" ");
+        self.put_str(Buffer::new().format(number));
     }
 
     /// The bytes of the whole text.

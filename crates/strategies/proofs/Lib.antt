@@ -33,6 +33,7 @@ pub mod MadeRows
 pub mod Closure
 pub mod SomeDocument
 pub mod GapMembers
+pub mod Answers
 pub mod LeastValues
 pub mod TabledAnswers
 pub mod SiblingRanks

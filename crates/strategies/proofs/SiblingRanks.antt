@@ -1,10 +1,11 @@
 -- The configurations that differ in the last pebble's place, and their gaps.
-use Rattle.std.proofs.Common.{◌≡◌, ℕ, zero, suc, ◌+◌, ◌-◌, ◌*◌, ◌^◌, ◌<◌, List, [], ◌∷◌, ◌++◌, length, get_or, set}
+use Rattle.std.proofs.Common.{◌≡◌, ℕ, zero, suc, ◌+◌, ◌-◌, ◌*◌, ◌^◌, ◌<◌, ◌≤◌, take, List, [], ◌∷◌, ◌++◌, length, get_or, set}
 use Rattle.std.proofs.Common.{inl, inr, refl, sym, ap, ◌∙◌, subst, arith}
 use Rattle.std.specs.List.{All, remove}
 use Rattle.std.proofs.Math.Nat.{pow-zero}
 use Rattle.std.proofs.lemmas.Bool.{cases_eq}
 use Rattle.std.proofs.lemmas.List.{get_or-set_other, get_or-set_same, length-set, length-take-le, set-set, take-set}
+use Rattle.std.proofs.lemmas.List.{take-set-le}
 use Rattle.std.proofs.lemmas.List.{take_all, take_more}
 use Rattle.std.proofs.lemmas.List.Edits.{length-remove}
 use Rattle.std.proofs.lemmas.List.Elements.{All-set, All-take}
@@ -18,7 +19,7 @@ use Rattle.classes.specs.Numbers.{class_number, ways}
 use Rattle.classes.proofs.Cited.{all-remove, class-push, falls-class_of, is-below, length-class_of, remove-last}
 use Rattle.classes.proofs.Cited.{remove-past}
 use Rattle.gap_values.proofs.Cited.{gap-is}
-use Rattle.strategies.specs.Inside.Walks.{AreOthers, IsGapWalk, others_held}
+use Rattle.strategies.specs.Inside.Walks.{AreGapNumbers, AreRests, IsGapWalk, others_held}
 
 -- ---- ranks
 
@@ -70,19 +71,23 @@ module _ (board : PlainBoard) (some : 0 < board.pebbles) where
   pub others-moved : (held : List ℕ) (place : ℕ) → others_held board (moved held last place) ≡ others_held board held
   others-moved held place = take-set held last place
 
-  pub walk-moved : (members : PlainBoard) (held : List ℕ) (first : ℕ) (others : List ℕ) (place : ℕ)
-      → IsGapWalk board members held first others
-      → place < places board → IsGapWalk board members (moved held last place) first others
-  walk-moved members held first others place is low = record {
+  pub walk-moved : (members : PlainBoard) (held : List ℕ) (first : ℕ) (rests : List ℕ) (place : ℕ)
+      → IsGapWalk board members held first rests
+      → place < places board → IsGapWalk board members (moved held last place) first rests
+  walk-moved members held first rests place is low = record {
     same_board = is.same_board;
     is_configuration = placed held is.is_configuration place low;
     ranks = λ other inside. is.ranks other inside ∙ sym (set-set held last place other);
     numbers = record {
       room = is.numbers.room;
-      numbers = λ pebble inside. is.numbers.numbers pebble inside
-          ∙ sym (ap (λ l. class_number (class_of (remove l pebble))) (others-moved held place));
+      rows = λ size low pebble inside. is.numbers.rows size low pebble inside
+          ∙ sym (ap (λ l. class_number (class_of (remove l pebble))) (before held size place low));
     };
   }
+    where
+      before : (held : List ℕ) (size place : ℕ) → size < board.pebbles
+          → take size (set held last place) ≡ take size held
+      before held size place low = take-set-le size held last place (omega (arith, low))
 
 -- ---- gaps
 
@@ -146,51 +151,215 @@ module _ (board : PlainBoard) (held : List ℕ) (is : IsConfiguration board held
       subst (λ n. n < ways (board.pebbles - 1) (places board)) (sym same)
       (is-below (places board) (board.pebbles - 1) (gap_at held pebble) (gap-is board held is pebble low))
 
-  module _ (others : List ℕ) (are : AreOthers board held board.pebbles others) where
+  module _ (rests : List ℕ) (are : AreRests held board.pebbles rests) where
+    abbrev entry : ℕ → ℕ
+    entry pebble = get_or rests (6 * (board.pebbles - 1) + pebble) 0
+
+    row : (pebble : ℕ) → pebble < board.pebbles
+        → entry pebble ≡ class_number (class_of (remove (others_held board held) pebble))
+    row pebble low = are.rows (board.pebbles - 1) (omega (arith, some)) pebble (omega (arith, low))
+
     pub last-number : (pebble : ℕ) → pebble ≡ board.pebbles - 1
-        → get_or others pebble 0 ≡ class_number (gap_at held pebble)
+        → entry pebble ≡ class_number (gap_at held pebble)
     last-number pebble same =
-        are.numbers pebble (omega (arith, same))
+        row pebble (omega (arith, same))
         ∙ ap (λ n. class_number (class_of (remove (others_held board held) n))) same
         ∙ ap class_number last-gap
         ∙ ap (λ n. class_number (gap_at held n)) (sym same)
 
     pub other-below : (pebble : ℕ) → pebble < board.pebbles - 1
-        → get_or others pebble 0 < ways (board.pebbles - 2) (places board)
+        → entry pebble < ways (board.pebbles - 2) (places board)
     other-below pebble low =
-        subst (λ n. n < ways (board.pebbles - 2) (places board)) (sym (are.numbers pebble (omega arith)))
+        subst (λ n. n < ways (board.pebbles - 2) (places board)) (sym (row pebble (omega arith)))
         (is-below (places board) (board.pebbles - 2) (class_of (remove (others_held board held) pebble))
         (other-class pebble low))
 
     -- the member of that class with the last pebble's place is the gap
     pub other-number : (pebble member : ℕ) → pebble < board.pebbles - 1
-        → ((gap : List ℕ) → IsClass (places board) (board.pebbles - 2) gap → get_or others pebble 0 ≡ class_number gap
+        → ((gap : List ℕ) → IsClass (places board) (board.pebbles - 2) gap → entry pebble ≡ class_number gap
         → member ≡ class_number (put (get_or held (board.pebbles - 1) 0) gap))
         → member ≡ class_number (gap_at held pebble)
     other-number pebble member low is_member =
         is_member (class_of (remove (others_held board held) pebble)) (other-class pebble low)
-        (are.numbers pebble (omega arith))
+        (row pebble (omega arith))
         ∙ ap class_number (sym (other-gap pebble low))
 
--- ---- the numbers without each pebble, one after the other
+-- ---- the rows, one after the other
 
-pub others-begin : (board : PlainBoard) (held others : List ℕ) → length others ≡ 6 → AreOthers board held 0 others
-others-begin board held others room = record { room = room; numbers = λ pebble low. absurd (omega arith) }
+module _ (held : List ℕ) where
+  abbrev rest : ℕ → ℕ → List ℕ
+  rest size pebble = class_of (remove (take size held) pebble)
 
-pub others-more : (board : PlainBoard) (held others : List ℕ) (pebble number : ℕ) → pebble < 6
-    → AreOthers board held pebble others
-    → number ≡ class_number (class_of (remove (others_held board held) pebble))
-    → AreOthers board held (pebble + 1) (set others pebble number)
-others-more board held others pebble number inside are is =
-    let room : length others ≡ 6 = are.room in
+  removed : (list : List ℕ) (place index : ℕ) → index < length list
+      → remove (list ++ place ∷ []) index ≡ remove list index ++ place ∷ []
+  removed [] place index inside = absurd (omega arith)
+  removed (first ∷ others) place zero inside = refl
+  removed (first ∷ others) place (suc index) inside =
+      ap (λ l. first ∷ l) (removed others place index (omega arith))
+
+  module _ (size : ℕ) (inside : size < length held) where
+    long : length (take size held) ≡ size
+    long = length-take-le size held (omega (arith, inside))
+
+    more : take (size + 1) held ≡ take size held ++ get_or held size 0 ∷ []
+    more = take_more held size 0 inside
+
+    pub rest-push : (pebble : ℕ) → pebble < size
+        → rest (size + 1) pebble ≡ put (get_or held size 0) (rest size pebble)
+    rest-push pebble low =
+        ap (λ l. class_of (remove l pebble)) more
+        ∙ ap class_of (removed (take size held) (get_or held size 0) pebble (omega (arith, low, long)))
+        ∙ class-push (remove (take size held) pebble) (get_or held size 0)
+
+    pub rest-same : rest (size + 1) size ≡ rest size size
+    rest-same =
+        ap (λ l. class_of (remove l size)) more
+        ∙ ap (λ n. class_of (remove (take size held ++ get_or held size 0 ∷ []) n)) (sym long)
+        ∙ ap class_of (remove-last (take size held) (get_or held size 0))
+        ∙ sym (ap class_of (remove-past (take size held) size (omega (arith, long))))
+
+    pub rest-all : rest (size + 1) (size + 1) ≡ put (get_or held size 0) (rest size size)
+    rest-all =
+        let longer : length (take (size + 1) held) ≡ size + 1 =
+        length-take-le (size + 1) held (omega (arith, inside)) in
+        ap class_of (remove-past (take (size + 1) held) (size + 1) (omega (arith, longer)))
+        ∙ ap class_of more
+        ∙ class-push (take size held) (get_or held size 0)
+        ∙ sym (ap (λ l. put (get_or held size 0) (class_of l))
+        (remove-past (take size held) size (omega (arith, long))))
+
+module _ (board : PlainBoard) (held : List ℕ) (is : IsConfiguration board held) (size : ℕ)
+    (inside : size < length held) where
+  placed-first : All (λ p. p < places board) (take size held)
+  placed-first = All-take (λ p. p < places board) size held is.each_place
+
+  -- the class without a pebble of the first ones, and that of all of them
+  pub rest-class : (pebble : ℕ) → pebble < size → IsClass (places board) (size - 1) (rest held size pebble)
+  rest-class pebble low =
+      let fewer = length-remove (take size held) pebble (omega (arith, low, long held size inside)) in
+      record {
+        size = length-class_of (remove (take size held) pebble) ∙ omega (arith, fewer, long held size inside);
+        falls = falls-class_of (places board) (remove (take size held) pebble)
+            (all-remove (λ p. p < places board) (take size held) pebble placed-first);
+      }
+
+  pub whole-class : IsClass (places board) size (rest held size size)
+  whole-class =
+      let same = remove-past (take size held) size (omega (arith, long held size inside)) in
+      subst (λ l. IsClass (places board) size (class_of l)) (sym same) (record {
+        size = length-class_of (take size held) ∙ long held size inside;
+        falls = falls-class_of (places board) (take size held) placed-first;
+      })
+
+module _ (held : List ℕ) where
+  -- the rows so far, and in the next one the entries of the pebbles below a bound
+  pub record IsRowBelow (size bound : ℕ) (rests : List ℕ) : Type 0 where
+    pub before : AreRests held (size + 1) rests
+    pub found : (pebble : ℕ) → pebble < bound
+        → get_or rests (6 * (size + 1) + pebble) 0 ≡ class_number (rest held (size + 1) pebble)
+
+  pub row-begins : (size : ℕ) (rests : List ℕ) → AreRests held (size + 1) rests → IsRowBelow size 0 rests
+  row-begins size rests are = record { before = are; found = λ pebble low. absurd (omega (arith, low)) }
+
+  pub row-more : (size bound number : ℕ) (rests : List ℕ) → size + 1 < 6 → bound < size + 2
+      → IsRowBelow size bound rests → number ≡ class_number (rest held (size + 1) bound)
+      → IsRowBelow size (bound + 1) (set rests (6 * (size + 1) + bound) number)
+  row-more size bound number rests few low are same =
+      let room : length rests ≡ 36 = are.before.room in
+      let at = 6 * (size + 1) + bound in
+      record {
+        before = record {
+          room = length-set rests at number ∙ room;
+          rows = λ other less pebble inside.
+              get_or-set_other rests at (6 * other + pebble) number 0 (omega (arith, less, inside, few))
+              ∙ are.before.rows other less pebble inside;
+        };
+        found = λ pebble below. elim (cases_eq pebble bound) [
+          | inl equal ↦
+              ap (λ n. get_or (set rests at number) (6 * (size + 1) + n) 0) equal
+              ∙ get_or-set_same rests at number 0 (omega (arith, room, few, low))
+              ∙ same ∙ ap (λ n. class_number (rest held (size + 1) n)) (sym equal)
+          | inr differ ↦
+              get_or-set_other rests at (6 * (size + 1) + pebble) number 0 (omega (arith, differ))
+              ∙ are.found pebble (omega (arith, below, differ))
+        ];
+      }
+
+  pub row-ends : (size bound : ℕ) (rests : List ℕ) → size + 2 ≤ bound → IsRowBelow size bound rests
+      → AreRests held (size + 2) rests
+  row-ends size bound rests most are = record {
+    room = are.before.room;
+    rows = λ other less pebble inside. elim (cases_eq other (size + 1)) [
+      | inl equal ↦
+          ap (λ n. get_or rests (6 * n + pebble) 0) equal
+          ∙ are.found pebble (omega (arith, inside, equal, most))
+          ∙ ap (λ n. class_number (rest held n pebble)) (sym equal)
+      | inr differ ↦ are.before.rows other (omega (arith, less, differ)) pebble inside
+    ];
+  }
+
+take_take-le : (few many : ℕ) (list : List ℕ) → few ≤ many → take few (take many list) ≡ take few list
+take_take-le zero many list most = refl
+take_take-le (suc few) zero list most = absurd (omega (arith, most))
+take_take-le (suc few) (suc many) [] most = refl
+take_take-le (suc few) (suc many) (first ∷ others) most =
+    ap (λ l. first ∷ l) (take_take-le few many others (omega (arith, most)))
+
+-- the rows of first pebbles whose places stay are kept
+pub rests-kept : (held next rests : List ℕ) (same bound : ℕ) → take same held ≡ take same next → same < bound
+    → AreRests held bound rests → AreRests next (same + 1) rests
+rests-kept held next rests same bound equal low are = record {
+  room = are.room;
+  rows = λ size less pebble inside.
+      are.rows size (omega (arith, less, low)) pebble inside
+      ∙ ap (λ l. class_number (class_of (remove l pebble))) (shorter size (omega (arith, less)));
+}
+  where
+    shorter : (size : ℕ) → size ≤ same → take size held ≡ take size next
+    shorter size most = sym (take_take-le size same held most) ∙ ap (take size) equal ∙ take_take-le size same next most
+
+-- no pebble has the class of no places
+pub rests-begin : (held rests : List ℕ) → length rests ≡ 36 → get_or rests 0 0 ≡ 0 → AreRests held 1 rests
+rests-begin held rests room none = record { room = room; rows = by }
+  where
+    by : (size : ℕ) → size < 1 → (pebble : ℕ) → pebble ≤ size
+        → get_or rests (6 * size + pebble) 0 ≡ class_number (class_of (remove (take size held) pebble))
+    by zero less zero inside = none
+    by zero less (suc pebble) inside = absurd (omega (arith, inside))
+    by (suc size) less pebble inside = absurd (omega (arith, less))
+
+-- two lists agree in one place more
+pub same-more : (first second : List ℕ) (same : ℕ) → same < length first → same < length second
+    → take same first ≡ take same second → get_or first same 0 ≡ get_or second same 0
+    → take (same + 1) first ≡ take (same + 1) second
+same-more first second same one other equal here =
+    take_more first same 0 one ∙ ap (λ l. l ++ get_or first same 0 ∷ []) equal
+    ∙ ap (λ n. take same second ++ n ∷ []) here ∙ sym (take_more second same 0 other)
+
+-- ---- the numbers of all gaps, one after the other
+
+pub gaps-begin : (held numbers : List ℕ) → length numbers ≡ 6 → AreGapNumbers held 0 numbers
+gaps-begin held numbers room = record { room = room; each = λ pebble low. absurd (omega (arith, low)) }
+
+pub gaps-more : (held : List ℕ) (pebble number : ℕ) (numbers : List ℕ) → pebble < 6 → AreGapNumbers held pebble numbers
+    → number ≡ class_number (gap_at held pebble) → AreGapNumbers held (pebble + 1) (set numbers pebble number)
+gaps-more held pebble number numbers few are is =
+    let room : length numbers ≡ 6 = are.room in
     record {
-      room = length-set others pebble number ∙ room;
-      numbers = λ other low. elim (cases_eq other pebble) [
+      room = length-set numbers pebble number ∙ room;
+      each = λ other low. elim (cases_eq other pebble) [
         | inl same ↦
-            ap (λ n. get_or (set others pebble number) n 0) same
-            ∙ get_or-set_same others pebble number 0 (omega arith)
-            ∙ is ∙ ap (λ n. class_number (class_of (remove (others_held board held) n))) (sym same)
+            ap (λ n. get_or (set numbers pebble number) n 0) same
+            ∙ get_or-set_same numbers pebble number 0 (omega (arith, room, few))
+            ∙ is ∙ ap (λ n. class_number (gap_at held n)) (sym same)
         | inr differ ↦
-            get_or-set_other others pebble other number 0 differ ∙ are.numbers other (omega (arith, differ))
+            get_or-set_other numbers pebble other number 0 differ ∙ are.each other (omega (arith, low, differ))
       ];
     }
+
+pub gaps-end : (held : List ℕ) (bound pebbles : ℕ) (numbers : List ℕ) → pebbles ≤ bound → AreGapNumbers held bound numbers
+    → AreGapNumbers held pebbles numbers
+gaps-end held bound pebbles numbers most are = record {
+  room = are.room;
+  each = λ pebble low. are.each pebble (omega (arith, low, most));
+}

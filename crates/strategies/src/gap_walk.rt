@@ -1,13 +1,15 @@
 //! A walk over configurations, which gives the gaps of their pebbles.
 
-ghost use Rattle.std.specs.Prelude.{◌≡◌, ◌+◌, ◌-◌, ◌<◌, ◌≤◌, IfSome, length};
+ghost use Rattle.std.specs.Prelude.{◌≡◌, ◌+◌, ◌-◌, ◌<◌, ◌≤◌, IfSome, length, take};
+ghost use Rattle.std.specs.List.{remove};
 ghost use Rattle.board_text.specs.PlainBoard.{IsBoard, IsConfiguration, places};
 ghost use Rattle.positions.specs.Game.{moved};
 ghost use Rattle.positions.specs.Ranks.{configurations, configuration_at};
+ghost use Rattle.classes.specs.Classes.{class_of};
 ghost use Rattle.classes.specs.ClassGaps.{gap_at};
-ghost use Rattle.classes.specs.Numbers.{class_number, ways};
+ghost use Rattle.classes.specs.Numbers.{class_number};
 ghost use Rattle.strategies.specs.Inside.MovesAt.{position};
-ghost use Rattle.strategies.specs.Inside.Walks.{AreOthers};
+ghost use Rattle.strategies.specs.Inside.Walks.{AreGapNumbers, AreRests};
 
 use crate::configuration::Configuration;
 use board_text::MAX_PEBBLES;
@@ -28,9 +30,13 @@ pub(crate) struct GapWalk<'a> {
     configuration: Configuration,
     /// The rank of the configuration with the place 0 for the last pebble.
     first: u32,
-    /// For each pebble, the number of the class of all places but its own and the last pebble's.
-    others: [u32; MAX_PEBBLES],
+    /// For the first pebbles, of each number, a row: for each of them the number of the class of
+    /// their places but its own, and after these the number of the class of all.
+    rests: [u32; ROOM],
 }
+
+/// The number of entries of a row for each number of pebbles.
+const ROOM: usize = MAX_PEBBLES * MAX_PEBBLES;
 
 impl<'a> Model for GapWalk<'a> {
     ghost use Rattle.strategies.specs.Inside.MovesAt.{HeldPosition, position};
@@ -41,7 +47,7 @@ impl<'a> Model for GapWalk<'a> {
     ghost view = { λ w. position w.space.now w.configuration };
 
     ghost invariant = { λ w.
-        IsGapWalk w.space.now w.members.now w.configuration w.first w.others };
+        IsGapWalk w.space.now w.members.now w.configuration w.first w.rests };
 }
 
 impl<'a> GapWalk<'a> {
@@ -53,13 +59,14 @@ impl<'a> GapWalk<'a> {
     {
         let last = space.pebbles() - 1;
         let configuration = Configuration::at(space, rank);
-        let others = others_of(members, configuration.as_slice());
+        let mut rests = [0; ROOM];
+        fill_rests(members, configuration.as_slice(), 0, &mut rests);
         GapWalk {
             space,
             members,
             configuration,
             first: space.with(rank, last, 0),
-            others,
+            rests,
         }
     }
 
@@ -69,10 +76,25 @@ impl<'a> GapWalk<'a> {
         ensures { self.new ≡ position self.old.board (configuration_at self.old.board rank) }
     {
         let Some(place) = self.place_at(rank) else {
-            *self = GapWalk::at(self.space, self.members, rank);
+            self.go_to(rank);
             return;
         };
         self.configuration.put(self.space.pebbles() - 1, place);
+    }
+
+    /// The same, if the place of another pebble than the last one can differ. The rows of the first
+    /// pebbles whose places stay are kept.
+    #[inline(never)]
+    fn go_to(&mut self, rank: u32)
+        requires { rank < configurations self.old.board }
+        ensures { self.new ≡ position self.old.board (configuration_at self.old.board rank) }
+    {
+        let last = self.space.pebbles() - 1;
+        let next = Configuration::at(self.space, rank);
+        let same = count_same(self.configuration.as_slice(), next.as_slice(), last);
+        fill_rests(self.members, next.as_slice(), same, &mut self.rests);
+        self.first = self.space.with(rank, last, 0);
+        self.configuration = next;
     }
 
     /// The place of the last pebble at the configuration of `rank`, if that differs from the
@@ -106,34 +128,100 @@ impl<'a> GapWalk<'a> {
         self.space.pebbles()
     }
 
-    /// The number of the class of the gap of `pebble`.
-    pub(crate) fn gap(&self, pebble: u8) -> u32
-        requires { pebble < self.now.board.pebbles }
-        ensures number { result ≡ class_number (gap_at self.now.held pebble) }
-        ensures below { result < ways (self.now.board.pebbles - 1) (places self.now.board) }
+    /// For each pebble, the number of the class of its gap. The entries after those of the pebbles
+    /// say nothing.
+    pub(crate) fn gaps(&self) -> [u32; MAX_PEBBLES]
+        ensures { AreGapNumbers self.now.held self.now.board.pebbles result }
+    {
+        let last = self.pebbles() - 1;
+        let mut numbers = [0; MAX_PEBBLES];
+        for pebble in 0..last {
+            numbers[pebble as usize] = self.gap(pebble);
+        }
+        numbers[last as usize] = self.last_gap();
+        numbers
+    }
+
+    /// The number of the class of the gap of `pebble`, another one than the last.
+    fn gap(&self, pebble: u8) -> u32
+        requires { pebble + 1 < self.now.board.pebbles }
+        ensures { result ≡ class_number (gap_at self.now.held pebble) }
     {
         let last = self.space.pebbles() - 1;
-        let number = self.others[pebble as usize];
-        if pebble == last {
-            return number;
-        }
+        let number = self.rests[MAX_PEBBLES * last as usize + pebble as usize];
         let place = self.configuration.as_slice()[last as usize];
         self.members.member(last - 1, number, place)
     }
+
+    /// The number of the class of the last pebble's gap.
+    fn last_gap(&self) -> u32
+        ensures { result ≡ class_number (gap_at self.now.held (self.now.board.pebbles - 1)) }
+    {
+        let last = self.space.pebbles() as usize - 1;
+        self.rests[MAX_PEBBLES * last + last]
+    }
 }
 
-/// For each pebble, the number of the class of the places of `held` but its own and the last
-/// pebble's.
-fn others_of(members: &MemberTables, held: &[u16]) -> [u32; MAX_PEBBLES]
+/// How many of the first pebbles, of which there are at most `most`, have the same places in both.
+fn count_same(first: &[u16], second: &[u16], most: u8) -> u8
+    requires first { most ≤ length first.now }
+    requires second { most ≤ length second.now }
+    ensures most { result ≤ most }
+    ensures same { take result first.now ≡ take result second.now }
+{
+    let mut same = 0;
+    while same < most && first[same as usize] == second[same as usize] {
+        same += 1;
+    }
+    same
+}
+
+/// Fills the rows for more than `count` pebbles, up to all but the last one.
+fn fill_rests(members: &MemberTables, held: &[u16], count: u8, rests: &mut [u32; ROOM])
     requires held { IsConfiguration members.now held.now }
     requires some { 0 < length held.now }
     requires few { length held.now ≤ MAX_PEBBLES }
-    ensures { AreOthers members.now held.now (length held.now) result }
+    requires count { count < length held.now }
+    requires rests { AreRests held.now (count + 1) rests.old }
+    ensures { AreRests held.now (length held.now) rests.new }
 {
-    let last = held.len() - 1;
-    let mut others = [0; MAX_PEBBLES];
-    for pebble in 0..held.len() {
-        others[pebble] = members.number_without(&held[..last], pebble as u8);
+    for size in count..held.len() as u8 - 1 {
+        fill_row(members, held, size, rests);
     }
-    others
+}
+
+/// Fills the row for one pebble more than `size`.
+fn fill_row(members: &MemberTables, held: &[u16], size: u8, rests: &mut [u32; ROOM])
+    requires held { IsConfiguration members.now held.now }
+    requires few { length held.now ≤ MAX_PEBBLES }
+    requires size { size + 1 < length held.now }
+    requires rests { AreRests held.now (size + 1) rests.old }
+    ensures { AreRests held.now (size + 2) rests.new }
+{
+    for pebble in 0..size + 2 {
+        let number = rest_of(members, held, size, pebble, rests);
+        rests[MAX_PEBBLES * (size as usize + 1) + pebble as usize] = number;
+    }
+}
+
+/// The number of the class of the first `size` + 1 places of `held` but that of `pebble`, by the
+/// row for one pebble less.
+fn rest_of(members: &MemberTables, held: &[u16], size: u8, pebble: u8, rests: &[u32; ROOM]) -> u32
+    requires held { IsConfiguration members.now held.now }
+    requires few { length held.now ≤ MAX_PEBBLES }
+    requires size { size + 1 < length held.now }
+    requires pebble { pebble ≤ size + 1 }
+    requires rests { AreRests held.now (size + 1) rests.now }
+    ensures { result ≡ class_number (class_of (remove (take (size + 1) held.now) pebble)) }
+{
+    let row = MAX_PEBBLES * size as usize;
+    let place = held[size as usize];
+    if pebble < size {
+        return members.member(size - 1, rests[row + pebble as usize], place);
+    }
+    let whole = rests[row + size as usize];
+    if pebble == size {
+        return whole;
+    }
+    members.member(size, whole, place)
 }

@@ -2,6 +2,7 @@
 //! configurations, and by classes.
 #![tactic(auto)]
 
+mod answer;
 mod best_moves;
 mod class_documents;
 mod class_rows;

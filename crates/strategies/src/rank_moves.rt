@@ -6,9 +6,9 @@ ghost use Rattle.positions.specs.Ranks.{configurations, configuration_at, rank_o
 ghost use Rattle.strategies.specs.Best.{IsBestFor};
 ghost use Rattle.strategies.specs.Inside.MovesAt.{position};
 ghost use Rattle.strategies.specs.Inside.RankMoves.{AreBestOfAll};
-ghost use Rattle.strategies.specs.Inside.Walks.{AreFoundBelow};
+ghost use Rattle.strategies.specs.Inside.Walks.{AreFoundBelow, AreGapNumbers};
 
-use crate::gap_best::Best;
+use crate::answer::Answer;
 use crate::gap_walk::GapWalk;
 use crate::moves::Moves;
 use board_text::{Board, MAX_PEBBLES, Memory};
@@ -28,7 +28,7 @@ pub(crate) struct RankMoves<'a> {
     start: u32,
     members: MemberTables,
     /// The best answer of each gap, by the number of its class.
-    best: Vec<Option<Best>>,
+    best: Vec<Answer>,
 }
 
 impl<'a> Model for RankMoves<'a> {
@@ -102,24 +102,32 @@ impl<'a> RankMoves<'a> {
         GapWalk::at(self.space, &self.members, rank)
     }
 
-    /// The best answer to a request of `pebble` at the configuration of `gaps`, if there is one.
-    pub(crate) fn best_at(&self, gaps: &GapWalk<'_>, pebble: u8) -> Option<Best>
-        requires same_board { gaps.now.board ≡ self.now }
+    /// The best answer to a request of `pebble` at the configuration of `walk`, if there is one. The
+    /// numbers of the gaps there are `gaps`.
+    pub(crate) fn best_at(
+        &self,
+        walk: &GapWalk<'_>,
+        gaps: &[u32; MAX_PEBBLES],
+        pebble: u8,
+    ) -> Answer
+        requires same_board { walk.now.board ≡ self.now }
+        requires gaps { AreGapNumbers walk.now.held self.now.pebbles gaps.now }
         requires pebble { pebble < self.now.pebbles }
-        ensures { IsBestFor self.now gaps.now.held pebble result }
+        ensures { IsBestFor self.now walk.now.held pebble result }
     {
-        let _ = gaps.pebbles();
-        self.best[gaps.gap(pebble) as usize]
+        let _ = walk.pebbles();
+        self.best[gaps[pebble as usize] as usize]
     }
 
-    /// Puts the best answer to a request of each pebble at the configuration of `gaps` into
+    /// Puts the best answer to a request of each pebble at the configuration of `walk` into
     /// `answers`.
-    pub(crate) fn put_answers(&self, gaps: &GapWalk<'_>, answers: &mut [Option<Best>; MAX_PEBBLES])
-        requires same_board { gaps.now.board ≡ self.now }
-        ensures { AreFoundBelow self.now gaps.now.held self.now.pebbles answers.new }
+    pub(crate) fn put_answers(&self, walk: &GapWalk<'_>, answers: &mut [Answer; MAX_PEBBLES])
+        requires same_board { walk.now.board ≡ self.now }
+        ensures { AreFoundBelow self.now walk.now.held self.now.pebbles answers.new }
     {
-        for pebble in 0..gaps.pebbles() {
-            answers[pebble as usize] = self.best_at(gaps, pebble);
+        let gaps = walk.gaps();
+        for pebble in 0..walk.pebbles() {
+            answers[pebble as usize] = self.best_at(walk, &gaps, pebble);
         }
     }
 }
@@ -129,8 +137,9 @@ fn best_of_gaps<M: Moves>(
     alloc: Global,
     moves: &M,
     classes: &Classes,
-) -> Result<Vec<Option<Best>>, Memory>
-    requires { classes.now ≡ M.board moves.now }
+) -> Result<Vec<Answer>, Memory>
+    requires same_board { classes.now ≡ M.board moves.now }
+    requires few { configurations classes.now ≤ MAX_CONFIGURATIONS }
     ensures { IfOk result (λ best. AreBestOfAll classes.now best.items) }
 {
     let lists = classes.lists(alloc, classes.pebbles() - 1)?;
@@ -138,7 +147,7 @@ fn best_of_gaps<M: Moves>(
     for index in 0..lists.len() {
         // Whichever place the pebble has, the gap is the same.
         let held = lists[index].with_greatest(classes.places() - 1);
-        best.push(moves.best(held.as_slice(), 0))?;
+        best.push(Answer::of(moves.best(held.as_slice(), 0)))?;
     }
     Ok(best)
 }

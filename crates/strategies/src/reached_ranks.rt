@@ -24,8 +24,9 @@ impl RankMoves<'_> {
         requires size { length reached.old.reached ≡ configurations self.now }
         ensures { AreReachedWith reached.old (AnswerLeads self.now rank) reached.new }
     {
+        let gaps = here.gaps();
         for pebble in 0..here.pebbles() {
-            if let Some(best) = self.best_at(here, pebble) {
+            if let Some(best) = self.best_at(here, &gaps, pebble).best() {
                 if Value::Finite(0) < best.value {
                     reached.add(self.space().with(rank, pebble, best.label));
                 }

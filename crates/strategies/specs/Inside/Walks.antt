@@ -1,5 +1,5 @@
 -- Walks over configurations by ranks: those that differ in the last pebble's place alone.
-use Rattle.std.specs.Prelude.{◌≡◌, ℕ, ◌+◌, ◌-◌, ◌<◌, List, length, Option, None, slice_index, take}
+use Rattle.std.specs.Prelude.{◌≡◌, ℕ, ◌+◌, ◌-◌, ◌*◌, ◌<◌, ◌≤◌, List, length, Option, None, slice_index, take}
 use Rattle.std.specs.Prelude.{slice_index_or}
 use Rattle.std.specs.List.{remove}
 use Rattle.board_text.specs.PlainBoard.{PlainBoard, IsConfiguration, places}
@@ -7,6 +7,7 @@ use Rattle.board_text.specs.declared.board.TheConstants.{MAX_PEBBLES}
 use Rattle.positions.specs.Game.{moved}
 use Rattle.positions.specs.Ranks.{configuration_at}
 use Rattle.classes.specs.Classes.{class_of}
+use Rattle.classes.specs.ClassGaps.{gap_at}
 use Rattle.classes.specs.Numbers.{class_number}
 use Rattle.strategies.specs.declared.gap_best.Best.{Best}
 use Rattle.strategies.specs.Best.{IsBestFor}
@@ -16,23 +17,29 @@ use Rattle.strategies.specs.Inside.MovesAt.{HeldPosition}
 abbrev pub others_held : PlainBoard → List ℕ → List ℕ
 others_held board held = take (board.pebbles - 1) held
 
--- for each pebble below a bound, the number of the class of these places without its own
-pub record AreOthers (board : PlainBoard) (held : List ℕ) (bound : ℕ) (others : List ℕ)
-    : Type 0 where
-  pub room : length others ≡ MAX_PEBBLES
-  pub numbers : (pebble : ℕ) → pebble < bound
-      → slice_index others pebble
-      ≡ class_number (class_of (remove (others_held board held) pebble))
+-- for each number of first pebbles below a bound a row: for each of these pebbles the number of the class of their
+-- places without its own, and after these the number of the class of all
+pub record AreRests (held : List ℕ) (bound : ℕ) (rests : List ℕ) : Type 0 where
+  pub room : length rests ≡ 36
+  pub rows : (size : ℕ) → size < bound → (pebble : ℕ) → pebble ≤ size
+      → slice_index rests (MAX_PEBBLES * size + pebble)
+      ≡ class_number (class_of (remove (take size held) pebble))
+
+-- for each pebble below a bound, the number of the class of its gap
+pub record AreGapNumbers (held : List ℕ) (bound : ℕ) (numbers : List ℕ) : Type 0 where
+  pub room : length numbers ≡ MAX_PEBBLES
+  pub each : (pebble : ℕ) → pebble < bound
+      → slice_index numbers pebble ≡ class_number (gap_at held pebble)
 
 -- tables for the same board, and from the first rank on its configurations that differ in the last
 -- pebble's place alone, by that place
-pub record IsGapWalk (board members : PlainBoard) (held : List ℕ) (first : ℕ) (others : List ℕ)
+pub record IsGapWalk (board members : PlainBoard) (held : List ℕ) (first : ℕ) (rests : List ℕ)
     : Type 0 where
   pub same_board : members ≡ board
   pub is_configuration : IsConfiguration board held
   pub ranks : (place : ℕ) → place < places board
       → configuration_at board (first + place) ≡ moved held (board.pebbles - 1) place
-  pub numbers : AreOthers board held board.pebbles others
+  pub numbers : AreRests held board.pebbles rests
 
 -- the best answers to requests of the pebbles below a bound are in their places
 pub record AreFoundBelow (board : PlainBoard) (held : List ℕ) (bound : ℕ)

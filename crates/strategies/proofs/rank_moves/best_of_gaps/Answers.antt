@@ -3,6 +3,7 @@ use Rattle.board_text.specs.PlainBoard.{places}
 use Rattle.board_text.proofs.Cited.{some_places}
 use Rattle.classes.specs.Numbers.{class_with, ways}
 use Rattle.classes.proofs.Cited.{with-is}
+use Rattle.strategies.proofs.LeastValues.{small-value}
 use Rattle.strategies.proofs.TabledAnswers.{asked, best-more}
 use Rattle.strategies.proofs.rank_moves.best_of_gaps.Given.{Over}
 use Rattle.strategies.proofs.rank_moves.best_of_gaps.Goals as goal
@@ -36,7 +37,7 @@ with_greatest-held-requires g c =
 pub best-requires-clause-held : goal.best-requires-clause-held
 best-requires-clause-held g c =
     let at = (goal.at.best-requires-clause-held g c).After-places in
-    rw (c.as_slice.ensures.value, c.with_greatest-held.ensures, listed g at, ← c.requires)
+    rw (c.as_slice.ensures.value, c.with_greatest-held.ensures, listed g at, ← c.requires.same_board)
     (asked c.args.classes.now (some g at) (c.places.result - 1) c.loop-index.index (low g at) (inside g at))
 
 pub loop-index-preserved : goal.loop-index-preserved
@@ -48,4 +49,14 @@ loop-index-preserved g c =
     (best-more board (some g at) (c.places.result - 1) c.loop-index.index c.loop-index.best.items c.best.result (low g
     at)
     (inside g at) c.loop-index.invariant
-    (rw (c.as_slice.ensures.value, c.with_greatest-held.ensures, listed g at, ← c.requires) at c.best.ensures))
+    (rw (c.as_slice.ensures.value, c.with_greatest-held.ensures, listed g at, ← c.requires.same_board) at c.best.ensures))
+
+pub of-requires : goal.of-requires
+of-requires g c =
+    let at = (goal.at.of-requires g c).After-places in
+    let board = c.args.classes.now in
+    small-value board ((c.places.result - 1) ∷ class_with (places board) (board.pebbles - 1) c.loop-index.index)
+    (asked board (some g at) (c.places.result - 1) c.loop-index.index (low g at) (inside g at)) c.requires.few 0
+    c.best.result
+    (rw (c.as_slice.ensures.value, c.with_greatest-held.ensures, listed g at, ← c.requires.same_board) at
+    c.best.ensures)

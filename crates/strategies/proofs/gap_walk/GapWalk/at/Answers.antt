@@ -1,7 +1,7 @@
 use Rattle.std.proofs.Common.{◌<◌, ℕ, subst, arith}
 use Rattle.board_text.specs.PlainBoard.{IsConfiguration}
 use Rattle.positions.proofs.Cited.{configuration_at_is}
-use Rattle.strategies.specs.Inside.Walks.{AreOthers}
+use Rattle.strategies.specs.Inside.Walks.{AreRests}
 use Rattle.strategies.proofs.SiblingRanks.{sibling-ranks}
 use Rattle.strategies.proofs.gap_walk.GapWalk.at.Goals as goal
 use Rattle.strategies.proofs.gap_walk.GapWalk.at.Goals.{After-as_slice}
@@ -9,15 +9,10 @@ use Rattle.strategies.proofs.gap_walk.GapWalk.at.Goals.{After-as_slice}
 is : (c : After-as_slice) → IsConfiguration c.args.space.now c.at-configuration.result
 is c = rw c.at-configuration.ensures (configuration_at_is c.args.space.now c.args.rank c.requires.rank)
 
-pub others_of-others-requires-clause-held : goal.others_of-others-requires-clause-held
-others_of-others-requires-clause-held c =
+pub fill_rests-requires-clause-held : goal.fill_rests-requires-clause-held
+fill_rests-requires-clause-held c =
     rw (c.as_slice.ensures.value, c.requires.same_board)
-    (is (goal.at.others_of-others-requires-clause-held c).After-as_slice)
-
-pub others_of-others-requires-clause-some : goal.others_of-others-requires-clause-some
-others_of-others-requires-clause-some c =
-    let size = (is (goal.at.others_of-others-requires-clause-some c).After-as_slice).each_pebble in
-    rw c.as_slice.ensures.value (omega (arith, size, c.pebbles-last.ensures.is_board.pebbles))
+    (is (goal.at.fill_rests-requires-clause-held c).After-as_slice)
 
 pub invariant_of-result : goal.invariant_of-result
 invariant_of-result c =
@@ -30,7 +25,6 @@ invariant_of-result c =
       ranks = λ place low. rw c.at-configuration.ensures
           (sibling-ranks board some c.args.rank c.with.result c.requires.rank
           (rw c.pebbles-last.ensures.value at c.with.ensures.rank) place low);
-      numbers = subst (λ (n : ℕ). AreOthers board c.at-configuration.result n c.others_of-others.result)
-          there.each_pebble
-          (rw (c.requires.same_board, c.as_slice.ensures.value) at c.others_of-others.ensures);
+      numbers = subst (λ (n : ℕ). AreRests c.at-configuration.result n c.fill_rests.new.rests) there.each_pebble
+          (rw c.as_slice.ensures.value at c.fill_rests.ensures);
     }

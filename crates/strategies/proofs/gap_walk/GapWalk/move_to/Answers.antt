@@ -12,10 +12,10 @@ put-requires c =
       c.self.invariant.is_configuration.each_pebble,
     )
 
-pub invariant_of-self-2 : goal.invariant_of-self-2
-invariant_of-self-2 c =
+pub invariant_of-self : goal.invariant_of-self
+invariant_of-self c =
     let w = c.self.inside in
     let low : c.in-Some.place < places w.space.now = rw (← c.self.view_is) at c.in-Some.ensures.place in
     rw (c.put.ensures, c.pebbles.ensures.value)
     (walk-moved w.space.now (omega (arith, c.pebbles.ensures.is_board.pebbles)) w.members.now w.configuration w.first
-    w.others c.in-Some.place c.self.invariant low)
+    w.rests c.in-Some.place c.self.invariant low)

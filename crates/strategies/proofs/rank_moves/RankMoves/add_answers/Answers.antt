@@ -1,4 +1,6 @@
-use Rattle.std.proofs.Common.{◌≡◌, ◌<◌, ◌≤◌, ◌∙◌, length, ap, arith, rules}
+use Rattle.std.proofs.Common.{◌≡◌, ◌<◌, ◌≤◌, ◌∙◌, length, ap, sym, subst, arith, rules}
+use Rattle.positions.specs.Ranks.{configuration_at}
+use Rattle.strategies.specs.Best.{IsBestFor}
 use Rattle.strategies.specs.Inside.MovesAt.{HeldPosition}
 use Rattle.strategies.specs.Inside.ReachedRanks.{IsAnswerStep, AnswerLeads}
 use Rattle.strategies.proofs.AddedRanks.{Below, below_all}
@@ -20,19 +22,21 @@ loop-pebble-preserved c =
     let at = (goal.at.loop-pebble-preserved c).After-pebbles-pebble-end in
     let is_pebble : pebble < b.pebbles = omega (arith, pebbles at, c.loop-pebble-test.true) in
     let is = c.loop-pebble.invariant in
-    elim c.match-best_at.branch [
+    let found : IsBestFor b (configuration_at b rank) pebble c.best_at.result =
+    rw c.requires.here at c.best_at.ensures in
+    elim c.match-best.branch [
       | in-Some+then-lt w ↦
           let low : w.with.result < length c.loop-pebble.reached.reached =
           (let below = rw w.space.ensures.value at w.with.ensures.below in
           omega (arith, below, is.size, c.requires.size)) in
           rw w.reached-is (reached_more _ _ _ step pebble is
-          (answer_added b rank pebble _ w.in-Some.best w.with.result _ (rw c.requires.here at w.in-Some.ensures)
+          (answer_added b rank pebble _ w.in-Some.best w.with.result _ (subst (IsBestFor b (configuration_at b rank) pebble) (sym w.in-Some.ensures) found)
           (search rules) is_pebble (rw w.space.ensures.value at w.with.ensures.rank) low w.add.ensures.size
           w.add.ensures.reached))
       | in-Some+else-lt w ↦ rw w.reached-is (reached_more _ _ _ step pebble is
-          (worthless_not_added b rank pebble _ w.in-Some.best (rw c.requires.here at w.in-Some.ensures) (search rules)))
+          (worthless_not_added b rank pebble _ w.in-Some.best (subst (IsBestFor b (configuration_at b rank) pebble) (sym w.in-Some.ensures) found) (search rules)))
       | in_default w ↦ rw w.reached-is (reached_more _ _ _ step pebble is
-          (no_answer_added b rank pebble _ (rw c.requires.here at w.in_default.ensures)))
+          (no_answer_added b rank pebble _ (subst (IsBestFor b (configuration_at b rank) pebble) (sym w.in_default.ensures) found)))
     ]
 
 pub returns : goal.returns

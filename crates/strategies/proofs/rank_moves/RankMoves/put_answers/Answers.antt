@@ -7,5 +7,5 @@ loop-pebble-preserved c =
     let pebble : ℕ = c.loop-pebble.pebble in
     let pebbles = rw c.requires.same_board at c.pebbles-pebble-end.ensures in
     let is_pebble : pebble < c.args.self.now.pebbles = omega (arith, c.loop-pebble-test.true, pebbles.value) in
-    found_more c.args.self.now c.args.gaps.now.held pebble c.best_at.result c.loop-pebble.answers
+    found_more c.args.self.now c.args.walk.now.held pebble c.best_at.result c.loop-pebble.answers
     (omega (arith, is_pebble, pebbles.is_board.pebbles)) c.loop-pebble.invariant c.best_at.ensures

@@ -6,7 +6,7 @@ use Rattle.board_text.specs.PlaceForms.{spaced_places}
 use Rattle.board_text.specs.PlainBoard.{PlainBoard}
 use Rattle.proof_text.specs.ProofText.{request_line}
 use Rattle.proof_text.proofs.RowLemmas.{line_written}
-use Rattle.proof_text.proofs.row_text.RowText.push_request.Goals as goal
+use Rattle.proof_text.proofs.row_text.RowText.push_long_request.Goals as goal
 
 abbrev line_of : ℕ → List ℕ → ℕ → ℕ → List ℕ
 line_of labels at left asked =

@@ -6,9 +6,9 @@ use Rattle.board_text.specs.PlainBoard.{PlainBoard}
 use Rattle.positions.specs.declared.turns.Turns.{Turns}
 use Rattle.proof_text.specs.ProofText.{answer_line, turns_text}
 use Rattle.proof_text.proofs.RowLemmas.{line_written}
-use Rattle.proof_text.proofs.row_text.RowText.push_answer.Goals as goal
-use Rattle.proof_text.proofs.row_text.RowText.push_answer.Goals.{in-Count+in_ok-push_number-in-Count}
-use Rattle.proof_text.proofs.row_text.RowText.push_answer.Goals.{in-Always+in_ok-push_str-in-Always}
+use Rattle.proof_text.proofs.row_text.RowText.push_long_answer.Goals as goal
+use Rattle.proof_text.proofs.row_text.RowText.push_long_answer.Goals.{in-Count+in_ok-push_number-in-Count}
+use Rattle.proof_text.proofs.row_text.RowText.push_long_answer.Goals.{in-Always+in_ok-push_str-in-Always}
 
 abbrev line_of : ℕ → List ℕ → Turns → List ℕ → List ℕ
 line_of labels at turns taken =
