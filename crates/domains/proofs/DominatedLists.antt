@@ -1,38 +1,55 @@
 -- Boards from whose every start a labeller lasts for ever.
-use Rattle.std.proofs.Common.{◌≡◌, ℕ, zero, suc, ◌<◌, List, ◌∷◌, length, get_or, sym}
+use Rattle.std.proofs.Common.{◌≡◌, ℕ, suc, ◌<◌, List, ◌∷◌, length, sym}
 use Rattle.std.proofs.Common.{◌∙◌, ap, arith}
-use Rattle.std.proofs.lemmas.List.{length-set}
-use Rattle.std.proofs.lemmas.List.Elements.{All-set, All-contains, All-get_or, All-from_get_or, All-cons}
+use Rattle.std.specs.Prelude.{All}
+use Rattle.std.specs.List.{remove}
+use Rattle.std.proofs.lemmas.List.Edits.{length-remove}
+use Rattle.std.proofs.lemmas.List.Elements.{All-contains_itself, All-get_or, All-from_get_or, All-cons}
+use Rattle.classes.proofs.Cited.{all-remove}
 use Rattle.board_text.specs.PlainBoard.{PlainBoard, Dominates}
-use Rattle.positions.specs.Game.{LabellerTree, moved}
-use Rattle.nested_cycles.specs.NestedGame.{other_words}
-use Rattle.nested_cycles.proofs.Cited.{fewer_others, in_others, others_are_labels}
+use Rattle.positions.specs.Game.{LabellerTree}
+use Rattle.domains.specs.Chains.{IsClosedFamily}
 use Rattle.domains.specs.Dominated.{AreDominated, IsHeld}
+use Rattle.domains.proofs.ClosedFamilies.{covered_last}
+
+-- all lists of this many labels
+abbrev IsList : PlainBoard → ℕ → List ℕ → Type 0
+IsList board count labels = (length labels ≡ count) × All (λ label. label < board.labels) labels
+
+lists_closed : (board : PlainBoard) (count : ℕ) → AreDominated board count
+    → IsClosedFamily board count (IsList board count)
+lists_closed board count dominated = record {
+  long = λ labels is. is.0;
+  answered = λ labels is.
+      let answer = dominated labels is.0 is.1 in (
+        answer.0,
+        answer.1,
+        answer.2,
+        λ index below. (
+          omega (arith, length-remove labels index (omega (arith, below, is.0)), is.0),
+          All-cons (λ label. label < board.labels) answer.0 (remove labels index) answer.1
+              (all-remove (λ label. label < board.labels) labels index is.1),
+        ),
+      );
+}
 
 pub dominated_last : (board : PlainBoard) (count depth : ℕ) (configuration : List ℕ) → board.pebbles ≡ suc count
     → AreDominated board count
     → IsHeld board configuration → LabellerTree board depth configuration
-dominated_last board count zero configuration more dominated held = tt
-dominated_last board count (suc depth) configuration more dominated held =
-    λ pebble below.
-    let inside : pebble < length configuration = omega (arith, held.0, below) in
-    let fewer = fewer_others configuration pebble inside in
-    let others = other_words pebble configuration in
-    let found = dominated others (omega (arith, fewer, held.0, more))
-    (others_are_labels board.labels configuration pebble held.1) in (
-      found.0,
-      record {
-        is_label = found.1;
-        dominates = λ other other_below differs low. All-contains (λ n. Dominates board found.0 n) others
-            (get_or configuration other 0) found.2
-            (in_others configuration pebble other (omega (arith, held.0, other_below)) differs);
-      },
-      dominated_last board count depth (moved configuration pebble found.0) more dominated (
-        length-set configuration pebble found.0
-            ∙ held.0,
-        All-set (λ place. place < board.labels) configuration pebble found.0 found.1 held.1,
-      ),
-    )
+dominated_last board count depth configuration more dominated held =
+    covered_last board count (IsList board count) more (lists_closed board count dominated) configuration
+    (record {
+      long = held.0;
+      each = λ pebble below. (
+        remove configuration pebble,
+        (
+          omega (arith, length-remove configuration pebble (omega (arith, below, held.0)), held.0, more),
+          all-remove (λ place. place < board.labels) configuration pebble held.1,
+        ),
+        All-contains_itself (remove configuration pebble),
+      );
+    })
+    depth
 
 pub lasting_dominated : (board : PlainBoard) (count : ℕ) → board.pebbles ≡ suc count → 0 < board.labels
     → ((configuration : List ℕ) → IsHeld board configuration → LabellerTree board 1 configuration)

@@ -3,21 +3,23 @@ use Rattle.std.proofs.Common.{◌≡◌, ◌↔◌, ℕ, zero, suc, ◌+◌, ◌
 use Rattle.std.proofs.Common.{get_or, refl, sym, ◌∙◌, ap, subst, arith, inl, inr, div-lt_iff_lt-mul}
 use Rattle.std.specs.Prelude.{All}
 use Rattle.std.proofs.lemmas.List.{get_or-set_same, length-replicate}
-use Rattle.std.proofs.lemmas.List.Elements.{All-cons, All-head, All-nil, All-replicate, All-tail}
+use Rattle.std.proofs.lemmas.List.Elements.{All-cons, All-head, All-nil, All-tail}
 use Rattle.board_text.specs.PlainBoard.{PlainBoard, Dominates, IsAntisymmetric}
 use Rattle.positions.specs.Game.{moved}
 use Rattle.nested_cycles.specs.Words.{word_of}
 use Rattle.player.specs.NestedPlay.{IsNestedPlay}
 use Rattle.domains.specs.Carried.{with_pebbles, Carries, CarriesExactly}
+use Rattle.domains.specs.Chains.{AreChainsDominated}
 use Rattle.domains.specs.Circles.{IsCircle}
 use Rattle.domains.specs.Dominated.{AreDominated}
 use Rattle.domains.specs.Products.{IsProduct, IsProductOf}
 use Rattle.domains.proofs.Circles.{cycle_dominated, residues_dominated}
-use Rattle.domains.proofs.DominatedLists.{dominated_last}
+use Rattle.domains.proofs.DominatedChains.{chains_of_dominated, dominated_chains_last}
 use Rattle.domains.proofs.FewestLabels.{circle_board, cycle_one_way, residues_one_way}
 use Rattle.domains.proofs.LastingProducts.{factors_last}
 use Rattle.domains.proofs.NeededLabels.{labels_needed}
-use Rattle.domains.proofs.NestedProducts.{carries, nested_carries, nested_is_product}
+use Rattle.domains.proofs.NestedChains.{nested_carries}
+use Rattle.domains.proofs.NestedProducts.{exists, nested_is_product}
 use Rattle.domains.proofs.ProductExamples.{forty_nine}
 use Rattle.domains.proofs.ProductLimits.{one_lasts, outer_lasts_too}
 use Rattle.domains.proofs.SharedLabels.{lasting_start}
@@ -116,23 +118,25 @@ several_carry_exactly (factor ∷ factors) board product all =
 -- ---- domains with few labels
 
 -- if each list of this many labels is dominated, and the labels are too few for two pebbles more, one more is carried
+pub chains_exactly : (board : PlainBoard) (count : ℕ) → 0 < board.labels → IsAntisymmetric board
+    → AreChainsDominated board count → suc board.labels < 2 ^ suc (suc count) → CarriesExactly board (suc count)
+chains_exactly board count some one_way dominated few = record {
+  carries = (
+    replicate (suc count) 0,
+    length-replicate {A = ℕ} (suc count) 0,
+    dominated_chains_last (with_pebbles board (suc count)) count refl (λ chain short chained. dominated chain short
+        (record { are_labels = chained.are_labels; beat = chained.beat })) 0,
+  );
+  no_more = λ carried.
+      let needed : 2 ^ suc (suc count) ≤ suc board.labels
+      = labels_needed (with_pebbles board (suc (suc count))) carried.0 one_way carried.1 carried.2 in
+      omega (arith, needed, few);
+}
+
 pub dominated_exactly : (board : PlainBoard) (count : ℕ) → 0 < board.labels → IsAntisymmetric board
     → AreDominated board count → suc board.labels < 2 ^ suc (suc count) → CarriesExactly board (suc count)
 dominated_exactly board count some one_way dominated few =
-    let start : List ℕ = replicate (suc count) 0 in
-    let long : length start ≡ suc count = length-replicate {A = ℕ} (suc count) 0 in
-    record {
-      carries = (
-        start,
-        long,
-        λ depth. dominated_last (with_pebbles board (suc count)) count depth start refl dominated
-            (long, All-replicate (λ place. place < board.labels) (suc count) 0 some),
-      );
-      no_more = λ carried.
-          let needed : 2 ^ suc (suc count) ≤ suc board.labels
-          = labels_needed (with_pebbles board (suc (suc count))) carried.0 one_way carried.1 carried.2 in
-          omega (arith, needed, few);
-    }
+    chains_exactly board count some one_way (chains_of_dominated board count some dominated) few
 
 -- ---- the residues modulo seven and themselves
 
@@ -212,7 +216,7 @@ nested_no_more : (count : ℕ) (board : PlainBoard) → IsNestedPlay (suc count)
 nested_no_more zero board nested = lone_no_more board nested.labels (lone_beats_none board nested)
 nested_no_more (suc count) board nested =
     let cycle = circle_board 3 2 (1 ∷ []) cycle_one_way in
-    let inner = carries count in
+    let inner = exists count in
     product_no_more cycle.0 inner.board board 2 (suc count) (suc (suc count)) cycle.3.one_way
     (nested_is_product count cycle.0 inner.board board cycle.1 inner.nested nested) (omega arith)
     (dominated_exactly cycle.0 1 (omega (arith, cycle.1.labels_are)) cycle.3.one_way (cycle_dominated cycle.0 cycle.1)

@@ -135,7 +135,7 @@ swaps_last board configuration (move ∷ moves) long inside =
           (omega (arith, before.0, inside.1)) depth (before.1 depth tree),
     )
 
-permuted_lasts : (board : PlainBoard) (configuration other : List ℕ) → length configuration ≡ board.pebbles
+pub permuted_lasts : (board : PlainBoard) (configuration other : List ℕ) → length configuration ≡ board.pebbles
     → IsPermutation configuration other → LastsAsLong board configuration board other
 permuted_lasts board configuration other long permutation =
     subst (LastsAsLong board configuration board) (sym permutation.is)

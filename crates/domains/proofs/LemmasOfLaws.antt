@@ -10,6 +10,7 @@ use Rattle.domains.proofs.LastingTables.{table_from_forever, forever_from_table,
 use Rattle.domains.proofs.LowestLabels.{lowest}
 use Rattle.domains.proofs.NeededLabels.{labels_needed, fewer_end}
 use Rattle.domains.proofs.ProductValues.{product_worth}
+use Rattle.domains.proofs.ResiduesModuloFortySeven.{forty_seven_dominated}
 use Rattle.domains.proofs.ResiduesModuloNineteen.{nineteen_dominated}
 use Rattle.domains.proofs.ShownDocuments.{documents_for, claims_of_documents}
 use Rattle.domains.proofs.SmallDomains.{two_carried, three_carried, four_carried, five_carried}
@@ -31,6 +32,7 @@ pub ruleset products_last_as_their_factors_lemmas = (factors_last, product_worth
 pub ruleset few_labels_carry_many_lemmas = (
   residues_dominated,
   nineteen_dominated,
+  forty_seven_dominated,
   two_carried,
   three_carried,
   four_carried,

@@ -1,16 +1,11 @@
 -- The nested board of a level is the product of the three-cycle and that of one level less.
 use Rattle.std.proofs.Common.{◌≡◌, ◌↔◌, ℕ, zero, suc, ◌+◌, ◌-◌, ◌*◌, ◌/◌, ◌%◌, ◌^◌, ◌<◌, ◌≤◌, ◌⊎◌, List, [], ◌∷◌}
-use Rattle.std.proofs.Common.{take, get_or, replicate, refl, sym, ◌∙◌, ap, subst, arith, inl, inr, div-lt_iff_lt-mul}
+use Rattle.std.proofs.Common.{take, get_or, refl, sym, ◌∙◌, ap, subst, arith, inl, inr, div-lt_iff_lt-mul}
 use Rattle.std.proofs.Common.{mod-lt}
 use Rattle.std.proofs.Math.Nat.{one-le-pow, pow-succ'}
 use Rattle.std.specs.Prelude.{Contains}
 use Rattle.std.proofs.lemmas.Bool.{cases_eq}
-use Rattle.std.proofs.lemmas.List.{get_or-replicate, length-replicate}
-use Rattle.std.proofs.lemmas.List.Elements.{All-replicate}
 use Rattle.board_text.specs.PlainBoard.{PlainBoard, plain_board, AreLabels, Dominates}
-use Rattle.positions.specs.Game.{LabellerTree}
-use Rattle.positions.specs.Value.{HasValue}
-use Rattle.positions.specs.declared.value.Value.TheVariants.{Forever}
 use Rattle.nested_cycles.specs.Words.{word_of}
 use Rattle.nested_cycles.specs.Domination.{WordDominates}
 use Rattle.nested_cycles.proofs.Cited.{contains_cases, contains_here, contains_none, from_one_copy, in_one_copy}
@@ -18,12 +13,8 @@ use Rattle.nested_cycles.proofs.Cited.{of_two_copies}
 use Rattle.player.specs.NestedPlay.{IsNestedPlay}
 use Rattle.domains.specs.Circles.{IsCircle}
 use Rattle.domains.specs.Products.{IsProduct}
-use Rattle.domains.proofs.Circles.{circle_exists, cycle_dominated}
-use Rattle.domains.proofs.DominatedLists.{dominated_last}
-use Rattle.domains.proofs.Following.{led_lasts}
-use Rattle.domains.proofs.LastingProducts.{factors_last}
+use Rattle.domains.proofs.Circles.{circle_exists}
 use Rattle.domains.proofs.ProductData.{Wins, product_board}
-use Rattle.domains.proofs.SeveralProducts.{lone_lasts}
 
 -- if the first digits differ, they decide
 first_decides : (digit other_digit : ℕ) (word other : List ℕ) → (digit ≡ other_digit → ⊥)
@@ -69,7 +60,7 @@ splits count x y = (
 )
 
 -- each label of the three-cycle dominates just the one before it
-one_step : (board : PlainBoard) → IsCircle 3 (1 ∷ []) board → (x y : ℕ) → x < 3 → y < 3
+pub one_step : (board : PlainBoard) → IsCircle 3 (1 ∷ []) board → (x y : ℕ) → x < 3 → y < 3
     → Dominates board x y ↔ (x ≡ (y + 1) % 3)
 one_step board circle x y x_low y_low = (
   λ beats. elim (contains_cases 1 [] ((x + 3 - y) % 3) ((circle.beats x y x_low y_low).0 beats)) [
@@ -133,7 +124,7 @@ nested_is_product count cycle inner board circle of_inner of_board =
           (λ beats. wins.1 (nested.0 beats), λ says. nested.1 (wins.0 says));
     }
 
--- ---- so each level carries as many pebbles
+-- ---- there is a board of each level
 
 product_is_nested : (count : ℕ) (cycle inner board : PlainBoard) → IsCircle 3 (1 ∷ []) cycle
     → IsNestedPlay (suc count) inner → IsProduct cycle inner board → board.pebbles ≡ suc (suc count)
@@ -165,72 +156,25 @@ lone_is_nested board labels pebbles none = record {
   );
 }
 
-pub record Carries (count : ℕ) : Type 0 where
+pub record Exists (count : ℕ) : Type 0 where
   pub board : PlainBoard
   pub nested : IsNestedPlay (suc count) board
   pub pebbles : board.pebbles ≡ suc count
-  pub lasts : (depth : ℕ) → LabellerTree board depth (replicate board.pebbles 0)
 
-pub carries : (count : ℕ) → Carries count
-carries zero =
+pub exists : (count : ℕ) → Exists count
+exists zero =
     let one = plain_board 1 1 [] [] in
-    record {
-      board = one;
-      nested = lone_is_nested one refl refl refl;
-      pebbles = refl;
-      lasts = λ depth. lone_lasts one depth (replicate one.pebbles 0) refl refl;
-    }
-carries (suc count) =
-    let before = carries count in
+    record { board = one; nested = lone_is_nested one refl refl refl; pebbles = refl }
+exists (suc count) =
+    let before = exists count in
     let cycle = circle_exists 3 2 (1 ∷ []) [] in
     let inner_digits : suc count - 1 ≡ count = omega arith in
     let size : before.board.labels ≡ 3 ^ count = before.nested.labels ∙ ap (λ (n : ℕ). 3 ^ n) inner_digits in
     let power : 1 ≤ 3 ^ count = one-le-pow count 3 (omega arith) in
     let some : 0 < before.board.labels = omega (arith, size, power) in
     let found = product_board cycle.0 before.board (suc (suc count)) [] some in
-    let board = found.0 in
-    let zero_is : 0 * before.board.labels + 0 ≡ 0 = omega arith in
     record {
-      board = board;
-      nested = product_is_nested count cycle.0 before.board board cycle.1 before.nested found.1 found.2;
+      board = found.0;
+      nested = product_is_nested count cycle.0 before.board found.0 cycle.1 before.nested found.1 found.2;
       pebbles = found.2;
-      lasts = λ depth.
-          subst (λ (n : ℕ). LabellerTree board depth (replicate board.pebbles n)) zero_is
-          (factors_last cycle.0 before.board board depth 0 0 found.1 (omega (arith, found.2, cycle.2, before.pebbles))
-          (omega (arith, cycle.1.labels_are)) some
-          (dominated_last cycle.0 1 depth (replicate cycle.0.pebbles 0) cycle.2 (cycle_dominated cycle.0 cycle.1) (
-            length-replicate {A = ℕ} cycle.0.pebbles 0,
-            All-replicate (λ place. place < cycle.0.labels) cycle.0.pebbles 0 (omega (arith, cycle.1.labels_are)),
-          ))
-          (before.lasts depth));
     }
-
-pub nested_carries : (count : ℕ) (board : PlainBoard) → IsNestedPlay (suc count) board → board.pebbles ≡ suc count
-    → HasValue board (replicate board.pebbles 0) Forever
-nested_carries count board nested pebbles depth =
-    let there = carries count in
-    let labels : board.labels ≡ there.board.labels = nested.labels ∙ sym there.nested.labels in
-    let first : List ℕ = replicate there.board.pebbles 0 in
-    let some : 0 < there.board.labels = subst (λ (n : ℕ). 0 < n) (sym there.nested.labels)
-    (one-le-pow (suc count - 1) 3 (omega arith)) in
-    led_lasts board there.board (λ label. label) (λ pebble. pebble)
-    (record {
-      labels = λ label low. omega (arith, labels, low);
-      beats = λ x y x_low y_low beats.
-          (nested.beats x y (omega (arith, labels, x_low), omega (arith, labels, y_low))).1
-          ((there.nested.beats x y (x_low, y_low)).0 beats);
-      leaders = λ pebble below. omega (arith, below, pebbles, there.pebbles);
-      apart = λ pebble other below other_below one. one;
-    })
-    depth first (replicate board.pebbles 0)
-    (record {
-      long = length-replicate {A = ℕ} there.board.pebbles 0;
-      led_long = length-replicate {A = ℕ} board.pebbles 0;
-      each = λ pebble below.
-          let held = get_or-replicate there.board.pebbles pebble 0 0 (omega (arith, below, pebbles, there.pebbles)) in
-          inl (
-            subst (λ n. n < there.board.labels) (sym held) some,
-            get_or-replicate board.pebbles pebble 0 0 below ∙ sym held,
-          );
-    })
-    (there.lasts depth)

@@ -26,7 +26,7 @@ kept_more true y x rest has = contains_later y rest x has
 kept_more false y x rest has = has
 
 -- an element that passes the test is in the filtered list
-kept : (test : ℕ → Bool) (xs : List ℕ) (x : ℕ) → Contains xs x → test x ≡ true → Contains (filter test xs) x
+pub kept : (test : ℕ → Bool) (xs : List ℕ) (x : ℕ) → Contains xs x → test x ≡ true → Contains (filter test xs) x
 kept test [] x has passes = absurd (contains_none x has)
 kept test (y ∷ xs) x has passes =
     elim (contains_cases y xs x has) [

@@ -12,7 +12,7 @@ use Rattle.domains.proofs.FewestLabels.{Ahead}
 
 -- ---- searches that compute
 
-abbrev is_among : List ℕ → ℕ → Bool
+abbrev pub is_among : List ℕ → ℕ → Bool
 is_among [] n = false
 is_among (step ∷ steps) n = cond (eqb step n) true (is_among steps n)
 
@@ -20,7 +20,7 @@ abbrev some_below : (ℕ → Bool) → ℕ → Bool
 some_below test zero = false
 some_below test (suc n) = cond (test n) true (some_below test n)
 
-abbrev all_below : (ℕ → Bool) → ℕ → Bool
+abbrev pub all_below : (ℕ → Bool) → ℕ → Bool
 all_below test zero = true
 all_below test (suc n) = cond (test n) (all_below test n) false
 
@@ -39,7 +39,7 @@ all_served = refl
 
 -- ---- what a search that says true has found
 
-first_is : (one two : Bool) → cond one two false ≡ true → (one ≡ true) × (two ≡ true)
+pub first_is : (one two : Bool) → cond one two false ≡ true → (one ≡ true) × (two ≡ true)
 first_is true two says = (refl, says)
 first_is false two says = absurd (both_ways false refl says)
 
@@ -50,7 +50,7 @@ all_three_are one two three says =
     let inner = first_is two three outer.1 in
     (outer.0, inner.0, inner.1)
 
-among : (steps : List ℕ) (n : ℕ) → is_among steps n ≡ true → Contains steps n
+pub among : (steps : List ℕ) (n : ℕ) → is_among steps n ≡ true → Contains steps n
 among [] n says = absurd (both_ways false refl says)
 among (step ∷ steps) n says = by (eqb step n) refl (among steps n) says
   where
@@ -72,7 +72,7 @@ found_below test (suc count) says = by (test count) refl (found_below test count
         let before = below found in
         (before.0, omega (arith, before.1), before.2)
 
-each_below : (test : ℕ → Bool) (count n : ℕ) → all_below test count ≡ true → n < count → test n ≡ true
+pub each_below : (test : ℕ → Bool) (count n : ℕ) → all_below test count ≡ true → n < count → test n ≡ true
 each_below test zero n says low = absurd (omega (arith, low))
 each_below test (suc count) n says low =
     let both = first_is (test count) (all_below test count) says in
@@ -81,7 +81,7 @@ each_below test (suc count) n says low =
       | inr differs ↦ each_below test count n both.1 (omega (arith, low, differs))
     ]
 
-is_found : (steps : List ℕ) (n : ℕ) → Contains steps n → is_among steps n ≡ true
+pub is_found : (steps : List ℕ) (n : ℕ) → Contains steps n → is_among steps n ≡ true
 is_found [] n has = absurd (contains_none n has)
 is_found (step ∷ steps) n has = by (eqb step n) refl (is_found steps n)
   where
@@ -111,7 +111,7 @@ some_distance (suc n) says = omega arith
 round : (x y : ℕ) → 0 < (x + 19 - y) % 19 → 0 < (y + 19 - x) % 19 → (y + 19 - x) % 19 ≡ 19 - (x + 19 - y) % 19
 round x y there back = omega (arith, there, back)
 
-not_both : (here back : Bool) → here ≡ true → back ≡ true → cond here (cond back false true) true ≡ true → ⊥
+pub not_both : (here back : Bool) → here ≡ true → back ≡ true → cond here (cond back false true) true ≡ true → ⊥
 not_both true true here_is back_is says = both_ways false refl says
 not_both true false here_is back_is says = both_ways false refl back_is
 not_both false back here_is back_is says = both_ways false refl here_is

@@ -4,27 +4,29 @@ use Rattle.std.proofs.lemmas.List.Elements.{All-cons, All-head, All-nil, All-tai
 use Rattle.std.specs.Prelude.{All}
 use Rattle.board_text.specs.PlainBoard.{PlainBoard, IsAntisymmetric}
 use Rattle.domains.specs.Carried.{CarriesExactly, SomeCarries}
+use Rattle.domains.specs.Chains.{AreChainsDominated}
 use Rattle.domains.specs.Circles.{AreResidues, IsCircle}
-use Rattle.domains.specs.Dominated.{AreDominated}
 use Rattle.domains.specs.Products.{IsProductOf}
 use Rattle.domains.proofs.Circles.{cycle_dominated, residues_dominated}
-use Rattle.domains.proofs.ExactCounts.{dominated_exactly, product_carries_exactly, several_carry_exactly}
+use Rattle.domains.proofs.DominatedChains.{chains_of_dominated}
+use Rattle.domains.proofs.ExactCounts.{chains_exactly, product_carries_exactly, several_carry_exactly}
 use Rattle.domains.proofs.FewestLabels.{Ahead, circle_board, cycle_one_way, residues_one_way}
 use Rattle.domains.proofs.ProductData.{product_exists}
+use Rattle.domains.proofs.ResiduesModuloFortySeven.{forty_seven_dominated, forty_seven_one_way}
 use Rattle.domains.proofs.ResiduesModuloNineteen.{nineteen_dominated, nineteen_one_way}
 
--- a circle whose short lists of labels are dominated
+-- a circle whose short chains of labels are dominated
 circle_exactly : (labels count : ℕ) (steps : List ℕ) → 0 < labels → suc labels < 2 ^ suc (suc count)
-    → ((board : PlainBoard) → IsCircle labels steps board → AreDominated board count)
+    → ((board : PlainBoard) → IsCircle labels steps board → AreChainsDominated board count)
     → (board : PlainBoard) → IsAntisymmetric board → IsCircle labels steps board → CarriesExactly board (suc count)
 circle_exactly labels count steps some few dominated board one_way circle =
     let same = circle.labels_are in
-    dominated_exactly board count (subst (λ n. 0 < n) (sym same) some) one_way (dominated board circle)
+    chains_exactly board count (subst (λ n. 0 < n) (sym same) some) one_way (dominated board circle)
     (subst (λ n. suc n < 2 ^ suc (suc count)) (sym same) few)
 
 circle_carries : (labels count : ℕ) (steps : List ℕ) → 0 < labels → suc labels < 2 ^ suc (suc count)
     → ((x y : ℕ) → Ahead labels steps x y → Ahead labels steps y x → ⊥)
-    → ((board : PlainBoard) → IsCircle labels steps board → AreDominated board count)
+    → ((board : PlainBoard) → IsCircle labels steps board → AreChainsDominated board count)
     → SomeCarries labels (suc count)
 circle_carries labels count steps some few one_way dominated =
     let found = circle_board labels 0 steps one_way in
@@ -47,47 +49,69 @@ product_carries labels more count others some some_more outer inner =
           found.1 (subst (λ n. 0 < n) (sym outer.1) some) (omega arith) outer.3 inner.3,
     )
 
+cycle_chains : (board : PlainBoard) → IsCircle 3 (1 ∷ []) board → AreChainsDominated board 1
+cycle_chains board circle =
+    chains_of_dominated board 1 (omega (arith, circle.labels_are)) (cycle_dominated board circle)
+
+residues_chains : (board : PlainBoard) → IsCircle 7 (1 ∷ 2 ∷ 4 ∷ []) board → AreChainsDominated board 2
+residues_chains board circle =
+    chains_of_dominated board 2 (omega (arith, circle.labels_are)) (residues_dominated board circle)
+
+nineteen_chains : (board : PlainBoard) → IsCircle 19 (1 ∷ 4 ∷ 5 ∷ 6 ∷ 7 ∷ 9 ∷ 11 ∷ 16 ∷ 17 ∷ []) board
+    → AreChainsDominated board 3
+nineteen_chains board circle =
+    chains_of_dominated board 3 (omega (arith, circle.labels_are)) (nineteen_dominated board circle)
+
 pub two_carried : SomeCarries 3 2
-two_carried = circle_carries 3 1 (1 ∷ []) (omega arith) (omega arith) cycle_one_way cycle_dominated
+two_carried = circle_carries 3 1 (1 ∷ []) (omega arith) (omega arith) cycle_one_way cycle_chains
 
 pub three_carried : SomeCarries 7 3
-three_carried = circle_carries 7 2 (1 ∷ 2 ∷ 4 ∷ []) (omega arith) (omega arith) residues_one_way residues_dominated
+three_carried = circle_carries 7 2 (1 ∷ 2 ∷ 4 ∷ []) (omega arith) (omega arith) residues_one_way residues_chains
 
 pub four_carried : SomeCarries 19 4
 four_carried =
     circle_carries 19 3 (1 ∷ 4 ∷ 5 ∷ 6 ∷ 7 ∷ 9 ∷ 11 ∷ 16 ∷ 17 ∷ []) (omega arith) (omega arith) nineteen_one_way
-    nineteen_dominated
+    nineteen_chains
 
-pub five_carried : SomeCarries 49 5
-five_carried = product_carries 7 7 2 2 (omega arith) (omega arith) three_carried three_carried
+pub five_carried : SomeCarries 47 5
+five_carried =
+    circle_carries 47 4
+    (1 ∷ 2 ∷ 3 ∷ 4 ∷ 6 ∷ 7 ∷ 8 ∷ 9 ∷ 12 ∷ 14 ∷ 16 ∷ 17 ∷ 18 ∷ 21 ∷ 24 ∷ 25 ∷ 27 ∷ 28 ∷ 32 ∷ 34 ∷ 36 ∷ 37 ∷ 42 ∷ [])
+    (omega arith) (omega arith) forty_seven_one_way forty_seven_dominated
 
 pub six_carried : SomeCarries 133 6
 six_carried = product_carries 7 19 2 3 (omega arith) (omega arith) three_carried four_carried
 
-pub seven_carried : SomeCarries 343 7
-seven_carried = product_carries 7 49 2 4 (omega arith) (omega arith) three_carried five_carried
+pub seven_carried : SomeCarries 329 7
+seven_carried = product_carries 7 47 2 4 (omega arith) (omega arith) three_carried five_carried
 
-pub eight_carried : SomeCarries 931 8
-eight_carried = product_carries 7 133 2 5 (omega arith) (omega arith) three_carried six_carried
+pub eight_carried : SomeCarries 893 8
+eight_carried = product_carries 19 47 3 4 (omega arith) (omega arith) four_carried five_carried
 
 -- ---- which domains they are
 
 pub cycle_exactly : (board : PlainBoard) → IsAntisymmetric board → IsCircle 3 (1 ∷ []) board → CarriesExactly board 2
-cycle_exactly = circle_exactly 3 1 (1 ∷ []) (omega arith) (omega arith) cycle_dominated
+cycle_exactly = circle_exactly 3 1 (1 ∷ []) (omega arith) (omega arith) cycle_chains
 
 pub residues_exactly : (board : PlainBoard) → IsAntisymmetric board → AreResidues board
     → CarriesExactly board board.pebbles
 residues_exactly board one_way (inl (circle, three)) =
     subst (CarriesExactly board) (sym three)
-    (circle_exactly 7 2 (1 ∷ 2 ∷ 4 ∷ []) (omega arith) (omega arith) residues_dominated board one_way circle)
-residues_exactly board one_way (inr (circle, four)) =
+    (circle_exactly 7 2 (1 ∷ 2 ∷ 4 ∷ []) (omega arith) (omega arith) residues_chains board one_way circle)
+residues_exactly board one_way (inr (inl (circle, four))) =
     subst (CarriesExactly board) (sym four)
-    (circle_exactly 19 3 (1 ∷ 4 ∷ 5 ∷ 6 ∷ 7 ∷ 9 ∷ 11 ∷ 16 ∷ 17 ∷ []) (omega arith) (omega arith) nineteen_dominated
+    (circle_exactly 19 3 (1 ∷ 4 ∷ 5 ∷ 6 ∷ 7 ∷ 9 ∷ 11 ∷ 16 ∷ 17 ∷ []) (omega arith) (omega arith) nineteen_chains
     board one_way circle)
+residues_exactly board one_way (inr (inr (circle, five))) =
+    subst (CarriesExactly board) (sym five)
+    (circle_exactly 47 4
+    (1 ∷ 2 ∷ 3 ∷ 4 ∷ 6 ∷ 7 ∷ 8 ∷ 9 ∷ 12 ∷ 14 ∷ 16 ∷ 17 ∷ 18 ∷ 21 ∷ 24 ∷ 25 ∷ 27 ∷ 28 ∷ 32 ∷ 34 ∷ 36 ∷ 37 ∷ 42 ∷ [])
+    (omega arith) (omega arith) forty_seven_dominated board one_way circle)
 
 some_residues : (board : PlainBoard) → AreResidues board → 0 < board.labels
 some_residues board (inl (circle, three)) = omega (arith, circle.labels_are)
-some_residues board (inr (circle, four)) = omega (arith, circle.labels_are)
+some_residues board (inr (inl (circle, four))) = omega (arith, circle.labels_are)
+some_residues board (inr (inr (circle, five))) = omega (arith, circle.labels_are)
 
 abbrev IsFactor : PlainBoard → Type 0
 IsFactor factor = IsAntisymmetric factor × AreResidues factor

@@ -8,8 +8,12 @@ pub record IsCircle (labels : ℕ) (steps : List ℕ) (board : PlainBoard) : Typ
   pub beats : (x y : ℕ) → x < labels → y < labels
       → Dominates board x y ↔ Contains steps ((x + labels - y) % labels)
 
--- the residues modulo seven with three processes, or those modulo nineteen with four
+-- the residues modulo seven with three processes, those modulo nineteen with four, or those modulo
+-- 47 with five
 abbrev pub AreResidues : PlainBoard → Type 0
 AreResidues board =
     (IsCircle 7 (1 ∷ 2 ∷ 4 ∷ []) board × (board.pebbles ≡ 3))
-    ⊎ (IsCircle 19 (1 ∷ 4 ∷ 5 ∷ 6 ∷ 7 ∷ 9 ∷ 11 ∷ 16 ∷ 17 ∷ []) board × (board.pebbles ≡ 4))
+    ⊎ ((IsCircle 19 (1 ∷ 4 ∷ 5 ∷ 6 ∷ 7 ∷ 9 ∷ 11 ∷ 16 ∷ 17 ∷ []) board × (board.pebbles ≡ 4))
+    ⊎ (IsCircle 47
+    (1 ∷ 2 ∷ 3 ∷ 4 ∷ 6 ∷ 7 ∷ 8 ∷ 9 ∷ 12 ∷ 14 ∷ 16 ∷ 17 ∷ 18 ∷ 21 ∷ 24 ∷ 25 ∷ 27 ∷ 28 ∷ 32 ∷ 34 ∷ 36
+    ∷ 37 ∷ 42 ∷ []) board × (board.pebbles ≡ 5)))

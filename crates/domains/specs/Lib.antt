@@ -1,5 +1,6 @@
 pub mod Agreement
 pub mod Carried
+pub mod Chains
 pub mod Circles
 pub mod Cycles
 pub mod Dominated
@@ -9,6 +10,7 @@ pub mod Kept
 pub mod Lowest
 pub mod Minimax
 pub mod Orders
+pub mod Plays
 pub mod Products
 pub mod Used
 pub mod ValueOrder

@@ -1,5 +1,5 @@
 -- Labels from which a domain lasts for ever, and boards that keep them.
-use Rattle.std.specs.Prelude.{◌≡◌, ℕ, ◌<◌, replicate}
+use Rattle.std.specs.Prelude.{◌≡◌, ℕ, suc, ◌<◌, replicate}
 use Rattle.board_text.specs.PlainBoard.{PlainBoard, Dominates}
 use Rattle.positions.specs.Value.{HasValue}
 use Rattle.positions.specs.declared.value.Value.TheVariants.{Forever}
@@ -15,3 +15,13 @@ pub record KeepsUsed (board part : PlainBoard) (image : ℕ → ℕ) : Type 0 wh
   pub labels : (label : ℕ) → IsUsed board label → image label < part.labels
   pub beats : (x y : ℕ) → IsUsed board x → IsUsed board y → Dominates board x y
       → Dominates part (image x) (image y)
+
+-- the part has one pebble fewer, and images of the labels that beat this one, of which those beat
+-- one another whose labels do
+pub record KeepsAbove (board part : PlainBoard) (label : ℕ) (image : ℕ → ℕ) : Type 0 where
+  pub pebbles : suc part.pebbles ≡ board.pebbles
+  pub labels : (other : ℕ) → other < board.labels → Dominates board other label
+      → image other < part.labels
+  pub beats : (first second : ℕ) → first < board.labels → second < board.labels
+      → Dominates board first label → Dominates board second label → Dominates board first second
+      → Dominates part (image first) (image second)

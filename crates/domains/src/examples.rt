@@ -99,6 +99,24 @@ const THREE_ON_CYCLE_AND_PAIR: &str = "board 1\nlabels 6\npebbles 3\nstart 0 0 0
     beats 0 4\nbeats 0 5\nbeats 1 0\nbeats 1 4\nbeats 1 5\nbeats 2 0\nbeats 2 1\nbeats 3 0\n\
     beats 3 1\nbeats 3 2\nbeats 4 2\nbeats 4 3\nbeats 5 2\nbeats 5 3\nbeats 5 4\nend\n";
 
+/// The residues modulo seven twice, apart from each other, with three pebbles on one label.
+const SEVEN_TWICE: &str = "board 1\nlabels 14\npebbles 3\nstart 0 0 0\n\
+    beats 0 3\nbeats 0 5\nbeats 0 6\nbeats 1 0\nbeats 1 4\nbeats 1 6\nbeats 2 0\nbeats 2 1\n\
+    beats 2 5\nbeats 3 1\nbeats 3 2\nbeats 3 6\nbeats 4 0\nbeats 4 2\nbeats 4 3\nbeats 5 1\n\
+    beats 5 3\nbeats 5 4\nbeats 6 2\nbeats 6 4\nbeats 6 5\nbeats 7 10\nbeats 7 12\nbeats 7 13\n\
+    beats 8 7\nbeats 8 11\nbeats 8 13\nbeats 9 7\nbeats 9 8\nbeats 9 12\nbeats 10 8\nbeats 10 9\n\
+    beats 10 13\nbeats 11 7\nbeats 11 9\nbeats 11 10\nbeats 12 8\nbeats 12 10\nbeats 12 11\n\
+    beats 13 9\nbeats 13 11\nbeats 13 12\nend\n";
+
+/// The same domain, where two pebbles hold labels that no label dominates both.
+const APART_ON_SEVEN_TWICE: &str = "board 1\nlabels 14\npebbles 3\nstart 0 7 0\n\
+    beats 0 3\nbeats 0 5\nbeats 0 6\nbeats 1 0\nbeats 1 4\nbeats 1 6\nbeats 2 0\nbeats 2 1\n\
+    beats 2 5\nbeats 3 1\nbeats 3 2\nbeats 3 6\nbeats 4 0\nbeats 4 2\nbeats 4 3\nbeats 5 1\n\
+    beats 5 3\nbeats 5 4\nbeats 6 2\nbeats 6 4\nbeats 6 5\nbeats 7 10\nbeats 7 12\nbeats 7 13\n\
+    beats 8 7\nbeats 8 11\nbeats 8 13\nbeats 9 7\nbeats 9 8\nbeats 9 12\nbeats 10 8\nbeats 10 9\n\
+    beats 10 13\nbeats 11 7\nbeats 11 9\nbeats 11 10\nbeats 12 8\nbeats 12 10\nbeats 12 11\n\
+    beats 13 9\nbeats 13 11\nbeats 13 12\nend\n";
+
 /// Asserts that the start of the board with this text has the value.
 fn assert_value(rt: &impl Abort, alloc: Global, text: &str, value: Value) {
     let board = parse(alloc, text.as_bytes()).or_else(|_| parse(alloc, text.as_bytes()));
@@ -176,4 +194,10 @@ fn products(rt: HostRuntime) {
     ] {
         assert_value(&rt, rt.alloc(), text, value);
     }
+}
+
+#[test]
+fn dominated_chains(rt: HostRuntime) {
+    assert_value(&rt, rt.alloc(), SEVEN_TWICE, Value::Forever);
+    assert_value(&rt, rt.alloc(), APART_ON_SEVEN_TWICE, Value::Finite(0));
 }

@@ -1,5 +1,6 @@
 use Rattle.domains.proofs.ExactCounts.{nested_carries_exactly}
-use Rattle.domains.proofs.NestedProducts.{nested_carries, nested_is_product}
+use Rattle.domains.proofs.NestedChains.{nested_carries}
+use Rattle.domains.proofs.NestedProducts.{nested_is_product}
 use Rattle.domains.proofs.laws_of_products.nested_boards_are_products.Goals as goal
 
 pub returns : goal.returns
