@@ -64,3 +64,4 @@ pub mod RowsInParts
 pub mod ReachedLists
 pub mod SomeClassDocument
 pub mod Cited
+pub mod PositionDocuments

@@ -5,3 +5,4 @@ pub mod ClassDocument
 pub mod Example
 pub mod Inside
 pub mod Meaning
+pub mod PositionDocument

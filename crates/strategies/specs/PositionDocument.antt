@@ -1,0 +1,66 @@
+-- The document of a board, however its rows stand for configurations: one definition for the three
+-- versions.
+use Rattle.std.specs.Prelude.{◌≡◌, ℕ, ◌<◌, ◌↔◌, List, [], ◌∷◌, length, slice_index, AllPairs}
+use Rattle.std.specs.Prelude.{Contains}
+use Rattle.board_text.specs.PlainBoard.{PlainBoard}
+use Rattle.positions.specs.declared.value.Value.{Value}
+use Rattle.positions.specs.declared.value.Value.TheVariants.{Finite}
+use Rattle.positions.specs.Game.{moved}
+use Rattle.positions.specs.Value.{HasValue}
+use Rattle.positions.specs.Claim.{claim_of}
+use Rattle.positions.specs.Table.{AnswerRow, RequestRow}
+use Rattle.proof_text.specs.Proof.{PlainProof}
+use Rattle.strategies.specs.Best.{IsLess, IsBestAnswer, IsBestRequest}
+use Rattle.strategies.specs.Document.{IsAnswerMove, IsRequestMove, turns_of, AsksAdversary}
+use Rattle.symmetries.specs.Positions.{Positions}
+
+-- these moves of pebbles to labels, each of the kind, lead from one configuration to another, where
+-- the normal places are taken after each move
+abbrev pub LeadsOver : Positions → (List ℕ → ℕ → ℕ → Type 0) → List ℕ → List (ℕ × ℕ) → List ℕ
+    → Type 0
+LeadsOver positions IsMove from [] to = from ≡ to
+LeadsOver positions IsMove from ((pebble, label) ∷ moves) to =
+    IsMove from pebble label
+    × LeadsOver positions IsMove (positions.normal (moved from pebble label)) moves to
+
+-- a labeller's row: a normal configuration of value 1 or more that best answers lead to from that of
+-- the start, its turns, and the best answer to each request
+pub record IsLabellerRowOver (positions : Positions) (board : PlainBoard) (start : Value)
+    (row : AnswerRow) : Type 0 where
+  pub moves : List (ℕ × ℕ)
+  pub reached : LeadsOver positions (IsAnswerMove board) (positions.normal board.start) moves row.at
+  pub value : Value
+  pub has_value : HasValue board row.at value
+  pub some : IsLess (Finite 0) value
+  pub turns : row.turns ≡ turns_of start value
+  pub one_each : length row.answers ≡ board.pebbles
+  pub best : (pebble : ℕ) → pebble < board.pebbles
+      → IsBestAnswer board row.at pebble (slice_index row.answers pebble)
+
+-- an adversary's row: a normal configuration that answers to best requests lead to from that of the
+-- start, its value, and the best request
+pub record IsAdversaryRowOver (positions : Positions) (board : PlainBoard)
+    (row : RequestRow) : Type 0 where
+  pub moves : List (ℕ × ℕ)
+  pub reached : LeadsOver positions (IsRequestMove board) (positions.normal board.start) moves row.at
+  pub has_value : HasValue board row.at (Finite row.left)
+  pub asks : positions.asked row < length row.at
+  pub best : IsBestRequest board row.at (positions.asked row)
+
+-- exactly these rows, in ascending order of the numbers of their places
+pub record AreExactlyOver {X : Type 0} (number : List ℕ → ℕ) (IsRow : X → Type 0) (at : X → List ℕ)
+    (rows : List X) : Type 0 where
+  pub each : (row : X) → Contains rows row ↔ IsRow row
+  pub ascending : AllPairs (λ first second. number (at first) < number (at second)) rows
+
+-- the document of the board, whose rows ascend by these numbers
+pub record IsDocumentOver (positions : Positions) (number : List ℕ → ℕ) (board : PlainBoard)
+    (proof : PlainProof) : Type 0 where
+  pub value : Value
+  pub has_value : HasValue board board.start value
+  pub claim : proof.claim ≡ claim_of value
+  pub labeller : AreExactlyOver number (IsLabellerRowOver positions board value) (λ row. row.at)
+      proof.labeller
+  pub adversary : AreExactlyOver number
+      (λ row. AsksAdversary value × IsAdversaryRowOver positions board row) (λ row. row.at)
+      proof.adversary
