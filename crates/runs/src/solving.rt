@@ -59,8 +59,8 @@ pub fn run_solve_alone<R: Source, W: Sink>(
 /// The same as `run_solve_alone`, with several workers.
 ///
 /// The number of `workers` is 1 to `MAX_WORKERS`. They share the work that `solve_classes` shares,
-/// and each makes a part of the document's rows if there are thousands of them. The answer and the
-/// bytes written are the same for every number of them. It may wait for workers.
+/// and each makes the document's rows of a part of the ranks, if a part has 16,384 of them or more.
+/// The answer and the bytes written are the same for every number of them. It may wait for workers.
 pub fn run_solve<R: Source, W: Sink>(
     rt: &(impl Threads + Wait + Sync),
     alloc: Global,
