@@ -6,7 +6,6 @@ commands before it, and a block of commands without one writes nothing. What the
 A comment before a block says what else it is:
 
     <!-- not run: REASON -->     commands that the session passes over, with the output that follows them
-    <!-- file NAME -->           the text of a file, which the session finds under this name
     <!-- typed: LINES -->        commands that run in a terminal, in which these lines, parted by commas, are typed
     <!-- output of: COMMANDS --> the output of commands that the document doesn't show
 """
@@ -21,10 +20,10 @@ import termios
 from dataclasses import dataclass
 from functools import partial
 
-from harness import BUILD, PROGRAM, TOP, Check
+from harness import BOARDS, BUILD, PROGRAM, TOP, Check
 
 DOCUMENTS = ('README.md', 'docs/designers.md', 'boards/README.md')
-BLOCK = re.compile(r'(?:^<!-- (not run|file|typed|output of):? (.*?) -->\n+)?^```(\w*)\n(.*?)^```$', re.M | re.S)
+BLOCK = re.compile(r'(?:^<!-- (not run|typed|output of):? (.*?) -->\n+)?^```(\w*)\n(.*?)^```$', re.M | re.S)
 INDENTED = re.compile(r'^    \S', re.M)
 # the oldest Python that the scripts of documents run with, as docs/designers.md says
 OLDEST_PYTHON = 3, 8
@@ -51,7 +50,7 @@ def blocks_of(document):
             found.append(Block('sh', f'{says}\n', '', ''))
             mark = says = ''
         found.append(Block(kind, body, mark, says))
-    strange = [block for block in found if block.kind not in ('sh', 'text') and block.mark != 'file']
+    strange = [block for block in found if block.kind not in ('sh', 'text')]
     if strange:
         raise ValueError(f'a block that is neither commands nor output: {strange[0].text[:60]!r}')
     return found
@@ -108,14 +107,11 @@ def session(document, work):
     folder = folder_of_session(work)
     output = os.path.join(folder, '.output')
     shell = subprocess.Popen(['bash'], cwd=folder, stdin=subprocess.PIPE, stdout=subprocess.PIPE, stderr=subprocess.DEVNULL, text=True,
-                             env={**os.environ, 'PATH': f'{os.environ["PATH"]}:{os.path.dirname(PROGRAM)}'})
+                             env={**os.environ, 'PYTHONDONTWRITEBYTECODE': '1', 'PATH': f'{os.environ["PATH"]}:{os.path.dirname(PROGRAM)}'})
     blocks = blocks_of(document)
     for place, block in enumerate(blocks):
         after = blocks[place + 1] if place + 1 < len(blocks) else None
         wanted = after.text if after and after.kind == 'text' and not after.mark else ''
-        if block.mark == 'file':
-            with open(os.path.join(folder, block.says), 'w') as file:
-                file.write(block.text)
         if block.kind != 'sh' or block.mark == 'not run':
             continue
         if block.mark == 'typed':
@@ -138,11 +134,12 @@ def passed_over():
     return [f'{document}: {block.says}' for document in DOCUMENTS for block in blocks_of(document) if block.mark == 'not run']
 
 
-def keeps_to_python(document):
-    """None where the oldest Python has the grammar of each script of the document; of what a script calls it says nothing."""
-    for block in blocks_of(document):
-        if block.kind == 'python':
-            ast.parse(block.text, block.says, feature_version=OLDEST_PYTHON)
+def keeps_to_python():
+    """None where the oldest Python has the grammar of each script of boards/; of what a script calls it says nothing."""
+    for name in sorted(os.listdir(BOARDS)):
+        if name.endswith('.py'):
+            with open(os.path.join(BOARDS, name)) as file:
+                ast.parse(file.read(), name, feature_version=OLDEST_PYTHON)
 
 
 def shows_build():
@@ -155,5 +152,5 @@ def checks(work):
     """One for each document, and that README.md has the words by which the tests build the program."""
     for document in DOCUMENTS:
         yield Check(f'the blocks of {document}', partial(session, document, work))
-        yield Check(f'the scripts of {document}', partial(keeps_to_python, document))
+    yield Check('the scripts of boards/', partial(keeps_to_python))
     yield Check('the words that build the program', partial(shows_build))

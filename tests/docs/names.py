@@ -13,8 +13,6 @@ FENCED = re.compile(r'^```.*?^```$', re.M | re.S)
 # a name that is a function's, a type's or a definition's by its form: with `_`, `::` or `()`, or with a capital inside or in front
 NAME = re.compile(r'^(?=.*(?:_|::|[a-z][A-Z]|\(\)$)|[A-Z][a-z])[A-Za-z_][\w]*(?:(?:::|\.)[A-Za-z_]\w*)*(?:\(\))?$')
 PATH = re.compile(r'^[\w.-]*(?:/[\w.-]+)+/?$|^[\w-]+\.(?:md|rt|antt|edit|py|board|strategy|joined|txt)$')
-# a file that the session of a document makes
-MADE = re.compile(r'^<!-- file (\S+) -->$', re.M)
 # stands for any name in a path
 ANY = re.compile(r'NAME|FUNCTION')
 
@@ -71,7 +69,6 @@ def lacks(document):
         text = file.read()
     ticked = TICKED.findall(FENCED.sub('', text))
     paths = {word for word in ticked if PATH.match(word)} | set(LINK.findall(text))
-    paths -= set(MADE.findall(text))
     missing = sorted(path for path in paths if not path.startswith('http') and not is_path(document, path))
     names = {part for word in ticked if NAME.match(word) and not PATH.match(word) and not ANY.search(word)
              for part in re.split(r'::|\.', word.removesuffix('()'))}
