@@ -5,33 +5,49 @@ def names_of(options):
     return [name for it in options for name in it.names]
 
 
+def is_path(it):
+    """Whether an argument of a command is a path, by its help."""
+    return it.meaning.startswith('The path')
+
+
+def takes_paths(told):
+    return any(map(is_path, told.arguments))
+
+
 # ---- bash
 
 def bash(whole, commands):
-    """Options after a hyphen, the words that an option takes, and else paths."""
-    cases = [f"        {name}) words='{' '.join(names_of(told.options))}' ;;" for name, told in commands.items()]
-    valued = [f"        {it.names[0]}) COMPREPLY=($(compgen -W '{' '.join(it.values)}' -- \"$word\")); return ;;"
-              for told in commands.values() for it in told.options if it.values]
+    """Options after a hyphen, the words that an option takes, and paths where a command takes them."""
+    cases = [f"        {name}) options='{' '.join(names_of(told.options))}' paths={'1' if takes_paths(told) else ''} ;;" for name, told in commands.items()]
+    valued = {it.names[0]: ' '.join(it.values) for told in commands.values() for it in told.options if it.takes}
     names = ' '.join(it.words for it in whole.commands)
     return '\n'.join([
         '_pebbles() {',
-        '    local word=${COMP_WORDS[COMP_CWORD]} words= first=1',
+        '    local word=${COMP_WORDS[COMP_CWORD]} before=${COMP_WORDS[COMP_CWORD - 1]} options= paths= first=1',
         '    COMPREPLY=()',
         '    [[ ${COMP_WORDS[1]} == --explain ]] && ((COMP_CWORD > 1)) && first=2',
         '    if ((COMP_CWORD == first)); then',
         f"        COMPREPLY=($(compgen -W '{names} {' '.join(names_of(whole.options))}' -- \"$word\"))",
         '        return',
         '    fi',
-        '    case ${COMP_WORDS[COMP_CWORD - 1]} in',
-        *valued,
+        '    # bash takes `=` for a word',
+        '    [[ $before == = ]] && before=${COMP_WORDS[COMP_CWORD - 2]}',
+        '    [[ $word == = ]] && word=',
+        '    case $before in',
+        *(f"        {name}) COMPREPLY=($(compgen -W '{values}' -- \"$word\")); return ;;" for name, values in valued.items()),
         '    esac',
         '    case ${COMP_WORDS[first]} in',
         *cases,
-        f"        help) COMPREPLY=($(compgen -W '{names}' -- \"$word\")); return ;;",
+        f"        help) ((COMP_CWORD == first + 1)) && COMPREPLY=($(compgen -W '{names}' -- \"$word\")); return ;;",
         '    esac',
-        '    [[ $word == -* ]] && COMPREPLY=($(compgen -W "$words" -- "$word"))',
+        '    if [[ $word == -* ]]; then',
+        '        COMPREPLY=($(compgen -W "$options" -- "$word"))',
+        '    elif [[ $paths ]]; then',
+        '        compopt -o filenames 2> /dev/null',
+        '        mapfile -t COMPREPLY < <(compgen -f -- "$word")',
+        '    fi',
         '}',
-        'complete -o default -F _pebbles pebbles',
+        'complete -F _pebbles pebbles',
         ''])
 
 
@@ -42,15 +58,23 @@ def in_zsh(text):
 
 
 def zsh_option(it):
-    takes = f":{it.takes}:({' '.join(it.values)})" if it.takes else ''
+    values = f"({' '.join(it.values)})" if it.values else ' '
+    takes = f':{it.takes}:{values}' if it.takes else ''
     return [f"'{name}[{in_zsh(it.purpose)}]{takes}'" for name in it.names]
+
+
+def zsh_argument(place, it):
+    return f"'{place}:{it.words.strip('<>')}:{'_files' if is_path(it) else ' '}'"
 
 
 def zsh(whole, commands):
     def options(told):
         return ' '.join(word for it in told.options for word in zsh_option(it))
 
-    cases = [f"        {name}) _arguments {options(told)} '*:file:_files' ;;" for name, told in commands.items()]
+    def arguments(told):
+        return ' '.join(zsh_argument(place, it) for place, it in enumerate(told.arguments, 1))
+
+    cases = [f"        {name}) _arguments {options(told)} {arguments(told)} ;;" for name, told in commands.items()]
     return '\n'.join([
         '#compdef pebbles',
         'local -a commands',
@@ -64,9 +88,11 @@ def zsh(whole, commands):
         'elif ((CURRENT == first)); then',
         "    _describe command commands",
         'else',
-        '    case $words[first] in',
+        '    shift first-1 words',
+        '    ((CURRENT -= first - 1))',
+        '    case $words[1] in',
         *cases,
-        "        help) _describe command commands ;;",
+        "        help) ((CURRENT == 2)) && _describe command commands ;;",
         '    esac',
         'fi',
         ''])
@@ -87,5 +113,8 @@ def fish_option(condition, it):
 def fish(whole, commands):
     lines = [f"complete -c pebbles -n __fish_use_subcommand -f -a {it.words} -d '{in_fish(it.meaning)}'" for it in whole.commands]
     lines += [fish_option('__fish_use_subcommand', it) for it in whole.options]
+    lines += [f'complete -c pebbles -n \'__fish_seen_subcommand_from {name}\' -f' for name, told in commands.items() if not takes_paths(told)]
+    lines += ["complete -c pebbles -n '__fish_seen_subcommand_from help; and test (commandline -opc)[-1] != help' -f",
+              *(f"complete -c pebbles -n '__fish_seen_subcommand_from help; and test (commandline -opc)[-1] = help' -f -a {it.words}" for it in whole.commands)]
     lines += [fish_option(f'__fish_seen_subcommand_from {name}', it) for name, told in commands.items() for it in told.options]
     return '\n'.join(lines) + '\n'
