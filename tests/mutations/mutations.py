@@ -3,7 +3,8 @@
 A mutation is a block of lines: `file: PATH`, from crates/ on, `mistake: WORDS`, and pairs of `old: TEXT` and `new: TEXT`. An old text
 stands once in the file, as whole words, and each further pair applies to what the earlier ones made. `refused: CRATE, GOAL` is the crate
 that is no longer proved, with the first goal that fails, and `tried: DAY on COMMIT` says when that was last seen: the commit is the last
-one that changed what the proof of that crate reads. `tests: CRATE` names tests that fail where no crate of the product does.
+one that changed what the proof of that crate reads. `tests: CRATE` names tests that fail where no crate of the product does, and
+`without: TEXT` has an example on which a law is false without its premise.
 
 The text NAME.txt has the further wrong bodies of the crate NAME, definitions.txt has weakened definitions. The wrong bodies that the gate
 tries are the edits of crates/NAME/must-fail/, a file each; its name is the mistake, with `_` between the words.
