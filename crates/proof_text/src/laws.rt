@@ -12,6 +12,7 @@ ghost use Rattle.proof_text.specs.declared.fault.ProofKind.TheVariants.{Memory a
 ghost use Rattle.proof_text.specs.declared.proof.LabellerRow.{LabellerRow as LabellerRowData};
 ghost use Rattle.proof_text.specs.declared.proof.AdversaryRow.{AdversaryRow as AdversaryRowData};
 
+use crate::class_proof::MAX_CLASS_ROWS;
 use crate::proof::MOST_TURNS;
 
 /// For one board a text is that of one document at most. So the text that is printed for a
@@ -83,7 +84,9 @@ pub fn one_row_of_a_rank()
         → request_row board first ≡ request_row board second → first ≡ second }
 {}
 
-/// The greatest number of a document. CONTRIBUTING.md lists what else says this number.
+/// The greatest number of a document, and the most rows of a section of one by classes.
+/// CONTRIBUTING.md lists what else says these numbers.
 pub fn limits()
-    ensures { MOST_TURNS ≡ 1000000000 }
+    ensures turns { MOST_TURNS ≡ 1000000000 }
+    ensures class_rows { MAX_CLASS_ROWS ≡ 16777216 }
 {}
