@@ -45,7 +45,7 @@ const AFTER_HELP: &str = "With or without a command:\n      \
     pebbles solve cycle.board > cycle.proof\n  \
     pebbles check cycle.board cycle.proof";
 
-// The helps of `solve`, `report` and `play` say this limit.
+// The helps of `solve`, `report`, `check` and `play` say this limit.
 const _: () = prove!(MAX_CONFIGURATIONS == 1_048_576);
 
 /// The help of `solve`.
@@ -54,8 +54,8 @@ const ABOUT_SOLVING: &str =
     same for every number of workers. With --large it is the document by classes,\n\
     whose rows say nothing of which pebble holds which label.\n\n\
     Common faults:\n  \
-    board fault line 1 Version  no board: Windows line ends, a strategy document\n  \
-    board fault line 4 Start    a label for each pebble is wanted, each below V\n  \
+    board fault line 1 Version  neither `board 1` nor `board 2`: Windows line ends\n  \
+    board fault line 4 Start    each pebble's label, below V, or `-` in `board 2`\n  \
     board fault line N Beats    not `beats` and two labels, with single spaces\n  \
     board fault line N Order    pairs not sorted as numbers, or one is there twice\n  \
     board too large             labels^pebbles is above 1048576; try --large\n  \
@@ -66,8 +66,8 @@ const ABOUT_SOLVING: &str =
 /// The help of `report`.
 const ABOUT_REPORTING: &str = "The report is the same for every number of workers.\n\n\
     Common faults:\n  \
-    board fault line 1 Version  no board: Windows line ends, a strategy document\n  \
-    board fault line 4 Start    a label for each pebble is wanted, each below V\n  \
+    board fault line 1 Version  neither `board 1` nor `board 2`: Windows line ends\n  \
+    board fault line 4 Start    each pebble's label, below V, or `-` in `board 2`\n  \
     board fault line N Beats    not `beats` and two labels, with single spaces\n  \
     board fault line N Order    pairs not sorted as numbers, or one is there twice\n  \
     board too large             labels^pebbles is above 1048576; try --large\n\n\
@@ -77,11 +77,12 @@ const ABOUT_REPORTING: &str = "The report is the same for every number of worker
 /// The help of `check`.
 const ABOUT_CHECKING: &str =
     "Writes one line: `accepted` and the claim, or `refused` and the first rule of\n\
-    checking that the document breaks. The rows of a document are for\n\
-    configurations, or if its first line is `proof 2` for classes; then the board\n\
-    may be of any size.\n\n\
+    checking that the document breaks, with the exit status 3. The rows of a\n\
+    document are for configurations, or if its first line is `proof 2` for classes;\n\
+    then the board may be of any size.\n\n\
     Common faults:\n  \
     board fault line 1 Version  BOARD is no board; are the two paths exchanged?\n  \
+    board too large             for a `proof 1`: labels^pebbles is above 1048576\n  \
     proof fault line 1 Version  PROOF is not a strategy document\n  \
     proof fault line N Section  more rows than the first line of a section says\n  \
     proof fault line N Row      fewer rows, or a row that is not of this board\n  \
@@ -100,8 +101,8 @@ const ABOUT_PLAYING: &str =
     goes on. It also ends if no label is legal. As the labeller on a board that\n\
     lasts for ever you read `no strategy`: the adversary has none.\n\n\
     Common faults:\n  \
-    board fault line 1 Version  no board: Windows line ends, a strategy document\n  \
-    board fault line 4 Start    a label for each pebble is wanted, each below V\n  \
+    board fault line 1 Version  neither `board 1` nor `board 2`: Windows line ends\n  \
+    board fault line 4 Start    each pebble's label, below V, or `-` in `board 2`\n  \
     board fault line N Order    pairs not sorted as numbers, or one is there twice\n  \
     board too large             labels^pebbles is above 1048576; try --large\n  \
     input too long              a line of yours has more than 64 bytes\n\n\
@@ -311,7 +312,7 @@ fn large<'a>(alloc: Global) -> Arg<'a>
     word(
         alloc,
         "large",
-        "Allow 536870912 gaps, the labels of all pebbles but one",
+        "Take boards of up to 536870912 gaps; `solve` by classes",
     )
 }
 
