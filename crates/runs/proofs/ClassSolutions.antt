@@ -1,10 +1,11 @@
 -- A text has one solution by classes or one fault, and a check accepts the solution.
-use Rattle.std.proofs.Common.{◌≡◌, ◌-◌, ◌≤◌, ◌⊎◌, ℕ, List, length, refl, sym, ap, ◌∙◌, subst, arith, inl, inr}
+use Rattle.std.proofs.Common.{◌≡◌, ◌-◌, ◌<◌, ◌≤◌, ◌⊎◌, ℕ, List, length, refl, sym, ap, ◌∙◌, subst, arith, inl, inr}
+use Rattle.std.proofs.lemmas.Bool.{cases_lt}
 use Rattle.board_text.specs.PlainBoard.{PlainBoard, places}
 use Rattle.board_text.proofs.Cited.{one_board}
 use Rattle.proof_check.proofs.Cited.{no_class_fault}
 use Rattle.strategies.proofs.Cited.{breaks_no_class_rule, has_class_form as is_formed, one_class_document as one_made}
-use Rattle.strategies.proofs.Cited.{short_text_fits}
+use Rattle.strategies.proofs.Cited.{class_document_exists, short_text_fits}
 use Rattle.proof_text.proofs.Cited.{no_class_text_fault as faultless_document, one_class_document}
 use Rattle.proof_text.specs.ProofText.{class_text}
 use Rattle.proof_text.specs.Documents.{IsClassProof}
@@ -15,10 +16,11 @@ use Rattle.graphs.specs.declared.graph.Numbering.TheVariants.{Ordered, Classes}
 use Rattle.command_line.specs.declared.asked.BoardLimit.TheVariants.{Large}
 use Rattle.positions.specs.Claim.{claim_of}
 use Rattle.positions.specs.declared.value.Value.{Value}
-use Rattle.positions.proofs.Cited.{same_value}
+use Rattle.positions.proofs.Cited.{same_value, some_value}
 use Rattle.proof_text.specs.Proof.{PlainProof}
 use Rattle.runs.specs.ClassSolveRun.{HasLongDocument, IsClassSolution, IsSolvedByClasses, IsUnsolvedByClasses}
 use Rattle.runs.specs.Texts.{HasNoProof, IsBoardAmong, IsBoardWithin, IsByClasses, IsMemory, IsWrongWithin, OfAnySize}
+use Rattle.runs.specs.declared.checking.TheConstants.{MAX_PROOF_BYTES}
 use Rattle.runs.specs.Verdicts.{IsChecked, IsClassVerdict, IsProofOf, IsVerdictOf, text_of_proof}
 use Rattle.runs.specs.declared.fault.RunFault.{RunFault}
 use Rattle.runs.specs.declared.fault.RunFault.TheVariants.{Board, TooLarge, Proof, Memory, Worker, Read, Write, Limit}
@@ -28,6 +30,7 @@ use Rattle.runs.specs.declared.verdicts.Verdict.TheVariants.{Accepted, Refused, 
 use Rattle.runs.proofs.AcceptedDocuments.{not_wrong}
 use Rattle.runs.proofs.DocumentKinds.{by_classes, by_ranks}
 use Rattle.runs.proofs.OneOutcome.{one_wrong}
+use Rattle.runs.proofs.Solutions.{board_or_wrong}
 
 -- ---- one solution, or one fault
 
@@ -78,6 +81,45 @@ module _ (text : List ℕ) where
     | inl (is, (other, within_too, long)) ↦
         long_or_short value written board other within within_too solved long
     | inr wrong ↦ not_wrong Large text board within fault wrong
+  ]
+
+  -- a board within the limit has a document, which a check reads or not
+  solved_or_long : (board : PlainBoard) → IsBoardWithin Large text board
+      → ((value : Value) × (written : List ℕ) × IsClassSolution text value written)
+      ⊎ ((fault : RunFault) × IsUnsolvedByClasses text fault)
+  solved_or_long board within =
+      let document = class_document_exists board within.is_board.start in
+      let value = some_value board board.start within.is_board.start in
+      elim (cases_lt MAX_PROOF_BYTES (length (class_text board document.0))) [
+        | inl long ↦ inr (DocumentTooLarge, (board, within, (document.0, document.1, long)))
+        | inr short ↦
+            let solved : IsSolvedByClasses board value.0 (class_text board document.0) = record {
+              has_value = value.1;
+              document = document.0;
+              is_document = document.1;
+              text_is = refl;
+              short = omega (arith, short);
+            } in
+            inl (value.0, class_text board document.0, (board, within, solved))
+      ]
+
+  -- a fault of the text is one of these
+  wrong_unsolved : (fault : RunFault) → IsWrongWithin Large text fault → IsUnsolvedByClasses text fault
+  wrong_unsolved DocumentTooLarge wrong = absurd wrong
+  wrong_unsolved (Board told) wrong = wrong
+  wrong_unsolved TooLarge wrong = wrong
+  wrong_unsolved (Proof told) wrong = wrong
+  wrong_unsolved Memory wrong = wrong
+  wrong_unsolved Worker wrong = wrong
+  wrong_unsolved Read wrong = wrong
+  wrong_unsolved Write wrong = wrong
+  wrong_unsolved Limit wrong = wrong
+
+  pub solution_or_unsolved : ((value : Value) × (written : List ℕ) × IsClassSolution text value written)
+      ⊎ ((fault : RunFault) × IsUnsolvedByClasses text fault)
+  solution_or_unsolved = elim (board_or_wrong text Large) [
+    | inl within ↦ solved_or_long within.0 within.1
+    | inr wrong ↦ inr (wrong.0, wrong_unsolved wrong.0 wrong.1)
   ]
 
   pub one_unsolved : (fault other : RunFault) → IsUnsolvedByClasses text fault → IsUnsolvedByClasses text other

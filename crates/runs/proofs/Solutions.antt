@@ -150,7 +150,7 @@ module _ (text : List ℕ) where
   report_of_text_exists limit board within =
       let report = report_exists board within.is_board.start in (report.0, (board, within, report.1))
 
-  board_or_wrong : (limit : BoardLimit) → ((board : PlainBoard) × IsBoardWithin limit text board)
+  pub board_or_wrong : (limit : BoardLimit) → ((board : PlainBoard) × IsBoardWithin limit text board)
       ⊎ ((fault : RunFault) × IsWrongWithin limit text fault)
   board_or_wrong limit = elim (board_or_fault text) [
     | inr (line, kind, no_memory, has) ↦ inr (Board (record { line = line; kind = kind }), (has, no_memory))

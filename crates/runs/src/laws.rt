@@ -138,8 +138,8 @@ pub fn printed_documents_are_accepted()
 {}
 
 /// What is written for a board that is solved by classes claims the value of its start, and a check
-/// of the same board accepts it, or runs out of memory: neither of the two texts has a fault. A
-/// text has one such solution, or one fault.
+/// of the same board accepts it, or runs out of memory: neither of the two texts has a fault. Each
+/// text has one such solution or one fault, and none has both.
 pub fn class_solutions_are_accepted()
     ensures verdict { (text : List ℕ) → (written : List ℕ) → (value : ValueData)
         → IsClassSolution text value written → (board : PlainBoard)
@@ -154,6 +154,12 @@ pub fn class_solutions_are_accepted()
         → (other : List ℕ)
         → IsClassSolution text value written → IsClassSolution text worth other
         → (value ≡ worth) × (written ≡ other) }
+    ensures either { (text : List ℕ)
+        → ((value : ValueData) × (written : List ℕ) × IsClassSolution text value written)
+        ⊎ ((fault : Fault) × IsUnsolvedByClasses text fault) }
+    ensures one_fault { (text : List ℕ) → (fault : Fault) → (other : Fault)
+        → IsUnsolvedByClasses text fault → IsUnsolvedByClasses text other
+        → fault ≡ other }
     ensures not_both { (text : List ℕ) → (value : ValueData) → (written : List ℕ) → (fault : Fault)
         → IsClassSolution text value written → IsUnsolvedByClasses text fault → ⊥ }
 {}

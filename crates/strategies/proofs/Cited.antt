@@ -1,6 +1,7 @@
 -- The lemmas that crates above cite, passed on from one place. Declares nothing.
 pub use Rattle.strategies.proofs.BestAnswers.{best_answer, lasts_after, same_answer}
 pub use Rattle.strategies.proofs.ValueOrder.{IsLess-irrefl, cases_value, less_than_finite}
+pub use Rattle.strategies.proofs.SomeClassDocument.{document_exists as class_document_exists}
 pub use Rattle.strategies.proofs.SomeDocument.{document_exists}
 pub use Rattle.strategies.proofs.DocumentForm.{is_formed}
 pub use Rattle.strategies.proofs.KeptRules.{breaks_no_rule}
