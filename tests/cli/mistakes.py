@@ -212,12 +212,15 @@ def of_boards(work):
         ('too few places', in_board(good, 'start 0 0', 'start 0'), 'line 4 Start', 'places in the line: 1, pebbles: 2; line 4'),
         ('too many places', in_board(good, 'start 0 0', 'start 0 0 0'), 'line 4 Start', 'places in the line: 3, pebbles: 2; line 4'),
         ('a start out of range', in_board(good, 'start 0 0', 'start 0 3'), 'line 4 Start', 'labels of this board are below 3; line 4'),
+        ('a leading zero in the start', in_board(good, 'start 0 0', 'start 0 00'), 'line 4 Start', 'no label has a leading zero; line 4'),
+        ('a sign in the start', in_board(good, 'start 0 0', 'start -1 0'), 'line 4 Start', 'a `-` with digits after it is no label; line 4'),
         ('a space at the end', in_board(good, 'start 0 0', 'start 0 0 '), 'line 4 Start', 'a space is at the end of the line'),
         ('a space at the start', in_board(good, 'start 0 0', ' start 0 0'), 'line 4 Start', 'a space is at the start of the line'),
         ('two spaces', in_board(good, 'start 0 0', 'start  0 0'), 'line 4 Start', 'two spaces are side by side'),
         ('a tab', in_board(good, 'beats 1 0', 'beats\t1 0'), 'line 5 Beats', 'a tab is in the line'),
         ('an empty line', in_board(good, 'beats 1 0', '\nbeats 1 0'), 'line 5 Beats', 'the line is empty'),
         ('a label out of range', in_board(good, 'beats 1 0', 'beats 3 0'), 'line 5 Beats', '3 is no label of this board: they are below 3; the line'),
+        ('a leading zero in a pair', in_board(good, 'beats 1 0', 'beats 1 00'), 'line 5 Beats', 'no label has a leading zero; the line must be'),
         ('a carriage return in a pair', in_board(good, 'beats 1 0', 'beats 1 0\r'), 'line 5 Beats', 'a carriage return is in the line'),
         ('another word for beats', in_board(good, 'beats 1 0', 'beat 1 0'), 'line 5 Beats', '`beats X Y`'),
         ('both directions', in_board(good, pairs, 'beats 0 1\nbeats 1 0'), 'line 6 TwoWay', 'line 5 has the same two labels the other way round'),
@@ -364,6 +367,7 @@ def of_streams(work):
     unread = fault(5, 'read fault')
     for name, words in (('a joined check', []), ('a play', ['play', '--side', 'adversary', CHAIN]), ('a climb', ['climb', '2'])):
         yield Mistake(f'a closed standard input for {name}', words, unread, before, 'it is closed', before=closed)
+    yield Mistake('a closed standard input by its path', ['solve', '/dev/stdin'], unread, '/dev/stdin', 'it is closed', before=closed)
     yield Mistake('a folder for a joined check', [], unread, before, 'it is a folder', before=folder)
     opening = fault(5, 'read fault', b'value 2\nat 0 0\n')
     yield Mistake('a folder for a play', ['play', '--side', 'adversary', CHAIN], opening, before, 'it is a folder', before=folder)
@@ -399,6 +403,10 @@ def of_words(work):
             (['solve', '--workers', CHAIN], workers), (['solve', CHAIN, 'extra'], general), (['solve', '--workers', '4', CHAIN, 'extra'], general),
             (['solve', '--workers=four', CHAIN], workers), (['report', '--workers=99', CHAIN], workers), (['solve', '--workers=', CHAIN], workers),
             (['solve', '--workers', '17', CHAIN], workers), (['solve', '--workers'], workers), (['report', '--workers', '4', '-q', CHAIN], options), (['play', 'labeller', CHAIN], general),
+            (['solve', '--workers', '1.5', CHAIN], workers), (['solve', '--workers', '-1', CHAIN], workers),
+            (['solve', '--workers', '2', '--workers', '3', CHAIN], '`--workers` is given once, with a number from 1 to 16'),
+            (['check', '--workers', '2', CHAIN, CHAIN], 'only `solve` and `report` have `--workers`'),
+            (['report', '--side', 'labeller', CHAIN], 'only `play` has `--side`'), (['climb', '--side=adversary', '3'], 'only `play` has `--side`'),
             (['climb', '--large', '3'], large), (['check', CHAIN, CHAIN, '--large'], large), (['solve', '--large', '--large', CHAIN], general),
             (['play', '--large', CHAIN], general), (['play', '--side', 'both', CHAIN], general), (['nested', '7', '3'], general), (['climb', '25'], general), (['help', 'solv'], general)]
     for words, says in told:

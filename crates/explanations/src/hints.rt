@@ -1,7 +1,9 @@
 //! The words that explain a fault of a board, by its kind and by the line that it names.
 
 use crate::inputs::{Given, Inputs, Origin};
-use crate::lines::{flaw, line_above, line_with, number_in, pair_in, spaces_before};
+use crate::lines::{
+    flaw, has_leading_zero, has_sign, line_above, line_with, number_in, pair_in, spaces_before,
+};
 use crate::parts::{Parts, around, compared, mistake, number_mistake, two_numbers, words};
 use crate::sizes::Sizes;
 use board_text::{BoardFault, BoardKind, MAX_LABELS, MAX_PEBBLES};
@@ -26,7 +28,11 @@ const VERSION: &str =
     before it";
 
 /// The form of a line of a pair.
-const BEATS: &str = "the line must be `beats X Y`, with labels X and Y below V, or `end`";
+const BEATS: &str =
+    "the line must be `beats X Y`, with labels X and Y below V and no leading zero, or `end`";
+
+/// The mistake of a label that begins with `0` and has more digits.
+const LEADING_ZERO: &str = "no label has a leading zero";
 
 /// The order of the pairs.
 const ORDER: &str = "lines `beats X Y` must ascend by X and then by Y, as numbers, each once; \
@@ -148,10 +154,14 @@ fn places_hint(line: &[u8], sizes: Sizes) -> Parts {
         words(START)
     } else if places != u64::from(sizes.pebbles) {
         places_differ(places, sizes, START)
+    } else if has_sign(line) {
+        mistake("a `-` with digits after it is no label", START)
     } else if sizes.version == 1 && has_hyphen {
         mistake("a `-` is in the line of a `board 1`", START)
     } else if sizes.version == 2 && !has_hyphen {
         mistake("no `-` is in the line of a `board 2`", START)
+    } else if has_leading_zero(line) {
+        mistake(LEADING_ZERO, START)
     } else {
         labels_below(sizes, START)
     }
@@ -188,7 +198,12 @@ fn pair_hint(board: &Origin<'_, '_>, line: Option<&[u8]>) -> Parts {
                 BEATS,
             )
         }
-        _ => form_hint(line, BEATS),
+        _ => match line {
+            Some(line) if flaw(line).is_none() && has_leading_zero(line) => {
+                mistake(LEADING_ZERO, BEATS)
+            }
+            _ => form_hint(line, BEATS),
+        },
     }
 }
 

@@ -63,6 +63,26 @@ fn has_two_spaces(line: &[u8]) -> bool {
     false
 }
 
+/// Whether a number of the line has a leading zero.
+pub(crate) fn has_leading_zero(line: &[u8]) -> bool {
+    for at in 1..line.len() {
+        if line[at - 1] == b'0' && line[at].is_ascii_digit() && (at == 1 || line[at - 2] == b' ') {
+            return true;
+        }
+    }
+    false
+}
+
+/// Whether a number of the line has a `-` before it.
+pub(crate) fn has_sign(line: &[u8]) -> bool {
+    for at in 1..line.len() {
+        if line[at - 1] == b'-' && line[at].is_ascii_digit() {
+            return true;
+        }
+    }
+    false
+}
+
 /// The number of spaces before `end`, if that is in the line.
 pub(crate) fn spaces_before(line: &[u8], end: &[u8]) -> Option<u64> {
     let mut count: u64 = 0;

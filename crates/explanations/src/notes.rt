@@ -154,6 +154,9 @@ fn trouble_hint(name: &str, trouble: Trouble) -> Parts {
         ),
         Trouble::Missing => words("there is no such file; look for its spelling and its folder"),
         Trouble::Forbidden => words("you may not read it; `chmod +r` permits it"),
+        Trouble::Folder if name == "/dev/stdin" => {
+            words("it is closed, or a folder; give it with `<`, or by a pipe")
+        }
         Trouble::Folder => words("it is a folder; name a file in it"),
         Trouble::NoFolder => words("a word of the path before a `/` names a file and no folder"),
         Trouble::Loop => words("its symbolic links lead back to themselves"),

@@ -11,6 +11,9 @@ const _: () = prove!(MAX_WORKERS == 16);
 /// The option for workers, with its number in the same word.
 const WORKERS_IS: &str = "--workers=";
 
+/// The option for a side, with the side in the same word.
+const SIDE_IS: &str = "--side=";
+
 /// Why these words, the program's name first, may be wrong, if they show it.
 pub(crate) fn usage_hint(words: &[&str]) -> &'static str {
     if words.len() > 1 && is_path(words[1]) {
@@ -24,11 +27,20 @@ pub(crate) fn usage_hint(words: &[&str]) -> &'static str {
         if lacks_count(words, at) {
             return "`--workers` comes with a number from 1 to 16, as in `--workers 4`; ";
         }
+        if is_given_again(words, at) {
+            return "`--workers` is given once, with a number from 1 to 16; ";
+        }
         if is_version(word) {
             return "`--version` stands alone, as in `pebbles --version`; ";
         }
         if word == "--large" && !takes_large(words[1]) {
             return "only `solve`, `report` and `play` have `--large`; ";
+        }
+        if is_for_workers(word) && !takes_workers(words[1]) {
+            return "only `solve` and `report` have `--workers`; ";
+        }
+        if is_for_a_side(word) && words[1] != "play" {
+            return "only `play` has `--side`; ";
         }
         if is_unknown_option(word) {
             return "the only options are `--workers` of `solve` and `report`, `--side` of `play`, \
@@ -42,6 +54,36 @@ pub(crate) fn usage_hint(words: &[&str]) -> &'static str {
 /// Whether the command of this name has the option `--large`.
 fn takes_large(command: &str) -> bool {
     command == "solve" || command == "report" || command == "play"
+}
+
+/// Whether the command of this name has the option for workers.
+fn takes_workers(command: &str) -> bool {
+    command == "solve" || command == "report"
+}
+
+/// Whether a word is the option for workers.
+fn is_for_workers(word: &str) -> bool {
+    word == "--workers" || word.starts_with(WORKERS_IS)
+}
+
+/// Whether a word is the option for a side.
+fn is_for_a_side(word: &str) -> bool {
+    word == "--side" || word.starts_with(SIDE_IS)
+}
+
+/// Whether the word at this place is the option for workers, and a word before it is too.
+fn is_given_again(words: &[&str], at: usize) -> bool
+    requires { at < length words.now }
+{
+    if !is_for_workers(words[at]) {
+        return false;
+    }
+    for before in 1..at {
+        if is_for_workers(words[before]) {
+            return true;
+        }
+    }
+    false
 }
 
 /// Whether the word at this place is the option for workers, and no number of them comes with it:
@@ -58,9 +100,8 @@ fn lacks_count(words: &[&str], at: usize) -> bool
 
 /// Whether these bytes are a number of workers.
 fn is_count(text: &[u8]) -> bool {
-    LineReader::new(text)
-        .number(1, MAX_WORKERS as u32)
-        .is_some()
+    let mut reader = LineReader::new(text);
+    reader.number(1, MAX_WORKERS as u32).is_some() && reader.is_empty()
 }
 
 /// Whether a word can only be a path.
@@ -75,12 +116,10 @@ fn is_version(word: &str) -> bool {
 
 /// Whether a word is an option that no command has.
 fn is_unknown_option(word: &str) -> bool {
-    let is_known = word.starts_with(WORKERS_IS)
-        || word.starts_with("--side=")
+    let is_known = is_for_workers(word)
+        || is_for_a_side(word)
         || word == "--help"
         || word == "-h"
-        || word == "--workers"
-        || word == "--side"
         || word == "--large"
         || word == "--explain";
     word.starts_with("-") && !is_known
