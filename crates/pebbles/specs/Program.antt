@@ -1,17 +1,12 @@
--- The words that the program is given, and its standard streams.
-use Rattle.std.specs.Prelude.{◌≡◌, ℕ, false, List, map, string_bytes}
+-- The words that the program is given.
+use Rattle.std.specs.Prelude.{◌≡◌, ℕ, List, map, string_bytes}
 use Rattle.std.specs.Borrow.{Bor}
-use Rattle.board_text.specs.declared.through.Through.{Through}
 use Rattle.serving.specs.declared.serving.Words.{Words}
 use Rattle.serving.specs.declared.serving.Words.TheVariants.{Given, NotText, OutOfMemory}
 use Rattle.pebbles.specs.declared.OwnedWords.{OwnedWords}
 use Rattle.pebbles.specs.declared.OwnedWords.TheVariants.{Given as OwnedGiven}
 use Rattle.pebbles.specs.declared.OwnedWords.TheVariants.{NotText as OwnedNotText}
 use Rattle.pebbles.specs.declared.OwnedWords.TheVariants.{OutOfMemory as OwnedOutOfMemory}
-
--- a stream of std of which nothing was read, or to which nothing was written
-abbrev pub fresh : {T : Type 0} → T → Through T
-fresh inner = record { inner = inner; has_failed = false; has_ended = false }
 
 -- the bytes of texts behind references
 abbrev pub borrowed_texts : List (Bor (List ℕ)) → List (List ℕ)

@@ -9,21 +9,21 @@
 //! 5 a failed read or write, or an input that is too long.
 #![tactic(auto)]
 
-ghost use Rattle.std.specs.Prelude.{◌≡◌, []};
+ghost use Rattle.std.specs.Prelude.{◌≡◌, [], false};
 ghost use Rattle.std.specs.Process.{exit_status};
-ghost use Rattle.board_text.specs.declared.through.Through.{Through as Wrapped};
+ghost use Rattle.serving.specs.Consoles.{IsReady};
 ghost use Rattle.serving.specs.Folders.{Unknown};
 ghost use Rattle.runs.specs.Run.{stream_of};
 ghost use Rattle.serving.specs.Serving.{ServesAnyWords};
 ghost use Rattle.serving.specs.declared.serving.Words.{Words as AllWords};
-ghost use Rattle.pebbles.specs.Program.{Gives, fresh};
+ghost use Rattle.pebbles.specs.Program.{Gives};
 
-use board_text::Through;
+use board_text::{Sink, Source, Through};
 use console::{Console, Terminals};
 use serving::{System, Words, serve};
 use std::alloc::Global;
 use std::fs::{File, Files};
-use std::io::{IsTerminal, Read, Write};
+use std::io::IsTerminal;
 use std::os::fd::{AsRawFd, IntoRawFd};
 use std::process::ExitCode;
 use std::sync::Wait;
@@ -32,10 +32,10 @@ use std::{env, io};
 
 fn main(rt: HostRuntime) -> ExitCode {
     let alloc = rt.alloc();
-    let console = Console {
-        input: rt.stdin(),
-        output: rt.stdout(),
-        errors: rt.stderr(),
+    let mut console = Console {
+        input: Through::new(rt.stdin()),
+        output: Through::new(rt.stdout()),
+        errors: Through::new(rt.stderr()),
         terminals: Terminals {
             input_closed: stand_in(&rt),
             input: rt.stdin().is_terminal(),
@@ -43,41 +43,30 @@ fn main(rt: HostRuntime) -> ExitCode {
         },
     };
     let words = OwnedWords::of_process(&rt, alloc);
-    serve_owned(&rt, alloc, &words, console)
+    serve_owned(&rt, alloc, &words, &mut console)
 }
 
-/// Serves the words over streams of which nothing was read and to which nothing was written, in the
-/// folders of the system. The exit status is the one that `serve` gives.
-fn serve_owned<I: Read + Drop, O: Write + Drop, E: Write + Drop>(
+/// Serves the words on the streams of the console, in the folders of the system. The exit status is
+/// the one that `serve` gives.
+fn serve_owned<I: Source, O: Sink, E: Sink>(
     rt: &(impl Files + Threads + Wait + Sync),
     alloc: Global,
     owned: &OwnedWords,
-    console: Console<I, O, E>,
+    console: &mut Console<I, O, E>,
 ) -> ExitCode
+    requires ready { IsReady I.has_failed I.has_ended O.has_failed console.old }
+    requires errors_ready { E.has_failed console.old.errors ≡ false }
     ensures { (words : AllWords) × Gives owned.now words
-        × (read : Wrapped I) × (written : Wrapped O) × (told : Wrapped E)
-        × ServesAnyWords (λ _. Unknown) console.terminals
-        (stream_of (λ s. I.remaining s.inner) (λ s. s.has_failed) (fresh console.input) read)
-        (stream_of (λ s. O.contents s.inner) (λ s. s.has_failed) (fresh console.output) written)
-        (stream_of (λ s. E.contents s.inner) (λ s. s.has_failed) (fresh console.errors) told)
+        × ServesAnyWords (λ _. Unknown) console.old.terminals
+        (stream_of I.remaining I.has_failed console.old.input console.new.input)
+        (stream_of O.contents O.has_failed console.old.output console.new.output)
+        (stream_of E.contents E.has_failed console.old.errors console.new.errors)
         (exit_status result) words }
 {
     let mut texts = Vec::new(alloc);
     let words = owned.borrowed(&mut texts);
     let folder = System::new(rt);
-    let Console {
-        input,
-        output,
-        errors,
-        terminals,
-    } = console;
-    let mut console = Console {
-        input: Through::new(input),
-        output: Through::new(output),
-        errors: Through::new(errors),
-        terminals,
-    };
-    let status = serve(rt, alloc, &words, &folder, &mut console);
+    let status = serve(rt, alloc, &words, &folder, console);
     ExitCode::from(status)
 }
 
