@@ -7,11 +7,12 @@ use Rattle.std.proofs.lemmas.Option.{same_Some}
 use Rattle.board_text.specs.PlainBoard.{PlainBoard}
 use Rattle.positions.specs.Game.{Legal, moved}
 use Rattle.positions.specs.Table.{RequestRow, Requests, Leads, StopsAfter, request_at}
+use Rattle.proof_text.specs.Positions.{configuration_positions}
 use Rattle.proof_text.specs.Rules.{MeetsAnswers, AdversaryObeys, IsListedBelow}
 use Rattle.proof_check.proofs.FirstRows.{AreApart, find-the}
 
 module _ (board : PlainBoard) (rows : List RequestRow) (apart : AreApart (λ r. r.at) rows)
-    (pebbles : All (λ (r : RequestRow). r.request < board.pebbles) rows) (obeys : AdversaryObeys board rows) where
+    (pebbles : All (λ (r : RequestRow). r.request < board.pebbles) rows) (obeys : AdversaryObeys configuration_positions board rows) where
   -- the table requests the pebble of the configuration's row
   request_by_row : (row : RequestRow) → Contains rows row → request_at rows row.at ≡ Some row.request
   request_by_row row is = ap (option_map (λ r. r.request)) (find-the (λ r. r.at) rows row apart is)
@@ -28,14 +29,14 @@ module _ (board : PlainBoard) (rows : List RequestRow) (apart : AreApart (λ r. 
       let obeyed = All-contains (λ (r : RequestRow). r.request < board.pebbles) rows listed.row pebbles listed.among in
       ((listed.row.request, record { request = request; is_pebble = obeyed }), omega arith)
   stops_each (label ∷ labels) from to bound listed leads =
-      let obeyed = All-contains (MeetsAnswers board rows) rows listed.row obeys listed.among in
+      let obeyed = All-contains (MeetsAnswers configuration_positions board rows) rows listed.row obeys listed.among in
       let request : request_at rows from ≡ Some listed.row.request =
       subst (λ c. request_at rows c ≡ Some listed.row.request) listed.at (request_by_row listed.row listed.among) in
       let same : leads.0 ≡ listed.row.request = same_Some leads.0 listed.row.request (sym leads.1.request ∙ request) in
       let legal : Legal board listed.row.at listed.row.request label =
       subst (λ p. Legal board listed.row.at p label) same
       (subst (λ c. Legal board c leads.0 label) (sym listed.at) leads.2) in
-      let next = obeyed label legal in
+      let next = obeyed.each label legal in
       let rest : Leads board rows (moved listed.row.at listed.row.request label) labels to =
       subst (λ p. Leads board rows (moved listed.row.at p label) labels to) same
       (subst (λ c. Leads board rows (moved c leads.0 label) labels to) (sym listed.at) leads.3) in

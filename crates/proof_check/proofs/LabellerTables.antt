@@ -9,6 +9,7 @@ use Rattle.positions.specs.Game.{moved}
 use Rattle.positions.specs.Table.{AnswerRow, AnswersLegally, AnswersAll, Answers, IsListed, IsClosed}
 use Rattle.positions.specs.declared.turns.Turns.{Turns}
 use Rattle.positions.specs.declared.turns.Turns.TheVariants.{Count, Always}
+use Rattle.proof_text.specs.Positions.{configuration_positions}
 use Rattle.proof_text.specs.Rules.{IsEnough, IsWanted, Serves, MeetsRequest, MeetsRequests, LabellerObeys, one_less}
 use Rattle.proof_check.proofs.FirstRows.{AreApart, find-the, some_passes}
 use lib.Pointwise.{pointwise, bytes_decides}
@@ -21,7 +22,7 @@ the_row rows row apart is = find-the (λ r. r.at) rows row apart is
 -- the table gives the answer of the configuration's row
 answers_by_row : (board : PlainBoard) (rows : List AnswerRow) (row : AnswerRow) (pebble : ℕ) → AreApart (λ r. r.at) rows
     → Contains rows row
-    → (meets : MeetsRequest board rows row pebble)
+    → (meets : MeetsRequest configuration_positions board rows row pebble)
     → AnswersLegally board rows row.at pebble meets.label
 answers_by_row board rows row pebble apart is meets = record {
   answer = ap (λ o. option_and_then (λ r. slice_get r.answers pebble) o) (the_row rows row apart is) ∙ meets.answer;
@@ -53,7 +54,7 @@ serves_less rows configuration turns number enough serves = λ some.
     record { row = listed.row; among = listed.among; at = listed.at; enough = more }
 
 module _ (board : PlainBoard) (rows : List AnswerRow) (apart : AreApart (λ r. r.at) rows)
-    (obeys : LabellerObeys board rows) where
+    (obeys : LabellerObeys configuration_positions board rows) where
   -- each request of a list that is no longer than the number is answered
   answers_each : (requests : List ℕ) (configuration : List ℕ) (number : ℕ) → length requests ≤ number
       → Serves rows configuration (Count number) → All (λ pebble. pebble < board.pebbles) requests
@@ -62,7 +63,7 @@ module _ (board : PlainBoard) (rows : List AnswerRow) (apart : AreApart (λ r. r
   answers_each (pebble ∷ requests) configuration zero short serves pebbles = absurd (omega arith)
   answers_each (pebble ∷ requests) configuration (suc number) short serves pebbles =
       let listed = serves (omega arith) in
-      let meets = All-contains (MeetsRequests board rows) rows listed.row obeys listed.among pebble
+      let meets = All-contains (MeetsRequests configuration_positions board rows) rows listed.row obeys listed.among pebble
       (All-head (λ p. p < board.pebbles) pebble requests pebbles) in
       let here = answers_by_row board rows listed.row pebble apart listed.among meets in
       let next = serves_less rows
@@ -90,7 +91,7 @@ module _ (board : PlainBoard) (rows : List AnswerRow) (apart : AreApart (λ r. r
   pub closed_by_rows : All (λ row. row.turns ≡ Always) rows → IsClosed board rows
   closed_by_rows always configuration listed pebble below =
       let here = row_of_listed configuration listed in
-      let meets = All-contains (MeetsRequests board rows) rows here.0 obeys here.1 pebble below in
+      let meets = All-contains (MeetsRequests configuration_positions board rows) rows here.0 obeys here.1 pebble below in
       let answer = answers_by_row board rows here.0 pebble apart here.1 meets in
       let serves : Serves rows (moved here.0.at pebble meets.label) Always =
       subst (λ t. Serves rows (moved here.0.at pebble meets.label) (one_less t))

@@ -10,11 +10,10 @@ pub mod ShownClaims
 pub mod Steps
 pub mod DocumentSteps
 pub mod DocumentFaults
+pub mod RankFaults
 pub mod FirstRow
 pub mod RowSearch
 pub mod CheckedRows
-pub mod NamedClasses
-pub mod ClassTrees
 pub mod ClassClaims
 pub mod ClassDocumentFaults
 pub mod Cited

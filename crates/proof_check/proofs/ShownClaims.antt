@@ -20,6 +20,7 @@ use Rattle.proof_text.specs.RowForm.{RowForm, AreRows}
 use Rattle.proof_text.specs.Versions.{answers_by_configurations, requests_by_configurations}
 use Rattle.positions.specs.declared.space.TheConstants.{MAX_CONFIGURATIONS}
 use Rattle.proof_text.proofs.Cited.{rank_small}
+use Rattle.proof_text.specs.Positions.{configuration_positions}
 use Rattle.proof_text.specs.Rules.{BreaksNoRule, Serves, wanted_of, StartIsBelow, IsListedBelow}
 use Rattle.proof_check.specs.Inside.Checker.{AreReady, IsAnswering, AreAnswering, IsRequesting, AreRequesting}
 use Rattle.proof_check.proofs.FirstRows.{AreApart}
@@ -37,7 +38,7 @@ turns_always : (turns : Turns) → AreTurns Forever turns → turns ≡ Always
 turns_always Always are = refl
 turns_always (Count n) are = absurd are
 
-pub shows : (board : PlainBoard) (proof : PlainProof) → IsProof board proof → BreaksNoRule board proof
+pub shows : (board : PlainBoard) (proof : PlainProof) → IsProof board proof → BreaksNoRule configuration_positions board proof
     → Shows board proof.labeller proof.adversary proof.claim
 shows board proof is rules = by proof.claim is.labeller.each rules.start_serves rules.start_below
   where

@@ -1,6 +1,6 @@
 pub mod FirstFaults
 pub mod CheckFaults
-pub mod ClassRules
+pub mod Refusals
 pub mod ClassFaults
 pub mod ClassNumbers
 pub mod Inside
