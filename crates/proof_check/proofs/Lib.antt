@@ -6,6 +6,7 @@ pub mod AdversarySteps
 pub mod FirstRows
 pub mod LabellerTables
 pub mod AdversaryTables
+pub mod PlainTables
 pub mod ShownClaims
 pub mod Steps
 pub mod DocumentSteps

@@ -2,5 +2,6 @@ pub mod FirstFaults
 pub mod CheckFaults
 pub mod Refusals
 pub mod ClassFaults
+pub mod PositionTables
 pub mod ClassNumbers
 pub mod Inside
