@@ -7,15 +7,15 @@ use Rattle.positions.specs.declared.space.TheConstants.{MAX_CONFIGURATIONS}
 use Rattle.classes.proofs.Cited.{few-of-small}
 use Rattle.proof_text.specs.Proof.{PlainProof, IsClaim}
 use Rattle.proof_text.specs.Documents.{IsProof, IsClassProof}
+use Rattle.proof_text.specs.Positions.{class_positions, configuration_positions}
 use Rattle.proof_text.specs.Rules.{BreaksNoRule}
-use Rattle.proof_check.specs.ClassRules.{BreaksNoClassRule}
 use Rattle.strategies.proofs.Cited.{claims_shown}
 use Rattle.domains.proofs.ShownDocuments.{claims_of_documents, documents_for}
 
 pub both_versions : (board : PlainBoard) (claim : Claim) → IsConfiguration board board.start
     → configurations board ≤ MAX_CONFIGURATIONS
-    → ((proof : PlainProof) × IsProof board proof × BreaksNoRule board proof × (proof.claim ≡ claim))
-    ↔ ((proof : PlainProof) × IsClassProof board proof × BreaksNoClassRule board proof × (proof.claim ≡ claim))
+    → ((proof : PlainProof) × IsProof board proof × BreaksNoRule configuration_positions board proof × (proof.claim ≡ claim))
+    ↔ ((proof : PlainProof) × IsClassProof board proof × BreaksNoRule (class_positions board.labels) board proof × (proof.claim ≡ claim))
 both_versions board claim is few =
     let by_class = claims_shown board claim is (few-of-small board few) in (
       λ shown. (by_class (subst IsClaim shown.3 shown.1.claim)).0 (claims_of_documents board is few claim shown),

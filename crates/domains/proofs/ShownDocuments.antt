@@ -24,14 +24,15 @@ use Rattle.proof_text.specs.Documents.{IsProof}
 use Rattle.proof_text.specs.Proof.{PlainProof, IsClaim, IsAnswerRow, IsRequestRow, AreTurns, IsBefore}
 use Rattle.proof_text.specs.RowForm.{AreRows}
 use Rattle.proof_text.specs.Versions.{answers_by_configurations, requests_by_configurations}
-use Rattle.proof_text.specs.Rules.{BreaksNoRule, IsEnough, IsListedBelow, IsListedFor, MeetsRequests, Serves}
-use Rattle.proof_text.specs.Rules.{StartIsBelow, one_less, wanted_of}
+use Rattle.proof_text.specs.Rules.{BreaksNoRule, IsEnough, IsListedBelow, IsListedFor, MeetsAnswers, MeetsRequests}
+use Rattle.proof_text.specs.Positions.{configuration_positions}
+use Rattle.proof_text.specs.Rules.{Serves, StartIsBelow, one_less, wanted_of}
 use Rattle.nested_cycles.proofs.Cited.{contains_map, each_of}
 use Rattle.strategies.proofs.Cited.{breaks_no_rule, document_exists, is_formed}
 
 -- a document of the format that breaks no rule and makes the claim
 abbrev HasDocument : PlainBoard → Claim → Type 0
-HasDocument board claim = (proof : PlainProof) × IsProof board proof × BreaksNoRule board proof
+HasDocument board claim = (proof : PlainProof) × IsProof board proof × BreaksNoRule configuration_positions board proof
     × (proof.claim ≡ claim)
 
 -- ---- a document with another claim
@@ -64,7 +65,7 @@ no_answers board claim = record {
 
 -- documents from that of a start with a finite value
 module _ (board : PlainBoard) (proof : PlainProof) (exactly : ℕ) (is : IsProof board proof)
-    (rules : BreaksNoRule board proof)
+    (rules : BreaksNoRule configuration_positions board proof)
     (claim : proof.claim ≡ claims.Exactly exactly) where
   pub least_document : (least : ℕ) → least ≤ exactly → IsClaim (claims.AtLeast least)
       → HasDocument board (claims.AtLeast least)
@@ -99,8 +100,7 @@ module _ (board : PlainBoard) (proof : PlainProof) (exactly : ℕ) (is : IsProof
               };
           start_below = tt;
           labeller = rules.labeller;
-          adversary = All-nil (λ row. (label : ℕ) → Legal board row.at row.request label
-              → IsListedBelow [] (moved row.at row.request label) row.left);
+          adversary = All-nil (MeetsAnswers configuration_positions board []);
         },
         refl,
       )
@@ -131,7 +131,7 @@ module _ (board : PlainBoard) (proof : PlainProof) (exactly : ℕ) (is : IsProof
             at = below.at;
             below = omega (arith, below.below, at_most);
           };
-          labeller = All-nil (MeetsRequests board []);
+          labeller = All-nil (MeetsRequests configuration_positions board []);
           adversary = rules.adversary;
         },
         refl,
@@ -148,7 +148,7 @@ always_wanted Always are = refl
 always_wanted (Count turns) are = absurd are
 
 module _ (board : PlainBoard) (proof : PlainProof) (turns : ℕ) (is : IsProof board proof)
-    (rules : BreaksNoRule board proof)
+    (rules : BreaksNoRule configuration_positions board proof)
     (claim : proof.claim ≡ claims.Forever) (some : 1 ≤ turns) where
   rows : List AnswerRow
   rows = map (for_turns turns) proof.labeller
@@ -167,10 +167,10 @@ module _ (board : PlainBoard) (proof : PlainProof) (turns : ℕ) (is : IsProof b
   are_rows : AreRows (answers_by_configurations board claims.Forever) proof.labeller
   are_rows = subst (λ (c : Claim). AreRows (answers_by_configurations board c) proof.labeller) claim is.labeller
 
-  meets : (row : AnswerRow) → Contains proof.labeller row → MeetsRequests board rows (for_turns turns row)
+  meets : (row : AnswerRow) → Contains proof.labeller row → MeetsRequests configuration_positions board rows (for_turns turns row)
   meets row among pebble below =
       let is_row = All-contains (IsAnswerRow board claims.Forever) proof.labeller row are_rows.each among in
-      let met = All-contains (MeetsRequests board proof.labeller) proof.labeller row rules.labeller among pebble below
+      let met = All-contains (MeetsRequests configuration_positions board proof.labeller) proof.labeller row rules.labeller among pebble below
       in
       let after : Serves proof.labeller (moved row.at pebble met.label) Always
       = subst (λ (t : Turns). Serves proof.labeller (moved row.at pebble met.label) (one_less t))
@@ -216,10 +216,9 @@ module _ (board : PlainBoard) (proof : PlainProof) (turns : ℕ) (is : IsProof b
         record {
           start_serves = λ wanted. listed_for board.start turns (omega arith) (serves tt);
           start_below = tt;
-          labeller = All-map (MeetsRequests board rows) (for_turns turns) proof.labeller
-              (each_of (λ row. MeetsRequests board rows (for_turns turns row)) proof.labeller meets);
-          adversary = All-nil (λ row. (label : ℕ) → Legal board row.at row.request label
-              → IsListedBelow [] (moved row.at row.request label) row.left);
+          labeller = All-map (MeetsRequests configuration_positions board rows) (for_turns turns) proof.labeller
+              (each_of (λ row. MeetsRequests configuration_positions board rows (for_turns turns row)) proof.labeller meets);
+          adversary = All-nil (MeetsAnswers configuration_positions board []);
         },
         refl,
       )
@@ -238,9 +237,8 @@ nothing_document board is_claim = (
   record {
     start_serves = λ wanted. absurd (omega (arith, wanted));
     start_below = tt;
-    labeller = All-nil (MeetsRequests board []);
-    adversary = All-nil (λ row. (label : ℕ) → Legal board row.at row.request label
-        → IsListedBelow [] (moved row.at row.request label) row.left);
+    labeller = All-nil (MeetsRequests configuration_positions board []);
+    adversary = All-nil (MeetsAnswers configuration_positions board []);
   },
   refl,
 )

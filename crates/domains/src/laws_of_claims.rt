@@ -7,8 +7,8 @@ ghost use Rattle.positions.specs.Ranks.{configurations};
 ghost use Rattle.positions.specs.declared.claim.Claim.{Claim as ClaimData};
 ghost use Rattle.proof_text.specs.Proof.{PlainProof, IsClaim};
 ghost use Rattle.proof_text.specs.Documents.{IsProof, IsClassProof};
+ghost use Rattle.proof_text.specs.Positions.{class_positions, configuration_positions};
 ghost use Rattle.proof_text.specs.Rules.{BreaksNoRule};
-ghost use Rattle.proof_check.specs.ClassRules.{BreaksNoClassRule};
 
 use positions::MAX_CONFIGURATIONS;
 
@@ -19,7 +19,7 @@ use positions::MAX_CONFIGURATIONS;
 pub fn claims_hold_where_documents_show_them()
     ensures { (board : PlainBoard) → (claim : ClaimData) → IsConfiguration board board.start
         → configurations board ≤ MAX_CONFIGURATIONS → IsClaim claim → Holds board claim
-        ↔ ((proof : PlainProof) × IsProof board proof × BreaksNoRule board proof
+        ↔ ((proof : PlainProof) × IsProof board proof × BreaksNoRule configuration_positions board proof
         × (proof.claim ≡ claim)) }
 {}
 
@@ -29,8 +29,8 @@ pub fn claims_hold_where_documents_show_them()
 pub fn both_versions_show_the_same_claims()
     ensures { (board : PlainBoard) → (claim : ClaimData)
         → IsConfiguration board board.start → configurations board ≤ MAX_CONFIGURATIONS
-        → ((proof : PlainProof) × IsProof board proof × BreaksNoRule board proof
+        → ((proof : PlainProof) × IsProof board proof × BreaksNoRule configuration_positions board proof
         × (proof.claim ≡ claim))
-        ↔ ((proof : PlainProof) × IsClassProof board proof × BreaksNoClassRule board proof
+        ↔ ((proof : PlainProof) × IsClassProof board proof × BreaksNoRule (class_positions board.labels) board proof
         × (proof.claim ≡ claim)) }
 {}

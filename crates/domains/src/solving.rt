@@ -6,6 +6,7 @@ ghost use Rattle.positions.specs.Ranks.{configurations};
 ghost use Rattle.positions.specs.Value.{HasValue};
 ghost use Rattle.proof_text.specs.Documents.{IsDocument};
 ghost use Rattle.proof_text.specs.Proof.{plain_proof, answer_rows, request_rows};
+ghost use Rattle.proof_text.specs.Positions.{configuration_positions};
 ghost use Rattle.proof_text.specs.Rules.{BreaksNoRule};
 ghost use Rattle.solver.specs.declared.fault.SolveFault.TheVariants as SolveFault;
 ghost use Rattle.strategies.specs.Document.{IsDocumentOf};
@@ -41,7 +42,7 @@ pub fn solve_board(alloc: Global, board: &Board) -> Result<Solved, SolveFault>
         (answer_rows board.now solved.document.labeller.items)
         (request_rows board.now solved.document.adversary.items) solved.document.claim) }
     ensures rules { IfOk result (λ solved.
-        BreaksNoRule board.now (plain_proof board.now solved.document)) }
+        BreaksNoRule configuration_positions board.now (plain_proof board.now solved.document)) }
     ensures form { IfOk result (λ solved. IsDocument board.now solved.document) }
     ensures document { IfOk result (λ solved.
         IsDocumentOf board.now (plain_proof board.now solved.document)) }

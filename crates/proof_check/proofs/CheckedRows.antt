@@ -8,7 +8,7 @@ use Rattle.positions.specs.Game.{moved}
 use Rattle.positions.specs.declared.claim.Claim.TheVariants.{Exactly, AtMost}
 use Rattle.positions.specs.declared.side.Side.TheVariants.{Adversary}
 use Rattle.positions.proofs.Configurations.{moved_is_configuration}
-use Rattle.proof_text.specs.Arranged.{arranged, IsClassBefore}
+use Rattle.proof_text.specs.Arranged.{IsClassBefore}
 use Rattle.proof_text.specs.ClassProof.{IsClassRequestRow, class_answer_row, class_request_row}
 use Rattle.proof_text.specs.Documents.{IsClassDocument}
 use Rattle.proof_text.specs.Proof.{PlainProof, IsAnswerRow}
@@ -16,9 +16,11 @@ use Rattle.proof_text.specs.Rules.{IsListedBelow, StartIsBelow}
 use Rattle.proof_text.specs.declared.class_proof.AdversaryClassRow.{AdversaryClassRow}
 use Rattle.proof_text.specs.declared.class_proof.ClassProof.{ClassProof}
 use Rattle.proof_text.specs.declared.class_proof.LabellerClassRow.{LabellerClassRow}
-use Rattle.proof_check.specs.ClassFaults.{IsWrongClassBound}
+use Rattle.proof_check.specs.Refusals.{IsWrongBound}
 use Rattle.proof_check.specs.FirstFaults.{HasRow, bound_of}
-use Rattle.proof_check.specs.Inside.ClassChecker.{IsClassAnswering, IsClassRequesting}
+use Rattle.symmetries.specs.Elements.{KeepsLabels, least_by}
+use Rattle.symmetries.specs.declared.least_places.Images.{Images}
+use Rattle.proof_check.specs.Inside.ClassChecker.{IsClassReady, IsClassAnswering, IsClassRequesting, refusals_by}
 use Rattle.proof_check.specs.Inside.FoundRow.{IsRowFor, IsUnservedBelow}
 use Rattle.proof_check.specs.ClassNumbers.{AreNumbersOfRows, places_of}
 use Rattle.proof_check.specs.Inside.RowSearch.{AreClassesInOrder, HasNoClass, IsTheRow}
@@ -67,16 +69,15 @@ module _ (board : PlainBoard) (proof : ClassProof) (is : IsClassDocument board p
       proof.adversary.items (λ r. refl) (λ x row. row.at) is.is_proof.adversary.each
       is.is_proof.adversary.ascending
 
-  pub answering : (numbers : ClassNumbers) → AreNumbersOfRows board proof numbers
-      → All (IsClassAnswering board proof numbers) proof.labeller.items
-  answering numbers numbers_are = λ k d low.
+  pub answering : (numbers : ClassNumbers) (group : List Images) → IsClassReady board proof numbers group
+      → All (IsClassAnswering board proof numbers group) proof.labeller.items
+  answering numbers group ready = λ k d low.
       let row = get_or proof.labeller.items k d in
       let shown : IsAnswerRow board proof.claim (class_answer_row board row) =
       of_shown (class_answer_row board) (IsAnswerRow board proof.claim) proof.labeller.items
       is.is_proof.labeller.each k d low in
       record {
-        document = is;
-        numbers_are = numbers_are;
+        ready = ready;
         at = shown.at;
         gives = λ pebble below.
             let label : get_or (take board.pebbles row.take) pebble 0 < board.labels =
@@ -84,13 +85,13 @@ module _ (board : PlainBoard) (proof : ClassProof) (is : IsClassDocument board p
             subst (λ n. n < board.labels) (get_or-take board.pebbles row.take pebble 0 below) label;
       }
 
-  pub requesting : (numbers : ClassNumbers) → AreNumbersOfRows board proof numbers
-      → All (IsClassRequesting board proof numbers) proof.adversary.items
-  requesting numbers numbers_are = λ k d low.
+  pub requesting : (numbers : ClassNumbers) (group : List Images) → IsClassReady board proof numbers group
+      → All (IsClassRequesting board proof numbers group) proof.adversary.items
+  requesting numbers group ready = λ k d low.
       let shown : IsClassRequestRow board (class_request_row board (get_or proof.adversary.items k d)) =
       of_shown (class_request_row board) (IsClassRequestRow board) proof.adversary.items
       is.is_proof.adversary.each k d low in
-      record { document = is; numbers_are = numbers_are; at = shown.at; asked = shown.request }
+      record { ready = ready; at = shown.at; asked = shown.request }
 
 -- ---- the row that is found, as it is shown
 
@@ -129,25 +130,25 @@ result_is board places pebble label is low is_label =
     subst (IsConfiguration board) (sym (take_set board.pebbles pebble label places low))
     (moved_is_configuration board (take board.pebbles places) pebble label is_label is)
 
--- the places after a move are arranged as the result of the move
-pub arranged_result : (labels count pebble label : ℕ) (places : List ℕ) → pebble < count
-    → arranged labels (take count (set places pebble label)) ≡ arranged labels (moved (take count places) pebble label)
-arranged_result labels count pebble label places low = ap (arranged labels) (take_set count pebble label places low)
+-- the places after a move stand for the result of the move
+pub moved_result : (normal : List ℕ → List ℕ) (count pebble label : ℕ) (places : List ℕ) → pebble < count
+    → normal (take count (set places pebble label)) ≡ normal (moved (take count places) pebble label)
+moved_result normal count pebble label places low = ap normal (take_set count pebble label places low)
 
 -- the start's number, for a claim that bounds the value from above
-pub bound_meant : (board : PlainBoard) (proof : PlainProof) (number : ℕ)
+pub bound_meant : (board : PlainBoard) (group : List Images) (proof : PlainProof) (number : ℕ)
     (found : Option ClassFault)
     → (proof.claim ≡ Exactly number) ⊎ (proof.claim ≡ AtMost number)
-    → MatchOption found (IsListedBelow proof.adversary (arranged board.labels board.start) (suc number))
-    (IsUnservedBelow proof.adversary (arranged board.labels board.start) (suc number)
+    → MatchOption found (IsListedBelow proof.adversary (least_by board.labels group board.start) (suc number))
+    (IsUnservedBelow proof.adversary (least_by board.labels group board.start) (suc number)
     (faults.StartMissing Adversary) (faults.StartNumber Adversary))
-    → MatchOption found (StartIsBelow proof.adversary (arranged board.labels board.start) proof.claim)
-    (IsWrongClassBound board proof)
-bound_meant board proof number None (inl exactly) is =
-    subst (StartIsBelow proof.adversary (arranged board.labels board.start)) (sym exactly) is
-bound_meant board proof number None (inr at_most) is =
-    subst (StartIsBelow proof.adversary (arranged board.labels board.start)) (sym at_most) is
-bound_meant board proof number (Some fault) (inl exactly) is =
+    → MatchOption found (StartIsBelow proof.adversary (least_by board.labels group board.start) proof.claim)
+    (IsWrongBound (refusals_by board group) board proof)
+bound_meant board group proof number None (inl exactly) is =
+    subst (StartIsBelow proof.adversary (least_by board.labels group board.start)) (sym exactly) is
+bound_meant board group proof number None (inr at_most) is =
+    subst (StartIsBelow proof.adversary (least_by board.labels group board.start)) (sym at_most) is
+bound_meant board group proof number (Some fault) (inl exactly) is =
     (number, ap bound_of exactly, is)
-bound_meant board proof number (Some fault) (inr at_most) is =
+bound_meant board group proof number (Some fault) (inr at_most) is =
     (number, ap bound_of at_most, is)

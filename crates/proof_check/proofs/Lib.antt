@@ -6,15 +6,15 @@ pub mod AdversarySteps
 pub mod FirstRows
 pub mod LabellerTables
 pub mod AdversaryTables
+pub mod PlainTables
 pub mod ShownClaims
 pub mod Steps
 pub mod DocumentSteps
 pub mod DocumentFaults
+pub mod RankFaults
 pub mod FirstRow
 pub mod RowSearch
 pub mod CheckedRows
-pub mod NamedClasses
-pub mod ClassTrees
 pub mod ClassClaims
 pub mod ClassDocumentFaults
 pub mod Cited

@@ -2,9 +2,9 @@
 use Rattle.std.proofs.Common.{◌≡◌, ℕ, ◌<◌, ◌≤◌, List, suc, length, map, get_or, take, refl, ap, ◌∙◌, subst, arith}
 use Rattle.std.specs.List.{All, AllPairs}
 use Rattle.std.proofs.lemmas.List.{length-map, get_or-map, get_or-take}
-use Rattle.board_text.specs.PlainBoard.{PlainBoard, IsBoard}
+use Rattle.board_text.specs.PlainBoard.{PlainBoard, IsBoard, IsConfiguration}
 use Rattle.positions.specs.Ranks.{rank_of, configuration_at, configurations}
-use Rattle.positions.specs.Table.{RequestRow, Answers, StopsAfter, IsListed}
+use Rattle.positions.specs.Table.{AnswerRow, RequestRow, IsListed}
 use Rattle.positions.specs.Claim.{Shows}
 use Rattle.positions.specs.declared.claim.Claim.{Claim}
 use Rattle.positions.specs.declared.claim.Claim.TheVariants.{Exactly, AtLeast, AtMost, Forever}
@@ -13,17 +13,20 @@ use Rattle.positions.specs.declared.turns.Turns.TheVariants.{Count, Always}
 use Rattle.positions.proofs.Cited.{rank_of-configuration_at}
 use Rattle.proof_text.specs.declared.proof.LabellerRow.{LabellerRow}
 use Rattle.proof_text.specs.declared.proof.AdversaryRow.{AdversaryRow}
-use Rattle.proof_text.specs.Documents.{IsProof}
+use Rattle.proof_text.specs.Documents.{IsProof, IsClassProof}
 use Rattle.proof_text.specs.Proof.{PlainProof, IsAnswerRow, IsRequestRow, IsBefore, AreTurns, answer_row}
 use Rattle.proof_text.specs.Proof.{request_row, answer_rows, request_rows}
 use Rattle.proof_text.specs.RowForm.{RowForm, AreRows}
 use Rattle.proof_text.specs.Versions.{answers_by_configurations, requests_by_configurations}
 use Rattle.positions.specs.declared.space.TheConstants.{MAX_CONFIGURATIONS}
 use Rattle.proof_text.proofs.Cited.{rank_small}
+use Rattle.proof_text.specs.Positions.{Positions, configuration_positions, normal_positions}
+use Rattle.proof_check.specs.PositionTables.{AnswersOver, ShowsOver, StopsOver}
 use Rattle.proof_text.specs.Rules.{BreaksNoRule, Serves, wanted_of, StartIsBelow, IsListedBelow}
 use Rattle.proof_check.specs.Inside.Checker.{AreReady, IsAnswering, AreAnswering, IsRequesting, AreRequesting}
 use Rattle.proof_check.proofs.FirstRows.{AreApart}
 use Rattle.proof_check.proofs.LabellerTables as answering
+use Rattle.proof_check.proofs.PlainTables.{shows_plainly}
 use Rattle.proof_check.proofs.AdversaryTables as stopping
 
 -- rows in ascending order are apart
@@ -37,35 +40,68 @@ turns_always : (turns : Turns) → AreTurns Forever turns → turns ≡ Always
 turns_always Always are = refl
 turns_always (Count n) are = absurd are
 
-pub shows : (board : PlainBoard) (proof : PlainProof) → IsProof board proof → BreaksNoRule board proof
-    → Shows board proof.labeller proof.adversary proof.claim
-shows board proof is rules = by proof.claim is.labeller.each rules.start_serves rules.start_below
-  where
-    answers : (number : ℕ) → Serves proof.labeller board.start (Count number)
-        → Answers board proof.labeller number board.start
-    answers = answering.answers_as_served board proof.labeller (apart is.labeller) rules.labeller board.start
+-- rows that ascend, each as the format has it
+record AreShown (board : PlainBoard) (proof : PlainProof) : Type 0 where
+  labeller : AreApart (λ (r : AnswerRow). r.at) proof.labeller
+  adversary : AreApart (λ (r : RequestRow). r.at) proof.adversary
+  turns : All (IsAnswerRow board proof.claim) proof.labeller
+  places : All (λ (r : RequestRow). IsConfiguration board r.at) proof.adversary
 
-    stops : (number : ℕ) → IsListedBelow proof.adversary board.start (suc number)
-        → StopsAfter board proof.adversary number board.start
-    stops =
-        let pebbles : All (λ (r : RequestRow). r.request < board.pebbles) proof.adversary =
-        λ k d lt. (is.adversary.each k d lt).request in
-        stopping.stops_below board proof.adversary (apart is.adversary) pebbles rules.adversary board.start
+shows_over : (positions : Positions) (board : PlainBoard) (proof : PlainProof) → AreShown board proof
+    → BreaksNoRule positions board proof → ShowsOver positions board proof.labeller proof.adversary proof.claim
+shows_over positions board proof are rules = by proof.claim are.turns rules.start_serves rules.start_below
+  where
+    answers : (number : ℕ) → Serves proof.labeller (positions.normal board.start) (Count number)
+        → AnswersOver positions board proof.labeller number (positions.normal board.start)
+    answers number serves =
+        answering.answers_as_served positions board proof.labeller are.labeller rules.labeller
+        (positions.normal board.start) number serves
+
+    stops : (number : ℕ) → IsListedBelow proof.adversary (positions.normal board.start) (suc number)
+        → StopsOver positions board proof.adversary number (positions.normal board.start)
+    stops number listed =
+        stopping.stops_below positions board proof.adversary are.adversary are.places rules.adversary
+        (positions.normal board.start) number listed
 
     by : (claim : Claim) → All (IsAnswerRow board claim) proof.labeller
-        → Serves proof.labeller board.start (wanted_of claim)
-        → StartIsBelow proof.adversary board.start claim → Shows board proof.labeller proof.adversary claim
+        → Serves proof.labeller (positions.normal board.start) (wanted_of claim)
+        → StartIsBelow proof.adversary (positions.normal board.start) claim
+        → ShowsOver positions board proof.labeller proof.adversary claim
     by (Exactly number) each serves below = (answers number serves, stops number below)
     by (AtLeast number) each serves below = answers number serves
     by (AtMost number) each serves below = stops number below
     by Forever each serves below =
-        let start = serves tt in
-        let listed = answering.listed_by_row board proof.labeller
-        (apart is.labeller) rules.labeller start.row start.among in (
-          answering.closed_by_rows board proof.labeller (apart is.labeller) rules.labeller
+        let listed = serves tt in
+        let own = answering.listed_by_row positions board proof.labeller are.labeller rules.labeller listed.row
+        listed.among in (
+          answering.closed_by_rows positions board proof.labeller are.labeller rules.labeller
               (λ k d lt. turns_always (get_or proof.labeller k d).turns (each k d lt).turns),
-          subst (IsListed proof.labeller) start.at listed,
+          subst (IsListed proof.labeller) listed.at own,
         )
+
+-- the rows of a document with arranged places show its claim, whatever they stand for
+pub shows_normally : (normal : List ℕ → List ℕ) (board : PlainBoard) (proof : PlainProof) → IsClassProof board proof
+    → BreaksNoRule (normal_positions normal) board proof
+    → ShowsOver (normal_positions normal) board proof.labeller proof.adversary proof.claim
+shows_normally normal board proof is rules = shows_over (normal_positions normal) board proof (record {
+  labeller = apart is.labeller;
+  adversary = apart is.adversary;
+  turns = is.labeller.each;
+  places = λ k d lt. (is.adversary.each k d lt).at;
+}) rules
+
+pub shows : (board : PlainBoard) (proof : PlainProof) → IsProof board proof
+    → BreaksNoRule configuration_positions board proof
+    → Shows board proof.labeller proof.adversary proof.claim
+shows board proof is rules =
+    shows_plainly board proof.labeller proof.adversary proof.claim (shows_over configuration_positions board proof
+    (record {
+      labeller = apart is.labeller;
+      adversary = apart is.adversary;
+      turns = is.labeller.each;
+      places = λ k d lt. (is.adversary.each k d lt).at;
+    })
+    rules)
 
 -- ---- rows with ranks
 

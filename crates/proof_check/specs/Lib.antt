@@ -1,6 +1,7 @@
 pub mod FirstFaults
 pub mod CheckFaults
-pub mod ClassRules
+pub mod Refusals
 pub mod ClassFaults
+pub mod PositionTables
 pub mod ClassNumbers
 pub mod Inside

@@ -3,9 +3,11 @@
 ghost use Rattle.std.specs.Prelude.{◌≡◌, suc, MatchOption};
 ghost use Rattle.positions.specs.Game.{Legal, moved};
 ghost use Rattle.positions.specs.Ranks.{configuration_at, rank_of};
+ghost use Rattle.proof_text.specs.Positions.{configuration_positions};
 ghost use Rattle.proof_text.specs.Proof.{request_row};
 ghost use Rattle.proof_text.specs.Rules.{IsListedBelow, MeetsAnswer, MeetsAnswers, StartIsBelow};
-ghost use Rattle.proof_check.specs.CheckFaults.{IsWrongAfter, IsWrongRequest, IsWrongBound};
+ghost use Rattle.proof_check.specs.CheckFaults.{rank_refusals};
+ghost use Rattle.proof_check.specs.Refusals.{IsWrongAfter, IsWrongRequest, IsWrongBound};
 ghost use Rattle.proof_check.specs.Inside.Checker.{IsRequesting, HoldsAtRank};
 ghost use Rattle.proof_check.specs.Inside.FoundRow.{IsUnservedBelow};
 
@@ -18,9 +20,9 @@ use proof_text::{AdversaryRow, Claim};
 impl<'a> CheckedRow<Checker<'a>, CheckFault> for AdversaryRow {
     ghost is_ready = { λ c row. IsRequesting c.board row };
 
-    ghost meets = { λ c row. MeetsAnswers c.board c.proof.adversary (request_row c.board row) };
+    ghost meets = { λ c row. MeetsAnswers configuration_positions c.board c.proof.adversary (request_row c.board row) };
 
-    ghost is_wrong = { λ c row. IsWrongRequest c.board c.proof.adversary
+    ghost is_wrong = { λ c row. IsWrongRequest (rank_refusals c.board) c.board c.proof.adversary
         (request_row c.board row) };
 
     /// The fault of the row's first faulty label, if it has one.
@@ -46,9 +48,9 @@ impl Checker<'_> {
         requires rank { rank ≡ rank_of self.now.board
             (moved (configuration_at self.now.board row.now.at) row.now.ask label) }
         ensures { MatchOption result
-            (MeetsAnswer self.now.board self.now.proof.adversary
+            (MeetsAnswer configuration_positions self.now.board self.now.proof.adversary
             (request_row self.now.board row.now) label)
-            (IsWrongAfter self.now.board self.now.proof.adversary
+            (IsWrongAfter (rank_refusals self.now.board) self.now.proof.adversary
             (request_row self.now.board row.now) label) }
     {
         if row.left == 0 {
@@ -68,7 +70,7 @@ impl Checker<'_> {
     pub(crate) fn bound_fault(&self) -> Option<CheckFault>
         ensures { MatchOption result
             (StartIsBelow self.now.proof.adversary self.now.board.start self.now.proof.claim)
-            (IsWrongBound self.now.board self.now.proof) }
+            (IsWrongBound (rank_refusals self.now.board) self.now.board self.now.proof) }
     {
         let (Claim::Exactly(most) | Claim::AtMost(most)) = self.claim() else {
             return None;

@@ -4,6 +4,7 @@ ghost use Rattle.std.specs.Prelude.{◌≡◌, ◌≤◌, OnOk, IfOk, IfErr, Mat
 ghost use Rattle.positions.specs.Ranks.{configurations};
 ghost use Rattle.positions.specs.Claim.{Shows};
 ghost use Rattle.proof_text.specs.Documents.{IsDocument};
+ghost use Rattle.proof_text.specs.Positions.{configuration_positions};
 ghost use Rattle.proof_text.specs.Proof.{plain_proof, answer_rows, request_rows};
 ghost use Rattle.proof_text.specs.Rules.{BreaksNoRule};
 ghost use Rattle.proof_check.specs.CheckFaults.{IsCheckFault, NamesRanks};
@@ -39,9 +40,9 @@ pub fn check(
     ensures shows { OnOk result (Shows board.now (answer_rows board.now proof.now.labeller.items)
         (request_rows board.now proof.now.adversary.items) proof.now.claim) }
     // Only a document that breaks no rule is accepted.
-    ensures rules { OnOk result (BreaksNoRule board.now (plain_proof board.now proof.now)) }
+    ensures rules { OnOk result (BreaksNoRule configuration_positions board.now (plain_proof board.now proof.now)) }
     // Each that breaks none is accepted, unless memory runs out.
-    ensures accepts { BreaksNoRule board.now (plain_proof board.now proof.now)
+    ensures accepts { BreaksNoRule configuration_positions board.now (plain_proof board.now proof.now)
         → IfErr result (λ fault. fault ≡ OutOfMemory) }
     // The fault is the first in the order of checking, or memory ran out.
     ensures fault { IfErr result (λ fault. IsCheckFault board.now
@@ -62,7 +63,7 @@ impl Checker<'_> {
     /// The first fault of the document in the order of checking, if there is one.
     fn fault(&self, rt: &(impl Threads + Sync)) -> Option<CheckFault>
         ensures { MatchOption result
-            (BreaksNoRule self.now.board self.now.proof)
+            (BreaksNoRule configuration_positions self.now.board self.now.proof)
             (λ fault. IsCheckFault self.now.board self.now.proof fault) }
     {
         if let Some(fault) = self.start_fault() {

@@ -1,19 +1,18 @@
-//! The adversary's rows of a document by classes, checked.
+//! The adversary's rows of a document with arranged places, checked.
 
 ghost use Rattle.std.specs.Prelude.{◌≡◌, ◌<◌, suc, MatchOption, Contains};
 ghost use Rattle.board_text.specs.PlainBoard.{IsConfiguration};
 ghost use Rattle.positions.specs.Game.{Legal};
-ghost use Rattle.proof_text.specs.Rules.{IsListedBelow, StartIsBelow};
-ghost use Rattle.proof_text.specs.Arranged.{arranged, order_number};
-ghost use Rattle.proof_text.specs.Documents.{IsClassDocument};
+ghost use Rattle.proof_text.specs.Positions as positions_of;
+ghost use Rattle.proof_text.specs.Positions.{normal_positions};
+ghost use Rattle.proof_text.specs.Rules.{IsListedBelow, MeetsAnswer, MeetsAnswers, StartIsBelow};
+ghost use Rattle.proof_text.specs.Arranged.{order_number};
 ghost use Rattle.proof_text.specs.ClassProof.{plain_class_proof};
 ghost use Rattle.proof_text.specs.ClassProof.{class_request_row, class_request_rows};
-ghost use Rattle.proof_check.specs.ClassNumbers.{AreNumbersOfRows};
-ghost use Rattle.proof_check.specs.ClassRules as rules;
-ghost use Rattle.proof_check.specs.ClassRules.{MeetsClassAnswer, MeetsClassAnswers};
-ghost use Rattle.proof_check.specs.ClassFaults.{IsWrongClassRequest, IsWrongClassAfter};
-ghost use Rattle.proof_check.specs.ClassFaults.{IsWrongClassBound};
-ghost use Rattle.proof_check.specs.Inside.ClassChecker.{IsClassRequesting};
+ghost use Rattle.symmetries.specs.Elements.{least_by};
+ghost use Rattle.proof_check.specs.Refusals.{IsWrongAfter, IsWrongBound, IsWrongRequest};
+ghost use Rattle.proof_check.specs.Inside.ClassChecker.{IsClassReady, IsClassRequesting};
+ghost use Rattle.proof_check.specs.Inside.ClassChecker.{refusals_by};
 ghost use Rattle.proof_check.specs.Inside.FoundRow.{IsUnservedBelow};
 
 use crate::checked_row::CheckedRow;
@@ -26,13 +25,13 @@ use proof_text::AdversaryClassRow;
 
 impl<'a> CheckedRow<ClassChecker<'a>, ClassFault> for AdversaryClassRow {
     ghost is_ready = { λ c row. IsClassRequesting c.board.now c.proof.now
-        c.numbers.now row };
+        c.numbers.now c.group.now row };
 
-    ghost meets = { λ c row. MeetsClassAnswers c.board.now
-        (class_request_rows c.board.now c.proof.now.adversary.items)
+    ghost meets = { λ c row. MeetsAnswers (normal_positions (least_by c.board.now.labels
+        c.group.now)) c.board.now (class_request_rows c.board.now c.proof.now.adversary.items)
         (class_request_row c.board.now row) };
 
-    ghost is_wrong = { λ c row. IsWrongClassRequest c.board.now
+    ghost is_wrong = { λ c row. IsWrongRequest (refusals_by c.board.now c.group.now) c.board.now
         (class_request_rows c.board.now c.proof.now.adversary.items)
         (class_request_row c.board.now row) };
 
@@ -52,10 +51,10 @@ impl<'a> CheckedRow<ClassChecker<'a>, ClassFault> for AdversaryClassRow {
     }
 }
 
-/// The first pebble of the class of `row` on the place that is asked.
+/// The first pebble of `row` on the place that is asked.
 fn asked_pebble(board: &Board, row: &AdversaryClassRow) -> u8
     requires { Contains (class_request_row board.now row.now).at row.now.ask }
-    ensures asked { result ≡ rules.asked_pebble (class_request_row board.now row.now) }
+    ensures asked { result ≡ positions_of.asked_pebble (class_request_row board.now row.now) }
     ensures is_pebble { result < board.now.pebbles }
 {
     for pebble in 0..board.pebbles() {
@@ -76,20 +75,21 @@ fn label_fault(
     label: u16,
 ) -> Option<ClassFault>
     requires row { IsClassRequesting checker.now.board.now checker.now.proof.now
-        checker.now.numbers.now row.now }
+        checker.now.numbers.now checker.now.group.now row.now }
     requires at { at ≡ order_number checker.now.board.now.labels (class_request_row
         checker.now.board.now row.now).at }
-    requires pebble { pebble ≡ rules.asked_pebble (class_request_row checker.now.board.now
+    requires pebble { pebble ≡ positions_of.asked_pebble (class_request_row checker.now.board.now
         row.now) }
     requires is_pebble { pebble < checker.now.board.now.pebbles }
     requires legal { Legal checker.now.board.now (class_request_row checker.now.board.now
         row.now).at pebble label }
     ensures { MatchOption result
-        (MeetsClassAnswer checker.now.board.now (class_request_rows checker.now.board.now
+        (MeetsAnswer (normal_positions (least_by checker.now.board.now.labels
+        checker.now.group.now)) checker.now.board.now (class_request_rows checker.now.board.now
         checker.now.proof.now.adversary.items)
         (class_request_row checker.now.board.now row.now) label)
-        (IsWrongClassAfter checker.now.board.now (class_request_rows checker.now.board.now
-        checker.now.proof.now.adversary.items)
+        (IsWrongAfter (refusals_by checker.now.board.now checker.now.group.now)
+        (class_request_rows checker.now.board.now checker.now.proof.now.adversary.items)
         (class_request_row checker.now.board.now row.now) label) }
 {
     if row.left == 0 {
@@ -107,19 +107,18 @@ fn label_fault(
     number_fault(checker, &result[..pebbles], row.left - 1, missing, large)
 }
 
-/// The fault of the number of the start's class in the adversary's rows, if it has one. Only a
+/// The fault of the number at the start in the adversary's rows, if it has one. Only a
 /// claim that bounds the value from above can have it.
 pub(crate) fn bound_fault(checker: &ClassChecker<'_>) -> Option<ClassFault>
-    requires document { IsClassDocument checker.now.board.now checker.now.proof.now }
-    requires numbers { AreNumbersOfRows checker.now.board.now checker.now.proof.now
-        checker.now.numbers.now }
+    requires { IsClassReady checker.now.board.now checker.now.proof.now checker.now.numbers.now
+        checker.now.group.now }
     ensures { MatchOption result
         (StartIsBelow (class_request_rows checker.now.board.now
         checker.now.proof.now.adversary.items)
-        (arranged checker.now.board.now.labels checker.now.board.now.start)
+        (least_by checker.now.board.now.labels checker.now.group.now checker.now.board.now.start)
         checker.now.proof.now.claim)
-        (IsWrongClassBound checker.now.board.now (plain_class_proof checker.now.board.now
-        checker.now.proof.now)) }
+        (IsWrongBound (refusals_by checker.now.board.now checker.now.group.now)
+        checker.now.board.now (plain_class_proof checker.now.board.now checker.now.proof.now)) }
 {
     let (Claim::Exactly(most) | Claim::AtMost(most)) = checker.proof.claim else {
         return None;
@@ -130,8 +129,8 @@ pub(crate) fn bound_fault(checker: &ClassChecker<'_>) -> Option<ClassFault>
     number_fault(checker, checker.board.start(), most, missing, large)
 }
 
-/// The fault if the adversary's rows have no number up to `most` for the class of `places`:
-/// `missing` if no row is for it, `large` if its row has a larger number.
+/// The fault if the adversary's rows have no number up to `most` at the row for `places`:
+/// `missing` if no row is for them, `large` if its row has a larger number.
 fn number_fault(
     checker: &ClassChecker<'_>,
     places: &[u16],
@@ -139,20 +138,21 @@ fn number_fault(
     missing: ClassFault,
     large: ClassFault,
 ) -> Option<ClassFault>
-    requires document { IsClassDocument checker.now.board.now checker.now.proof.now }
-    requires numbers { AreNumbersOfRows checker.now.board.now checker.now.proof.now
-        checker.now.numbers.now }
+    requires ready { IsClassReady checker.now.board.now checker.now.proof.now
+        checker.now.numbers.now checker.now.group.now }
     requires places { IsConfiguration checker.now.board.now places.now }
     ensures { MatchOption result
         (IsListedBelow (class_request_rows checker.now.board.now
         checker.now.proof.now.adversary.items)
-        (arranged checker.now.board.now.labels places.now) (suc most))
+        (least_by checker.now.board.now.labels checker.now.group.now places.now) (suc most))
         (IsUnservedBelow (class_request_rows checker.now.board.now
         checker.now.proof.now.adversary.items)
-        (arranged checker.now.board.now.labels places.now) (suc most) missing large) }
+        (least_by checker.now.board.now.labels checker.now.group.now places.now) (suc most)
+        missing large) }
 {
     let Some(row) = find(
         checker.board,
+        checker.group,
         &checker.proof.adversary,
         &checker.numbers.adversary,
         places,

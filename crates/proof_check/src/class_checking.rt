@@ -1,14 +1,19 @@
-//! The order of checking a document by classes.
+//! The order of checking a document with arranged places.
 
 ghost use Rattle.std.specs.Prelude.{◌≡◌, ℕ, List, IsOk, OnOk, IfErr, MatchOption};
+ghost use Rattle.std.specs.List.{All};
 ghost use Rattle.board_text.specs.PlainBoard.{IsConfiguration};
 ghost use Rattle.positions.specs.Claim.{Holds, HoldsAt};
 ghost use Rattle.classes.specs.Classes.{class_of};
 ghost use Rattle.proof_text.specs.Documents.{IsClassDocument};
 ghost use Rattle.proof_text.specs.ClassProof.{plain_class_proof};
+ghost use Rattle.proof_text.specs.Positions.{class_positions, normal_positions};
+ghost use Rattle.proof_text.specs.Rules.{BreaksNoRule};
+ghost use Rattle.symmetries.specs.Elements.{KeepsLabels, least_by};
 ghost use Rattle.proof_check.specs.ClassNumbers.{AreNumbersOfRows};
-ghost use Rattle.proof_check.specs.ClassRules.{BreaksNoClassRule};
 ghost use Rattle.proof_check.specs.ClassFaults.{IsFirstClassFault, NamesClass};
+ghost use Rattle.proof_check.specs.Inside.ClassChecker.{refusals_by};
+ghost use Rattle.proof_check.specs.Refusals.{IsFirstFault};
 
 use crate::checked_row::first_fault;
 use crate::class_adversary::bound_fault;
@@ -18,11 +23,14 @@ use crate::row_numbers::ClassNumbers;
 use board_text::Board;
 use proof_text::ClassProof;
 use std::thread::Threads;
+use symmetries::Images;
 
-/// A board, and a document by classes for it, with the numbers of its rows.
+/// A board, and a document for it with arranged places, with the numbers of its rows. A row stands
+/// for all places that are alike by the elements of a group; by classes it has none.
 #[derive(Clone, Copy)]
 pub(crate) struct ClassChecker<'a> {
     pub(crate) board: &'a Board,
+    pub(crate) group: &'a [Images],
     pub(crate) proof: &'a ClassProof,
     pub(crate) numbers: &'a ClassNumbers,
 }
@@ -44,10 +52,10 @@ pub fn check_classes(
         → class_of configuration ≡ class_of board.now.start
         → HoldsAt board.now configuration proof.now.claim) }
     // Only a document that breaks no rule is accepted.
-    ensures rules { OnOk result (BreaksNoClassRule board.now
+    ensures rules { OnOk result (BreaksNoRule (class_positions board.now.labels) board.now
         (plain_class_proof board.now proof.now)) }
     // Each that breaks none is accepted.
-    ensures accepts { BreaksNoClassRule board.now (plain_class_proof board.now proof.now)
+    ensures accepts { BreaksNoRule (class_positions board.now.labels) board.now (plain_class_proof board.now proof.now)
         → IsOk result }
     // The fault is the first in the order of checking.
     ensures fault { IfErr result (IsFirstClassFault board.now
@@ -55,30 +63,36 @@ pub fn check_classes(
     // A row that it names has the number of places of the board.
     ensures named { IfErr result (NamesClass board.now) }
 {
-    match document_fault(rt, board, proof, numbers) {
+    match document_fault(rt, board, &[], proof, numbers) {
         Some(fault) => Err(fault),
         None => Ok(()),
     }
 }
 
-/// The first fault of `proof` in the order of checking, if there is one.
+/// The first fault of `proof`, whose rows stand for the places that are alike by `group`, in the
+/// order of checking, if there is one.
 fn document_fault(
     rt: &(impl Threads + Sync),
     board: &Board,
+    group: &[Images],
     proof: &ClassProof,
     numbers: &ClassNumbers,
 ) -> Option<ClassFault>
+    requires group { All (KeepsLabels board.now.labels) group.now }
     requires document { IsClassDocument board.now proof.now }
     requires numbers { AreNumbersOfRows board.now proof.now numbers.now }
     ensures fault { MatchOption result
-        (BreaksNoClassRule board.now (plain_class_proof board.now proof.now))
-        (IsFirstClassFault board.now (plain_class_proof board.now proof.now)) }
+        (BreaksNoRule (normal_positions (least_by board.now.labels group.now)) board.now
+        (plain_class_proof board.now proof.now))
+        (IsFirstFault (refusals_by board.now group.now) board.now
+        (plain_class_proof board.now proof.now)) }
     ensures start { IsConfiguration board.now board.now.start }
 {
     // That this is a configuration is the clause `start`.
     let _ = board.start();
     let checker = ClassChecker {
         board,
+        group,
         proof,
         numbers,
     };

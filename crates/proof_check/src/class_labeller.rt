@@ -1,18 +1,17 @@
-//! The labeller's rows of a document by classes, checked.
+//! The labeller's rows of a document with arranged places, checked.
 
 ghost use Rattle.std.specs.Prelude.{◌≡◌, ◌<◌, MatchOption};
 ghost use Rattle.board_text.specs.PlainBoard.{IsConfiguration};
+ghost use Rattle.proof_text.specs.Positions.{normal_positions};
 ghost use Rattle.proof_text.specs.Rules as rules;
-ghost use Rattle.proof_text.specs.Rules.{Serves};
-ghost use Rattle.proof_text.specs.Arranged.{arranged, order_number};
-ghost use Rattle.proof_text.specs.Documents.{IsClassDocument};
+ghost use Rattle.proof_text.specs.Rules.{MeetsRequest, MeetsRequests, Serves};
+ghost use Rattle.proof_text.specs.Arranged.{order_number};
 ghost use Rattle.proof_text.specs.ClassProof.{plain_class_proof};
 ghost use Rattle.proof_text.specs.ClassProof.{class_answer_row, class_answer_rows};
-ghost use Rattle.proof_check.specs.ClassNumbers.{AreNumbersOfRows};
-ghost use Rattle.proof_check.specs.ClassRules.{MeetsClassRequest, MeetsClassRequests};
-ghost use Rattle.proof_check.specs.ClassFaults.{IsWrongClassAnswer, IsWrongClassAt};
-ghost use Rattle.proof_check.specs.ClassFaults.{IsWrongClassStart};
-ghost use Rattle.proof_check.specs.Inside.ClassChecker.{IsClassAnswering};
+ghost use Rattle.symmetries.specs.Elements.{least_by};
+ghost use Rattle.proof_check.specs.Refusals.{IsWrongAnswer, IsWrongAt, IsWrongStart};
+ghost use Rattle.proof_check.specs.Inside.ClassChecker.{IsClassAnswering, IsClassReady};
+ghost use Rattle.proof_check.specs.Inside.ClassChecker.{refusals_by};
 ghost use Rattle.proof_check.specs.Inside.FoundRow.{IsUnservedFor};
 
 use crate::checked_row::CheckedRow;
@@ -25,13 +24,13 @@ use proof_text::LabellerClassRow;
 
 impl<'a> CheckedRow<ClassChecker<'a>, ClassFault> for LabellerClassRow {
     ghost is_ready = { λ c row. IsClassAnswering c.board.now c.proof.now
-        c.numbers.now row };
+        c.numbers.now c.group.now row };
 
-    ghost meets = { λ c row. MeetsClassRequests c.board.now
-        (class_answer_rows c.board.now c.proof.now.labeller.items)
+    ghost meets = { λ c row. MeetsRequests (normal_positions (least_by c.board.now.labels
+        c.group.now)) c.board.now (class_answer_rows c.board.now c.proof.now.labeller.items)
         (class_answer_row c.board.now row) };
 
-    ghost is_wrong = { λ c row. IsWrongClassAnswer c.board.now
+    ghost is_wrong = { λ c row. IsWrongAnswer (refusals_by c.board.now c.group.now) c.board.now
         (class_answer_rows c.board.now c.proof.now.labeller.items)
         (class_answer_row c.board.now row) };
 
@@ -56,16 +55,17 @@ fn answer_fault(
     pebble: u8,
 ) -> Option<ClassFault>
     requires row { IsClassAnswering checker.now.board.now checker.now.proof.now
-        checker.now.numbers.now row.now }
+        checker.now.numbers.now checker.now.group.now row.now }
     requires at { at ≡ order_number checker.now.board.now.labels (class_answer_row
         checker.now.board.now row.now).at }
     requires pebble { pebble < checker.now.board.now.pebbles }
     ensures { MatchOption result
-        (MeetsClassRequest checker.now.board.now (class_answer_rows checker.now.board.now
+        (MeetsRequest (normal_positions (least_by checker.now.board.now.labels
+        checker.now.group.now)) checker.now.board.now (class_answer_rows checker.now.board.now
         checker.now.proof.now.labeller.items)
         (class_answer_row checker.now.board.now row.now) pebble)
-        (IsWrongClassAt checker.now.board.now (class_answer_rows checker.now.board.now
-        checker.now.proof.now.labeller.items)
+        (IsWrongAt (refusals_by checker.now.board.now checker.now.group.now) checker.now.board.now
+        (class_answer_rows checker.now.board.now checker.now.proof.now.labeller.items)
         (class_answer_row checker.now.board.now row.now) pebble) }
 {
     let board = checker.board;
@@ -91,17 +91,16 @@ fn answer_fault(
     )
 }
 
-/// The fault of the number of the start's class in the labeller's rows, if it has one.
+/// The fault of the number at the start in the labeller's rows, if it has one.
 pub(crate) fn start_fault(checker: &ClassChecker<'_>) -> Option<ClassFault>
-    requires document { IsClassDocument checker.now.board.now checker.now.proof.now }
-    requires numbers { AreNumbersOfRows checker.now.board.now checker.now.proof.now
-        checker.now.numbers.now }
+    requires { IsClassReady checker.now.board.now checker.now.proof.now checker.now.numbers.now
+        checker.now.group.now }
     ensures { MatchOption result
         (Serves (class_answer_rows checker.now.board.now checker.now.proof.now.labeller.items)
-        (arranged checker.now.board.now.labels checker.now.board.now.start) (rules.wanted_of
-        checker.now.proof.now.claim))
-        (IsWrongClassStart checker.now.board.now (plain_class_proof checker.now.board.now
-        checker.now.proof.now)) }
+        (least_by checker.now.board.now.labels checker.now.group.now checker.now.board.now.start)
+        (rules.wanted_of checker.now.proof.now.claim))
+        (IsWrongStart (refusals_by checker.now.board.now checker.now.group.now)
+        checker.now.board.now (plain_class_proof checker.now.board.now checker.now.proof.now)) }
 {
     let side = Side::Labeller;
     let missing = ClassFault::StartMissing { side };
@@ -115,8 +114,8 @@ pub(crate) fn start_fault(checker: &ClassChecker<'_>) -> Option<ClassFault>
     )
 }
 
-/// The fault if the labeller's rows don't serve the `wanted` turns at the class of `places`:
-/// `missing` if no row is for it, `short` if its row has too few turns.
+/// The fault if the labeller's rows don't serve the `wanted` turns at the row for `places`:
+/// `missing` if no row is for them, `short` if its row has too few turns.
 fn turns_fault(
     checker: &ClassChecker<'_>,
     places: &[u16],
@@ -124,22 +123,23 @@ fn turns_fault(
     missing: ClassFault,
     short: ClassFault,
 ) -> Option<ClassFault>
-    requires document { IsClassDocument checker.now.board.now checker.now.proof.now }
-    requires numbers { AreNumbersOfRows checker.now.board.now checker.now.proof.now
-        checker.now.numbers.now }
+    requires ready { IsClassReady checker.now.board.now checker.now.proof.now
+        checker.now.numbers.now checker.now.group.now }
     requires places { IsConfiguration checker.now.board.now places.now }
     ensures { MatchOption result
         (Serves (class_answer_rows checker.now.board.now checker.now.proof.now.labeller.items)
-        (arranged checker.now.board.now.labels places.now) wanted)
+        (least_by checker.now.board.now.labels checker.now.group.now places.now) wanted)
         (IsUnservedFor (class_answer_rows checker.now.board.now
         checker.now.proof.now.labeller.items)
-        (arranged checker.now.board.now.labels places.now) wanted missing short) }
+        (least_by checker.now.board.now.labels checker.now.group.now places.now) wanted missing
+        short) }
 {
     if wanted == Turns::Count(0) {
         return None;
     }
     let Some(row) = find(
         checker.board,
+        checker.group,
         &checker.proof.labeller,
         &checker.numbers.labeller,
         places,

@@ -4,27 +4,34 @@ ghost use Rattle.std.specs.Prelude.{◌≡◌, ℕ, List};
 ghost use Rattle.board_text.specs.PlainBoard.{PlainBoard, IsConfiguration};
 ghost use Rattle.positions.specs.Claim.{Holds, HoldsAt};
 ghost use Rattle.classes.specs.Classes.{class_of};
+ghost use Rattle.proof_text.specs.Documents.{IsClassProof};
+ghost use Rattle.proof_text.specs.Positions.{class_positions};
 ghost use Rattle.proof_text.specs.Proof.{PlainProof};
+ghost use Rattle.proof_text.specs.Rules.{BreaksNoRule};
 ghost use Rattle.proof_text.specs.Arranged.{arranged_at, order_number};
 ghost use Rattle.proof_check.specs.ClassFaults.{IsFirstClassFault};
-ghost use Rattle.proof_check.specs.ClassRules.{BreaksNoClassRule};
+ghost use Rattle.proof_check.specs.PositionTables.{ShowsOver};
 ghost use Rattle.proof_check.specs.declared.class_fault.ClassFault.{ClassFault as Fault};
 
-/// The claim of a document by classes that breaks no rule holds of the start, and of each
-/// configuration of the start's class.
+/// The rows of a document by classes that breaks no rule show its claim, as tables that are read by
+/// arranged places, and it holds of the start, and of each configuration of the start's class.
 pub fn class_rules_show()
+    ensures tables { (board : PlainBoard) → (proof : PlainProof) → IsClassProof board proof
+        → BreaksNoRule (class_positions board.labels) board proof
+        → ShowsOver (class_positions board.labels) board proof.labeller proof.adversary
+        proof.claim }
     ensures start { (board : PlainBoard) → (proof : PlainProof) → IsConfiguration board board.start
-        → BreaksNoClassRule board proof → Holds board proof.claim }
+        → BreaksNoRule (class_positions board.labels) board proof → Holds board proof.claim }
     ensures each { (board : PlainBoard) → (proof : PlainProof) → (configuration : List ℕ)
         → IsConfiguration board board.start → IsConfiguration board configuration
         → class_of configuration ≡ class_of board.start
-        → BreaksNoClassRule board proof → HoldsAt board configuration proof.claim }
+        → BreaksNoRule (class_positions board.labels) board proof → HoldsAt board configuration proof.claim }
 {}
 
 /// A document by classes that breaks no rule has no fault.
 pub fn unbroken_class_rules_leave_no_fault()
     ensures { (board : PlainBoard) → (proof : PlainProof) → (fault : Fault)
-        → BreaksNoClassRule board proof → IsFirstClassFault board proof fault → ⊥ }
+        → BreaksNoRule (class_positions board.labels) board proof → IsFirstClassFault board proof fault → ⊥ }
 {}
 
 /// A document by classes has one fault at most.

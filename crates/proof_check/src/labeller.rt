@@ -2,10 +2,12 @@
 
 ghost use Rattle.std.specs.Prelude.{◌≡◌, ◌<◌, MatchOption};
 ghost use Rattle.positions.specs.Position.{position_at};
+ghost use Rattle.proof_text.specs.Positions.{configuration_positions};
 ghost use Rattle.proof_text.specs.Proof.{answer_row};
 ghost use Rattle.proof_text.specs.Rules as rules;
 ghost use Rattle.proof_text.specs.Rules.{Serves, MeetsRequest, MeetsRequests};
-ghost use Rattle.proof_check.specs.CheckFaults.{IsWrongAnswer, IsWrongAt, IsWrongStart};
+ghost use Rattle.proof_check.specs.CheckFaults.{rank_refusals};
+ghost use Rattle.proof_check.specs.Refusals.{IsWrongAnswer, IsWrongAt, IsWrongStart};
 ghost use Rattle.proof_check.specs.Inside.Checker.{IsAnswering, HoldsAtRank};
 ghost use Rattle.proof_check.specs.Inside.FoundRow.{IsUnservedFor};
 
@@ -19,9 +21,9 @@ use proof_text::LabellerRow;
 impl<'a> CheckedRow<Checker<'a>, CheckFault> for LabellerRow {
     ghost is_ready = { λ c row. IsAnswering c.board row };
 
-    ghost meets = { λ c row. MeetsRequests c.board c.proof.labeller (answer_row c.board row) };
+    ghost meets = { λ c row. MeetsRequests configuration_positions c.board c.proof.labeller (answer_row c.board row) };
 
-    ghost is_wrong = { λ c row. IsWrongAnswer c.board c.proof.labeller (answer_row c.board row) };
+    ghost is_wrong = { λ c row. IsWrongAnswer (rank_refusals c.board) c.board c.proof.labeller (answer_row c.board row) };
 
     /// The fault of the row's first faulty pebble, if it has one.
     fn fault(&self, checker: &Checker<'a>) -> Option<CheckFault> {
@@ -43,9 +45,9 @@ impl Checker<'_> {
         requires moves { moves.now ≡ position_at self.now.board row.now.at }
         requires pebble { pebble < self.now.board.pebbles }
         ensures { MatchOption result
-            (MeetsRequest self.now.board self.now.proof.labeller
+            (MeetsRequest configuration_positions self.now.board self.now.proof.labeller
             (answer_row self.now.board row.now) pebble)
-            (IsWrongAt self.now.board self.now.proof.labeller
+            (IsWrongAt (rank_refusals self.now.board) self.now.board self.now.proof.labeller
             (answer_row self.now.board row.now) pebble) }
     {
         let label = row.take[pebble as usize];
@@ -67,7 +69,7 @@ impl Checker<'_> {
         ensures { MatchOption result
             (Serves self.now.proof.labeller self.now.board.start
             (rules.wanted_of self.now.proof.claim))
-            (IsWrongStart self.now.board self.now.proof) }
+            (IsWrongStart (rank_refusals self.now.board) self.now.board self.now.proof) }
     {
         let side = Side::Labeller;
         let missing = CheckFault::StartMissing { side };

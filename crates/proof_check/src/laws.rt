@@ -3,6 +3,7 @@
 ghost use Rattle.std.specs.Prelude.{◌≡◌, ◌≢◌};
 ghost use Rattle.board_text.specs.PlainBoard.{PlainBoard};
 ghost use Rattle.positions.specs.Claim.{Shows};
+ghost use Rattle.proof_text.specs.Positions.{configuration_positions};
 ghost use Rattle.proof_text.specs.Proof.{PlainProof};
 ghost use Rattle.proof_text.specs.Documents.{IsProof};
 ghost use Rattle.proof_text.specs.Rules.{BreaksNoRule};
@@ -14,14 +15,14 @@ ghost use Rattle.proof_check.specs.declared.fault.CheckFault.TheVariants.{Memory
 #[tactic(auto, using(crate::proofs::ShownClaims::shows))]
 pub fn rules_show()
     ensures { (board : PlainBoard) → (proof : PlainProof) → IsProof board proof
-        → BreaksNoRule board proof
+        → BreaksNoRule configuration_positions board proof
         → Shows board proof.labeller proof.adversary proof.claim }
 {}
 
 /// A document that breaks no rule has no fault but out of memory.
 pub fn unbroken_rules_leave_no_fault()
     ensures { (board : PlainBoard) → (proof : PlainProof) → (fault : Fault)
-        → BreaksNoRule board proof → IsCheckFault board proof fault
+        → BreaksNoRule configuration_positions board proof → IsCheckFault board proof fault
         → fault ≡ OutOfMemory }
 {}
 

@@ -1,16 +1,18 @@
-//! The rows of a document by the numbers of their classes.
+//! The rows of a document by the numbers of their arranged places.
 
 ghost use Rattle.std.specs.Prelude.{◌≡◌, IfOk, MatchOption};
 ghost use Rattle.std.specs.List.{All};
 ghost use Rattle.board_text.specs.PlainBoard.{IsBoard, IsConfiguration};
-ghost use Rattle.proof_text.specs.Arranged.{arranged, order_number};
+ghost use Rattle.proof_text.specs.Arranged.{order_number};
 ghost use Rattle.proof_text.specs.Documents.{IsClassDocument};
+ghost use Rattle.symmetries.specs.Elements.{KeepsLabels, least_by};
 ghost use Rattle.proof_check.specs.ClassNumbers.{AreNumbersOfRows, class_numbers, places_of};
 ghost use Rattle.proof_check.specs.Inside.RowSearch.{AreClassesInOrder, HasNoClass, IsTheRow};
 
 use board_text::{Board, Memory};
-use proof_text::{ClassProof, ClassRow, class_order, places_order};
+use proof_text::{ClassProof, ClassRow, places_order};
 use std::alloc::Global;
+use symmetries::{Images, alike_order};
 
 /// The numbers of the classes of a document's rows in the order of documents, row by row.
 #[derive(Drop)]
@@ -60,22 +62,25 @@ pub(crate) fn row_number<R: ClassRow>(board: &Board, row: &R) -> u64
     places_order(board, row_places(board, row))
 }
 
-/// The row of the class of `places`, which come in any order, if there is one among `rows`, which
-/// have these `numbers`.
+/// The row at the least of the places that are alike to `places` by `group`, if there is one among
+/// `rows`, which have these `numbers`.
 pub(crate) fn find<'r, R: ClassRow>(
     board: &Board,
+    group: &[Images],
     rows: &'r [R],
     numbers: &[u64],
     places: &[u16],
 ) -> Option<&'r R>
     requires rows { AreClassesInOrder board.now R.at rows.now }
     requires numbers { numbers.now ≡ class_numbers board.now R.at rows.now }
+    requires group { All (KeepsLabels board.now.labels) group.now }
     requires places { IsConfiguration board.now places.now }
     ensures { MatchOption result
-        (HasNoClass board.now R.at rows.now (arranged board.now.labels places.now))
-        (λ row. IsTheRow board.now R.at rows.now (arranged board.now.labels places.now) row.now) }
+        (HasNoClass board.now R.at rows.now (least_by board.now.labels group.now places.now))
+        (λ row. IsTheRow board.now R.at rows.now (least_by board.now.labels group.now places.now)
+        row.now) }
 {
-    match numbers.binary_search(&class_order(board, places)) {
+    match numbers.binary_search(&alike_order(board, group, places)) {
         Ok(index) => Some(&rows[index]),
         Err(_) => None,
     }

@@ -3,6 +3,9 @@ pub mod RisingPlaces
 pub mod OrderNumbers
 pub mod NumberedPlaces
 pub mod PlacesAt
+pub mod ArrangedAgain
+pub mod NamedPlaces
+pub mod AskedPlaces
 pub mod RowWords
 pub mod SpelledRows
 pub mod PartedLines

@@ -10,5 +10,6 @@ pub mod SectionFaults
 pub mod Versions
 pub mod Documents
 pub mod ProofFaults
+pub mod Positions
 pub mod Rules
 pub mod Inside

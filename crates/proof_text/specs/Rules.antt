@@ -1,5 +1,5 @@
--- The rules of checking, for the rows of a document and for the start's number.
-use Rattle.std.specs.Prelude.{◌≡◌, ℕ, suc, ◌-◌, ◌<◌, ◌≤◌, List, Some, slice_get}
+-- The rules of checking, for the rows of a document of any version and for the start's number.
+use Rattle.std.specs.Prelude.{◌≡◌, ℕ, suc, ◌-◌, ◌<◌, ◌≤◌, List, length, Some, slice_get}
 use Rattle.std.specs.List.{All, Contains}
 use Rattle.board_text.specs.PlainBoard.{PlainBoard}
 use Rattle.positions.specs.Game.{Legal, moved}
@@ -8,6 +8,7 @@ use Rattle.positions.specs.declared.claim.Claim.{Claim}
 use Rattle.positions.specs.declared.claim.Claim.TheVariants.{Exactly, AtLeast, AtMost, Forever}
 use Rattle.positions.specs.declared.turns.Turns.{Turns}
 use Rattle.positions.specs.declared.turns.Turns.TheVariants.{Count, Always}
+use Rattle.proof_text.specs.Positions.{Positions}
 use Rattle.proof_text.specs.Proof.{PlainProof}
 
 -- the turns are at least the wanted ones
@@ -27,7 +28,7 @@ abbrev pub IsWanted : Turns → Type 0
 IsWanted (Count turns) = 1 ≤ turns
 IsWanted Always = Unit {0}
 
--- the configuration is listed for the wanted turns or more
+-- the places are listed for the wanted turns or more
 pub record IsListedFor (rows : List AnswerRow) (configuration : List ℕ)
     (wanted : Turns) : Type 0 where
   pub row : AnswerRow
@@ -35,28 +36,29 @@ pub record IsListedFor (rows : List AnswerRow) (configuration : List ℕ)
   pub at : row.at ≡ configuration
   pub enough : IsEnough wanted row.turns
 
--- the configuration is listed for the wanted turns, if any are wanted
+-- the places are listed for the wanted turns, if any are wanted
 abbrev pub Serves : List AnswerRow → List ℕ → Turns → Type 0
 Serves rows configuration wanted = IsWanted wanted → IsListedFor rows configuration wanted
 
--- the row's answer to a request is legal, and the rows serve the turns that are left
-pub record MeetsRequest (board : PlainBoard) (rows : List AnswerRow) (row : AnswerRow)
+-- the row's answer to a request is legal, and the rows serve the turns that are left at its result
+pub record MeetsRequest (positions : Positions) (board : PlainBoard) (rows : List AnswerRow)
+    (row : AnswerRow)
     (pebble : ℕ) : Type 0 where
   pub label : ℕ
   pub answer : slice_get row.answers pebble ≡ Some label
   pub legal : Legal board row.at pebble label
-  pub serves : Serves rows (moved row.at pebble label) (one_less row.turns)
+  pub serves : Serves rows (positions.normal (moved row.at pebble label)) (one_less row.turns)
 
 -- the row meets each request
-abbrev pub MeetsRequests : PlainBoard → List AnswerRow → AnswerRow → Type 0
-MeetsRequests board rows row =
-    (pebble : ℕ) → pebble < board.pebbles → MeetsRequest board rows row pebble
+abbrev pub MeetsRequests : Positions → PlainBoard → List AnswerRow → AnswerRow → Type 0
+MeetsRequests positions board rows row =
+    (pebble : ℕ) → pebble < board.pebbles → MeetsRequest positions board rows row pebble
 
 -- each labeller's row meets each request
-abbrev pub LabellerObeys : PlainBoard → List AnswerRow → Type 0
-LabellerObeys board rows = All (MeetsRequests board rows) rows
+abbrev pub LabellerObeys : Positions → PlainBoard → List AnswerRow → Type 0
+LabellerObeys positions board rows = All (MeetsRequests positions board rows) rows
 
--- the configuration is listed with a number below the bound
+-- the places are listed with a number below the bound
 pub record IsListedBelow (rows : List RequestRow) (configuration : List ℕ)
     (bound : ℕ) : Type 0 where
   pub row : RequestRow
@@ -65,17 +67,19 @@ pub record IsListedBelow (rows : List RequestRow) (configuration : List ℕ)
   pub below : row.left < bound
 
 -- a legal answer to the row's request leads to a row with a smaller number
-abbrev pub MeetsAnswer : PlainBoard → List RequestRow → RequestRow → ℕ → Type 0
-MeetsAnswer board rows row label = Legal board row.at row.request label
-    → IsListedBelow rows (moved row.at row.request label) row.left
+abbrev pub MeetsAnswer : Positions → PlainBoard → List RequestRow → RequestRow → ℕ → Type 0
+MeetsAnswer positions board rows row label = Legal board row.at (positions.asked row) label
+    → IsListedBelow rows (positions.normal (moved row.at (positions.asked row) label)) row.left
 
--- each legal answer does
-abbrev pub MeetsAnswers : PlainBoard → List RequestRow → RequestRow → Type 0
-MeetsAnswers board rows row = (label : ℕ) → MeetsAnswer board rows row label
+-- the row asks a pebble, and each legal answer does
+pub record MeetsAnswers (positions : Positions) (board : PlainBoard) (rows : List RequestRow)
+    (row : RequestRow) : Type 0 where
+  pub asks : positions.asked row < length row.at
+  pub each : (label : ℕ) → MeetsAnswer positions board rows row label
 
 -- each adversary's row meets each legal answer
-abbrev pub AdversaryObeys : PlainBoard → List RequestRow → Type 0
-AdversaryObeys board rows = All (MeetsAnswers board rows) rows
+abbrev pub AdversaryObeys : Positions → PlainBoard → List RequestRow → Type 0
+AdversaryObeys positions board rows = All (MeetsAnswers positions board rows) rows
 
 -- the turns that a claim wants of the start
 abbrev pub wanted_of : Claim → Turns
@@ -91,9 +95,10 @@ StartIsBelow rows start (AtLeast number) = Unit {0}
 StartIsBelow rows start (AtMost number) = IsListedBelow rows start (suc number)
 StartIsBelow rows start Forever = Unit {0}
 
--- the start's numbers serve the claim, and each row obeys
-pub record BreaksNoRule (board : PlainBoard) (proof : PlainProof) : Type 0 where
-  pub start_serves : Serves proof.labeller board.start (wanted_of proof.claim)
-  pub start_below : StartIsBelow proof.adversary board.start proof.claim
-  pub labeller : LabellerObeys board proof.labeller
-  pub adversary : AdversaryObeys board proof.adversary
+-- the numbers at the start serve the claim, and each row obeys
+pub record BreaksNoRule (positions : Positions) (board : PlainBoard)
+    (proof : PlainProof) : Type 0 where
+  pub start_serves : Serves proof.labeller (positions.normal board.start) (wanted_of proof.claim)
+  pub start_below : StartIsBelow proof.adversary (positions.normal board.start) proof.claim
+  pub labeller : LabellerObeys positions board proof.labeller
+  pub adversary : AdversaryObeys positions board proof.adversary

@@ -13,6 +13,7 @@ use Rattle.proof_check.proofs.Cited.{only_memory}
 use Rattle.proof_text.specs.Proof.{PlainProof}
 use Rattle.proof_text.specs.Documents.{IsProof}
 use Rattle.proof_text.specs.ProofText.{proof_text}
+use Rattle.proof_text.specs.Positions.{configuration_positions}
 use Rattle.proof_text.specs.Rules.{BreaksNoRule}
 use Rattle.proof_text.proofs.Cited.{one_document, no_fault as faultless_document}
 use Rattle.positions.specs.Claim.{claim_of}
@@ -36,7 +37,7 @@ use Rattle.runs.specs.declared.verdicts.Verdict.{Verdict}
 use Rattle.runs.specs.declared.verdicts.Verdict.TheVariants.{Accepted, Refused, RefusedByClasses}
 
 -- the verdict on a document that breaks no rule
-verdict_of : (board : PlainBoard) (proof : PlainProof) (value : Value) (verdict : Verdict) → BreaksNoRule board proof
+verdict_of : (board : PlainBoard) (proof : PlainProof) (value : Value) (verdict : Verdict) → BreaksNoRule configuration_positions board proof
     → proof.claim ≡ claim_of value → IsVerdict board proof verdict
     → verdict ≡ Accepted (record { claim = claim_of value })
 verdict_of board proof value (Accepted shown) rules claim is = ap (λ c. Accepted (record { claim = c })) (is.0 ∙ claim)
@@ -54,8 +55,8 @@ module _ (board : PlainBoard) (value : Value) (text : List ℕ) (is_board : IsBo
       let start = is_board.start in
       let same : document ≡ proof = one_document board document proof is_board
       (is_formed board document start few found) is_proof (sym solved.text_is ∙ spelled) in
-      let rules : BreaksNoRule board proof =
-      subst (BreaksNoRule board) same (breaks_no_rule board document start found) in
+      let rules : BreaksNoRule configuration_positions board proof =
+      subst (BreaksNoRule configuration_positions board) same (breaks_no_rule board document start found) in
       let same_worth : found.value ≡ value =
       same_value board board.start found.value value found.has_value solved.has_value in
       let claim : proof.claim ≡ claim_of value =

@@ -6,6 +6,7 @@ use Rattle.positions.specs.declared.value.Value.{Value}
 use Rattle.proof_text.specs.Proof.{PlainProof}
 use Rattle.proof_text.specs.Documents.{IsProof}
 use Rattle.proof_text.specs.ProofText.{proof_text}
+use Rattle.proof_text.specs.Positions.{configuration_positions}
 use Rattle.proof_text.specs.Rules.{BreaksNoRule}
 use Rattle.strategies.specs.Meaning.{Means}
 
@@ -24,4 +25,4 @@ pub record ShowsValue (text : List ℕ) (value : Value) (written : List ℕ) : T
 pub record IsAccepted (text : List ℕ) (value : Value) (written : List ℕ) : Type 0 where
   pub shows : ShowsValue text value written
   pub is_proof : IsProof shows.board shows.document
-  pub rules : BreaksNoRule shows.board shows.document
+  pub rules : BreaksNoRule configuration_positions shows.board shows.document

@@ -7,12 +7,12 @@ use Rattle.board_text.specs.declared.fault.BoardKind.TheVariants as board_kinds
 use Rattle.proof_check.specs.ClassFaults.{IsFirstClassFault}
 use Rattle.proof_text.specs.Documents.{IsClassProof, IsProof}
 use Rattle.proof_text.specs.ProofText.{class_text, proof_text}
-use Rattle.proof_check.specs.ClassRules.{BreaksNoClassRule}
 use Rattle.classes.specs.Classes.{class_of}
 use Rattle.graphs.specs.declared.graph.Numbering.{Numbering}
 use Rattle.graphs.specs.declared.graph.Numbering.TheVariants.{Ordered, Classes}
 use Rattle.positions.specs.Claim.{Holds, Shows, HoldsAt}
 use Rattle.proof_text.specs.Proof.{PlainProof}
+use Rattle.proof_text.specs.Positions.{class_positions, configuration_positions}
 use Rattle.proof_text.specs.Rules.{BreaksNoRule}
 use Rattle.proof_check.specs.CheckFaults.{IsCheckFault}
 use Rattle.proof_check.specs.declared.fault.CheckFault.TheVariants as check_faults
@@ -29,7 +29,7 @@ use Rattle.runs.specs.declared.fault.RunFault.TheVariants.{Board, Memory}
 -- shows its claim, and refused with its first fault
 abbrev pub IsVerdict : PlainBoard → PlainProof → Verdict → Type 0
 IsVerdict board proof (Accepted shown) =
-    (shown.claim ≡ proof.claim) × BreaksNoRule board proof
+    (shown.claim ≡ proof.claim) × BreaksNoRule configuration_positions board proof
     × Shows board proof.labeller proof.adversary proof.claim
 IsVerdict board proof (Refused fault) =
     IsCheckFault board proof fault × (fault ≢ check_faults.Memory)
@@ -39,7 +39,7 @@ IsVerdict board proof (RefusedByClasses fault) = ⊥
 -- each start of the class; it is refused with its first fault
 abbrev pub IsClassVerdict : PlainBoard → PlainProof → Verdict → Type 0
 IsClassVerdict board proof (Accepted shown) =
-    (shown.claim ≡ proof.claim) × BreaksNoClassRule board proof × Holds board proof.claim
+    (shown.claim ≡ proof.claim) × BreaksNoRule (class_positions board.labels) board proof × Holds board proof.claim
     × ((configuration : List ℕ) → IsConfiguration board configuration
     → class_of configuration ≡ class_of board.start → HoldsAt board configuration proof.claim)
 IsClassVerdict board proof (Refused fault) = ⊥

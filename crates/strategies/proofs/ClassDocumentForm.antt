@@ -29,7 +29,7 @@ use Rattle.proof_text.specs.declared.class_proof.TheConstants.{MAX_CLASS_ROWS}
 use Rattle.proof_text.proofs.Cited.{arranged_is}
 use Rattle.strategies.specs.ClassDocument.{LeadsByClasses, IsLabellerClassRow, IsAdversaryClassRow}
 use Rattle.strategies.specs.ClassDocument.{IsClassDocumentOf, FitsFormat}
-use Rattle.strategies.proofs.ArrangedAgain.{arranged-again}
+use Rattle.proof_text.proofs.Cited.{arranged-again}
 use Rattle.strategies.proofs.EveryClass.{IsArrangedAt}
 use Rattle.strategies.proofs.FewValues.{few_values}
 use Rattle.strategies.proofs.KeptClassRules.{start_is, start_value, answered_is, requested_is}

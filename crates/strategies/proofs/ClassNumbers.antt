@@ -10,7 +10,7 @@ use Rattle.proof_text.proofs.Cited.{arranged_is}
 use Rattle.proof_text.proofs.Cited.{order-none, order-label, orders-below}
 use Rattle.proof_text.proofs.Cited.{places-few}
 use Rattle.strategies.specs.Inside.ReachedClasses.{place_of, class_numbered, number_of_class_at, IsClassNumber}
-use Rattle.strategies.proofs.ArrangedAgain.{arranged-again}
+use Rattle.proof_text.proofs.Cited.{arranged-again}
 
 place_of-order : (labels place : ℕ) → place_of labels (order_of labels place) ≡ place
 place_of-order labels place = elim (cases_eq place labels) [

@@ -22,10 +22,11 @@ use Rattle.strategies.proofs.BestRequests.{best_request}
 use Rattle.strategies.proofs.RowTurns.{Keeps, enough_left}
 use Rattle.strategies.proofs.DocumentRows.{each_number, answers_one}
 use Rattle.proof_text.specs.Arranged.{arranged}
-use Rattle.proof_check.specs.ClassRules.{MeetsClassRequests, LabellerObeysByClass, asked_pebble}
-use Rattle.proof_check.specs.ClassRules.{MeetsClassAnswers, AdversaryObeysByClass}
+use Rattle.proof_text.specs.Positions.{asked_pebble, class_positions}
+use Rattle.proof_text.specs.Rules.{MeetsRequests, LabellerObeys, MeetsAnswers, AdversaryObeys}
+use Rattle.proof_text.proofs.Cited.{asked_below}
 use Rattle.proof_text.proofs.Cited.{arranged_is}
-use Rattle.strategies.proofs.ArrangedAgain.{arranged-again}
+use Rattle.proof_text.proofs.Cited.{arranged-again}
 use Rattle.strategies.proofs.LikePebbles.{arranged-value, first-best}
 use Rattle.strategies.proofs.KeptClassRules.{keeps}
 use Rattle.strategies.proofs.ClassNumbers.{last_number, numbers-end}
@@ -135,7 +136,7 @@ module _ (board : PlainBoard) (wanted : Value) (labeller : AnswerRows board want
       }
 
   -- each row meets each request
-  meets : (row : AnswerRow) → IsRowFor board wanted row → MeetsClassRequests board rows row
+  meets : (row : AnswerRow) → IsRowFor board wanted row → MeetsRequests (class_positions board.labels) board rows row
   meets row is_row pebble below =
       let label = slice_index row.answers pebble in
       let best = is_row.best pebble below in
@@ -160,7 +161,7 @@ module _ (board : PlainBoard) (wanted : Value) (labeller : AnswerRows board want
             serves;
       }
 
-  pub labeller_obeys : LabellerObeysByClass board rows
+  pub labeller_obeys : LabellerObeys (class_positions board.labels) board rows
   labeller_obeys = λ k d low. meets (get_or rows k d) (labeller.each k d low)
 
 -- ---- the adversary's rows: all classes of a value up to the bound
@@ -231,9 +232,9 @@ module _ (board : PlainBoard) (most : ℕ) (adversary : RequestRows board most) 
       let one : number ≡ found.0.left = cc in
       record { row = found.0; among = found.1; at = found.2; below = omega (arith, one, low) }
 
-  meets_answers : (row : RequestRow) → IsRequestFor board most row → MeetsClassAnswers board requests row
+  meets_answers : (row : RequestRow) → IsRequestFor board most row → MeetsAnswers (class_positions board.labels) board requests row
   meets_answers row is_row = record {
-    asked = is_row.asked;
+    asks = asked_below row is_row.asked;
     each = λ label legal.
         let next : List ℕ = moved row.at (asked_pebble row) label in
         let is_next : IsConfiguration board next =
@@ -243,5 +244,5 @@ module _ (board : PlainBoard) (most : ℕ) (adversary : RequestRows board most) 
         listed_below next is_next less.0 row.left less.2 (omega (arith, below, is_row.few)) less.1;
   }
 
-  pub adversary_obeys : AdversaryObeysByClass board requests
+  pub adversary_obeys : AdversaryObeys (class_positions board.labels) board requests
   adversary_obeys = λ k d low. meets_answers (get_or requests k d) (adversary.each k d low)

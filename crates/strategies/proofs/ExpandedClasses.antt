@@ -20,7 +20,7 @@ use Rattle.proof_text.proofs.Cited.{class-arranged}
 use Rattle.strategies.specs.Inside.ReachedClasses.{class_numbered, number_of_class_at}
 use Rattle.strategies.specs.Inside.ReachedClasses.{ClassRequestLeads, IsClassAnswerStep, LegalLeads}
 use Rattle.strategies.specs.Inside.ReachedClasses.{AreExpandedBy}
-use Rattle.strategies.proofs.ArrangedAgain.{arranged-class}
+use Rattle.proof_text.proofs.Cited.{arranged-class}
 use Rattle.strategies.proofs.ClassNumbers.{class_numbered-number_at}
 use Rattle.strategies.proofs.LikePebbles.{same-value}
 

@@ -20,7 +20,9 @@ use Rattle.strategies.proofs.ValueOrder.{at_least, less_than_finite}
 use Rattle.strategies.proofs.BestAnswers.{lasts_after}
 use Rattle.strategies.proofs.RowTurns.{Keeps, enough_left, enough_at_start}
 use Rattle.proof_text.specs.Arranged.{arranged}
-use Rattle.proof_check.specs.ClassRules.{MeetsClassRequests, MeetsClassAnswers, BreaksNoClassRule, asked_pebble}
+use Rattle.proof_text.specs.Positions.{asked_pebble, class_positions}
+use Rattle.proof_text.specs.Rules.{MeetsRequests, MeetsAnswers, BreaksNoRule}
+use Rattle.proof_text.proofs.Cited.{asked_below}
 use Rattle.proof_text.proofs.Cited.{arranged_is}
 use Rattle.strategies.specs.ClassDocument.{LeadsByClasses, IsLabellerClassRow, IsAdversaryClassRow}
 use Rattle.strategies.specs.ClassDocument.{IsClassDocumentOf}
@@ -82,7 +84,7 @@ module _ (board : PlainBoard) (proof : PlainProof) (is_start : IsConfiguration b
       }
 
   -- each row meets each request
-  meets : (row : AnswerRow) → IsLabellerClassRow board is.value row → MeetsClassRequests board proof.labeller row
+  meets : (row : AnswerRow) → IsLabellerClassRow board is.value row → MeetsRequests (class_positions board.labels) board proof.labeller row
   meets row is_row pebble below =
       let label = slice_index row.answers pebble in
       let best = is_row.best pebble below in
@@ -131,9 +133,9 @@ module _ (board : PlainBoard) (proof : PlainProof) (is_start : IsConfiguration b
       }
 
   meets_answers : (row : RequestRow) → AsksAdversary is.value → IsAdversaryClassRow board row
-      → MeetsClassAnswers board proof.adversary row
+      → MeetsAnswers (class_positions board.labels) board proof.adversary row
   meets_answers row asks is_row = record {
-    asked = is_row.asked;
+    asks = asked_below row is_row.asked;
     each = λ label legal.
         let pebble : ℕ = asked_pebble row in
         let next : List ℕ = moved row.at pebble label in
@@ -156,7 +158,7 @@ module _ (board : PlainBoard) (proof : PlainProof) (is_start : IsConfiguration b
       listed_below (asks tt) [] start refl number (suc number) has (omega arith)
   start_below Forever has asks = tt
 
-  pub breaks_no_class_rule : BreaksNoClassRule board proof
+  pub breaks_no_class_rule : BreaksNoRule (class_positions board.labels) board proof
   breaks_no_class_rule = record {
     start_serves = subst (λ (claim : Claim). Serves proof.labeller start (wanted_of claim)) (sym is.claim)
         (λ wanted. listed [] start refl is.value start_value (wanted_of (claim_of is.value))

@@ -13,6 +13,7 @@ use Rattle.positions.specs.Claim.{Holds, claim_of}
 use Rattle.positions.specs.Table.{AnswerRow, RequestRow}
 use Rattle.positions.proofs.Cited.{moved_is_configuration, some_value, same_value}
 use Rattle.proof_text.specs.Proof.{PlainProof}
+use Rattle.proof_text.specs.Positions.{configuration_positions}
 use Rattle.proof_text.specs.Rules.{IsEnough, one_less, IsListedFor, Serves, MeetsRequests, IsListedBelow, MeetsAnswers}
 use Rattle.proof_text.specs.Rules.{wanted_of, StartIsBelow, BreaksNoRule}
 use Rattle.strategies.specs.Best.{IsLess}
@@ -20,7 +21,7 @@ use Rattle.strategies.specs.Document.{IsAnswerMove, IsRequestMove, LeadsBy, IsLa
 use Rattle.strategies.specs.Document.{AsksAdversary, IsDocumentOf, turns_of}
 use Rattle.strategies.proofs.ValueOrder.{at_least, less_than_finite}
 use Rattle.strategies.proofs.BestAnswers.{lasts_after}
-use Rattle.strategies.proofs.ReachedByMoves.{one_more, answers_lead_to, stays_forever}
+use Rattle.strategies.proofs.ReachedByMoves.{one_more, answers_lead_to, requests_lead_to, stays_forever}
 use Rattle.strategies.proofs.RowTurns.{Keeps, enough_left, enough_at_start}
 use Rattle.strategies.proofs.DocumentRows.{answer_row_for, request_row_for}
 
@@ -63,7 +64,7 @@ module _ (board : PlainBoard) (proof : PlainProof) (is_start : IsConfiguration b
       }
 
   -- each row meets each request
-  meets : (row : AnswerRow) → IsLabellerRow board is.value row → MeetsRequests board proof.labeller row
+  meets : (row : AnswerRow) → IsLabellerRow board is.value row → MeetsRequests configuration_positions board proof.labeller row
   meets row is_row pebble below =
       let label = slice_index row.answers pebble in
       let best = is_row.best pebble below in
@@ -109,14 +110,18 @@ module _ (board : PlainBoard) (proof : PlainProof) (is_start : IsConfiguration b
       }
 
   meets_answers : (row : RequestRow) → AsksAdversary is.value → IsAdversaryRow board row
-      → MeetsAnswers board proof.adversary row
-  meets_answers row asks is_row label legal =
-      let to = moved row.at row.request label in
-      let less = less_than_finite board row.left to row.at is_row.has_value (is_row.best.0.lowers label legal) in
-      listed_below asks _ to
-      (one_more (IsRequestMove board) board.start is_row.moves row.at row.request label is_row.reached
-      (record { best = is_row.best; legal = legal }))
-      less.0 row.left less.2 less.1
+      → MeetsAnswers configuration_positions board proof.adversary row
+  meets_answers row asks is_row = record {
+    asks = (let is_at = requests_lead_to board board.start is_row.moves row.at is_start is_row.reached in
+        omega (arith, is_at.each_pebble, is_row.best.0.is_pebble));
+    each = λ label legal.
+        let to = moved row.at row.request label in
+        let less = less_than_finite board row.left to row.at is_row.has_value (is_row.best.0.lowers label legal) in
+        listed_below asks _ to
+        (one_more (IsRequestMove board) board.start is_row.moves row.at row.request label is_row.reached
+        (record { best = is_row.best; legal = legal }))
+        less.0 row.left less.2 less.1;
+  }
 
   -- ---- the document
 
@@ -126,7 +131,7 @@ module _ (board : PlainBoard) (proof : PlainProof) (is_start : IsConfiguration b
       listed_below (asks tt) [] board.start refl number (suc number) has (omega arith)
   start_below Forever has asks = tt
 
-  pub breaks_no_rule : BreaksNoRule board proof
+  pub breaks_no_rule : BreaksNoRule configuration_positions board proof
   breaks_no_rule = record {
     start_serves = subst (λ (claim : Claim). Serves proof.labeller board.start (wanted_of claim)) (sym is.claim)
         (λ wanted. listed [] board.start refl is.value is.has_value (wanted_of (claim_of is.value))

@@ -42,7 +42,6 @@ pub mod JoinedLines
 pub mod LikePebbles
 pub mod ClassMoves
 pub mod KeptClassRules
-pub mod ArrangedAgain
 pub mod ClassNumbers
 pub mod EveryClass
 pub mod EveryClaim

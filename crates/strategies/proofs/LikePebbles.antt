@@ -19,9 +19,9 @@ use Rattle.positions.specs.Gaps.{AnswersGap}
 use Rattle.classes.specs.ClassGaps.{gap_at}
 use Rattle.classes.proofs.Cited.{class_of-own, class_of-set, put-cancel, legal-answers, value-of-class, with-number}
 use Rattle.proof_text.specs.Arranged.{arranged}
-use Rattle.proof_check.specs.ClassRules.{asked_pebble}
+use Rattle.proof_text.specs.Positions.{asked_pebble}
 use Rattle.proof_text.proofs.Cited.{class-arranged, arranged_is}
-use Rattle.proof_check.proofs.Cited.{asked_below}
+use Rattle.proof_text.proofs.Cited.{asked_below}
 
 -- configurations of one class have one value
 pub same-value : (board : PlainBoard) (one other : List ℕ) → IsConfiguration board one → IsConfiguration board other

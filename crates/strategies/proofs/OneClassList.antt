@@ -21,13 +21,13 @@ use Rattle.strategies.proofs.BestAnswers.{same_answer}
 use Rattle.strategies.proofs.BestRequests.{same_request}
 use Rattle.strategies.proofs.OneList.{IsAscending, behind_first, tail_ascends}
 use Rattle.proof_text.specs.Arranged.{arranged, order_number}
-use Rattle.proof_check.specs.ClassRules.{asked_pebble}
+use Rattle.proof_text.specs.Positions.{asked_pebble}
 use Rattle.proof_text.proofs.Cited.{arranged_is}
-use Rattle.proof_check.proofs.Cited.{asked_below}
+use Rattle.proof_text.proofs.Cited.{asked_below, asked_place}
 use Rattle.strategies.specs.ClassDocument.{AreExactlyClasses, IsAdversaryClassRow, IsClassDocumentOf}
 use Rattle.strategies.specs.ClassDocument.{IsLabellerClassRow, LeadsByClasses}
 use Rattle.strategies.specs.Inside.ClassSide.{AreOfReachedClasses, class_labeller_side, class_adversary_side}
-use Rattle.strategies.proofs.ArrangedAgain.{arranged-again}
+use Rattle.proof_text.proofs.Cited.{arranged-again}
 use Rattle.strategies.proofs.ClassMoves.{lead_to}
 use Rattle.strategies.proofs.ClassDocumentForm.{leads_arranged}
 
@@ -60,10 +60,7 @@ one_answer_row board start first second one other at =
 
 -- the asked pebble is on the asked place
 asked_there : (row : RequestRow) → Contains row.at row.request → get_or row.at (asked_pebble row) 0 ≡ row.request
-asked_there row among =
-    let test : ℕ → Bool = λ place. place == row.request in
-    eqb-true (get_or row.at (asked_pebble row) 0) row.request
-    (passes_at_first test row.at 0 (asked_below row among))
+asked_there row among = asked_place row (asked_below row among)
 
 finite_is : (a b : ℕ) → Finite a ≡ Finite b → a ≡ b
 finite_is a b same = cc

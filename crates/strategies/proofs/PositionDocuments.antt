@@ -8,28 +8,27 @@ use Rattle.positions.specs.Table.{AnswerRow, RequestRow}
 use Rattle.positions.specs.Game.{moved}
 use Rattle.proof_text.specs.Arranged.{arranged, order_number}
 use Rattle.proof_text.specs.Proof.{PlainProof}
-use Rattle.proof_check.proofs.Cited.{asked_below}
+use Rattle.proof_text.proofs.Cited.{asked_below, asked_is}
 use Rattle.strategies.specs.ClassDocument.{LeadsByClasses, IsLabellerClassRow, IsAdversaryClassRow, IsClassDocumentOf}
 use Rattle.strategies.specs.Document.{LeadsBy, IsLabellerRow, IsAdversaryRow, IsDocumentOf, IsRequestMove}
 use Rattle.strategies.specs.PositionDocument.{LeadsOver, IsLabellerRowOver, IsAdversaryRowOver, IsDocumentOver}
-use Rattle.symmetries.specs.Positions.{by_classes, by_configurations}
-use Rattle.symmetries.proofs.Versions.{asked_is}
+use Rattle.proof_text.specs.Positions.{class_positions, configuration_positions}
 
 module _ (labels : ℕ) (IsMove : List ℕ → ℕ → ℕ → Type 0) where
   leads_over : (from : List ℕ) (moves : List (ℕ × ℕ)) (to : List ℕ) → LeadsByClasses labels IsMove from moves to
-      → LeadsOver (by_classes labels) IsMove from moves to
+      → LeadsOver (class_positions labels) IsMove from moves to
   leads_over from [] to leads = leads
   leads_over from ((pebble, label) ∷ moves) to leads =
       (leads.0, leads_over (arranged labels (moved from pebble label)) moves to leads.1)
 
-  leads_by_classes : (from : List ℕ) (moves : List (ℕ × ℕ)) (to : List ℕ) → LeadsOver (by_classes labels) IsMove from moves to
+  leads_by_classes : (from : List ℕ) (moves : List (ℕ × ℕ)) (to : List ℕ) → LeadsOver (class_positions labels) IsMove from moves to
       → LeadsByClasses labels IsMove from moves to
   leads_by_classes from [] to leads = leads
   leads_by_classes from ((pebble, label) ∷ moves) to leads =
       (leads.0, leads_by_classes (arranged labels (moved from pebble label)) moves to leads.1)
 
 labeller_over : (board : PlainBoard) (start : Value) (row : AnswerRow) → IsLabellerClassRow board start row
-    → IsLabellerRowOver (by_classes board.labels) board start row
+    → IsLabellerRowOver (class_positions board.labels) board start row
 labeller_over board start row is = record {
   moves = is.moves;
   reached = leads_over board.labels _ _ is.moves row.at is.reached;
@@ -42,7 +41,7 @@ labeller_over board start row is = record {
 }
 
 labeller_by_classes : (board : PlainBoard) (start : Value) (row : AnswerRow)
-    → IsLabellerRowOver (by_classes board.labels) board start row → IsLabellerClassRow board start row
+    → IsLabellerRowOver (class_positions board.labels) board start row → IsLabellerClassRow board start row
 labeller_by_classes board start row is = record {
   moves = is.moves;
   reached = leads_by_classes board.labels _ _ is.moves row.at is.reached;
@@ -55,7 +54,7 @@ labeller_by_classes board start row is = record {
 }
 
 adversary_over : (board : PlainBoard) (row : RequestRow) → IsAdversaryClassRow board row
-    → IsAdversaryRowOver (by_classes board.labels) board row
+    → IsAdversaryRowOver (class_positions board.labels) board row
 adversary_over board row is = record {
   moves = is.moves;
   reached = leads_over board.labels _ _ is.moves row.at is.reached;
@@ -64,7 +63,7 @@ adversary_over board row is = record {
   best = is.best;
 }
 
-adversary_by_classes : (board : PlainBoard) (row : RequestRow) → IsAdversaryRowOver (by_classes board.labels) board row
+adversary_by_classes : (board : PlainBoard) (row : RequestRow) → IsAdversaryRowOver (class_positions board.labels) board row
     → IsAdversaryClassRow board row
 adversary_by_classes board row is = record {
   moves = is.moves;
@@ -78,12 +77,12 @@ adversary_by_classes board row is = record {
 
 module _ (IsMove : List ℕ → ℕ → ℕ → Type 0) where
   leads_plainly : (from : List ℕ) (moves : List (ℕ × ℕ)) (to : List ℕ) → LeadsBy IsMove from moves to
-      → LeadsOver by_configurations IsMove from moves to
+      → LeadsOver configuration_positions IsMove from moves to
   leads_plainly from [] to leads = leads
   leads_plainly from ((pebble, label) ∷ moves) to leads =
       (leads.0, leads_plainly (moved from pebble label) moves to leads.1)
 
-  leads_back : (from : List ℕ) (moves : List (ℕ × ℕ)) (to : List ℕ) → LeadsOver by_configurations IsMove from moves to
+  leads_back : (from : List ℕ) (moves : List (ℕ × ℕ)) (to : List ℕ) → LeadsOver configuration_positions IsMove from moves to
       → LeadsBy IsMove from moves to
   leads_back from [] to leads = leads
   leads_back from ((pebble, label) ∷ moves) to leads =
@@ -96,7 +95,7 @@ module _ (IsMove : List ℕ → ℕ → ℕ → Type 0) where
       as_long (moved from pebble label) moves to leads.1 ∙ length-set from pebble label
 
 plain_labeller : (board : PlainBoard) (start : Value) (row : AnswerRow)
-    → IsLabellerRow board start row ↔ IsLabellerRowOver by_configurations board start row
+    → IsLabellerRow board start row ↔ IsLabellerRowOver configuration_positions board start row
 plain_labeller board start row = (
   λ is. record {
     moves = is.moves;
@@ -121,7 +120,7 @@ plain_labeller board start row = (
 )
 
 plain_adversary : (board : PlainBoard) (row : RequestRow) → IsConfiguration board board.start
-    → IsAdversaryRow board row ↔ IsAdversaryRowOver by_configurations board row
+    → IsAdversaryRow board row ↔ IsAdversaryRowOver configuration_positions board row
 plain_adversary board row start = (
   λ is.
       let long = as_long (IsRequestMove board) board.start is.moves row.at is.reached in
@@ -143,7 +142,7 @@ plain_adversary board row start = (
 
 -- the document of a board is its document over configurations
 pub document_over : (board : PlainBoard) (proof : PlainProof) → IsConfiguration board board.start
-    → IsDocumentOf board proof ↔ IsDocumentOver by_configurations (rank_of board) board proof
+    → IsDocumentOf board proof ↔ IsDocumentOver configuration_positions (rank_of board) board proof
 document_over board proof start = (
   λ is. record {
     value = is.value;
@@ -192,7 +191,7 @@ document_over board proof start = (
 -- the document by classes of a board is its document over classes
 pub class_document_over : (board : PlainBoard) (proof : PlainProof)
     → IsClassDocumentOf board proof
-    ↔ IsDocumentOver (by_classes board.labels) (order_number board.labels) board proof
+    ↔ IsDocumentOver (class_positions board.labels) (order_number board.labels) board proof
 class_document_over board proof = (
   λ is. record {
     value = is.value;

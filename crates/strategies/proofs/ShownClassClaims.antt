@@ -30,10 +30,11 @@ use Rattle.proof_text.specs.RowForm.{AreRows}
 use Rattle.proof_text.specs.ClassProof.{IsClassRequestRow}
 use Rattle.proof_text.specs.Documents.{IsClassProof}
 use Rattle.proof_text.specs.Versions.{answers_by_classes, requests_by_classes}
-use Rattle.proof_check.specs.ClassRules.{BreaksNoClassRule}
+use Rattle.proof_text.specs.Positions.{class_positions}
+use Rattle.proof_text.specs.Rules.{BreaksNoRule}
 use Rattle.proof_text.specs.declared.class_proof.TheConstants.{MAX_CLASS_ROWS}
 use Rattle.proof_check.proofs.Cited.{start_claim_holds}
-use Rattle.strategies.proofs.ArrangedAgain.{one-arranged}
+use Rattle.proof_text.proofs.Cited.{one-arranged}
 use Rattle.strategies.proofs.EveryClass.{IsArrangedAt, RowsBelow}
 use Rattle.strategies.proofs.EveryClaim.{AnswerRows, RequestRows, IsRowFor, IsRequestFor, answer_rows}
 use Rattle.strategies.proofs.EveryClaim.{request_rows}
@@ -192,7 +193,7 @@ no_rows board IsRow at = record {
 
 abbrev Shown : PlainBoard → Claim → Type 0
 Shown board claim =
-    (proof : PlainProof) × IsClassProof board proof × BreaksNoClassRule board proof × (proof.claim ≡ claim)
+    (proof : PlainProof) × IsClassProof board proof × BreaksNoRule (class_positions board.labels) board proof × (proof.claim ≡ claim)
 
 module _ (board : PlainBoard) (is : IsConfiguration board board.start) (few : class_count board ≤ MAX_CLASS_ROWS) where
   -- the start is served the number by rows for it
@@ -312,7 +313,7 @@ module _ (board : PlainBoard) (is : IsConfiguration board board.start) (few : cl
 pub claims_shown : (board : PlainBoard) (claim : Claim) → IsConfiguration board board.start
     → class_count board ≤ MAX_CLASS_ROWS → IsClaim claim
     → Holds board claim
-    ↔ ((proof : PlainProof) × IsClassProof board proof × BreaksNoClassRule board proof × (proof.claim ≡ claim))
+    ↔ ((proof : PlainProof) × IsClassProof board proof × BreaksNoRule (class_positions board.labels) board proof × (proof.claim ≡ claim))
 claims_shown board claim is few small = (
   shown board is few claim small,
   λ (proof, form, rules, same). subst (Holds board) same (start_claim_holds board proof is rules),

@@ -14,7 +14,7 @@ use Rattle.strategies.specs.ClassDocument.{LeadsByClasses}
 use Rattle.strategies.specs.Inside.ReachedClasses.{class_numbered, number_of_class_at, IsClassNumber}
 use Rattle.strategies.specs.Inside.ReachedClasses.{ClassAnswerLeads, ClassRequestLeads}
 use Rattle.strategies.specs.Inside.ReachedClasses.{IsClassReachedBy, AreClassNumbersOf}
-use Rattle.strategies.proofs.ArrangedAgain.{arranged-again}
+use Rattle.proof_text.proofs.Cited.{arranged-again}
 use Rattle.strategies.proofs.ClassMoves.{one_more}
 use Rattle.strategies.proofs.ClassNumbers.{class_numbered-order, number_of_class_at-is, class_numbered-number_at}
 

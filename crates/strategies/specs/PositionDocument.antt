@@ -12,7 +12,7 @@ use Rattle.positions.specs.Table.{AnswerRow, RequestRow}
 use Rattle.proof_text.specs.Proof.{PlainProof}
 use Rattle.strategies.specs.Best.{IsLess, IsBestAnswer, IsBestRequest}
 use Rattle.strategies.specs.Document.{IsAnswerMove, IsRequestMove, turns_of, AsksAdversary}
-use Rattle.symmetries.specs.Positions.{Positions}
+use Rattle.proof_text.specs.Positions.{Positions}
 
 -- these moves of pebbles to labels, each of the kind, lead from one configuration to another, where
 -- the normal places are taken after each move

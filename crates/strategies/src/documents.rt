@@ -7,6 +7,7 @@ ghost use Rattle.positions.specs.Ranks.{configurations};
 ghost use Rattle.positions.specs.Value.{HasValue};
 ghost use Rattle.proof_text.specs.Documents.{IsDocument};
 ghost use Rattle.proof_text.specs.Proof.{answer_rows, plain_proof, request_rows};
+ghost use Rattle.proof_text.specs.Positions.{configuration_positions};
 ghost use Rattle.proof_text.specs.Rules.{BreaksNoRule};
 ghost use Rattle.strategies.specs.Document.{IsDocumentOf};
 ghost use Rattle.strategies.specs.Inside.Side.{AreAdversaryRows, AreSection, labeller_side};
@@ -30,7 +31,7 @@ impl BestMoves<'_> {
         ensures document { IfOk result
             (λ proof. IsDocumentOf self.now (plain_proof self.now proof)) }
         ensures form { IfOk result (IsDocument self.now) }
-        ensures rules { IfOk result (λ proof. BreaksNoRule self.now (plain_proof self.now proof)) }
+        ensures rules { IfOk result (λ proof. BreaksNoRule configuration_positions self.now (plain_proof self.now proof)) }
         ensures shows { IfOk result (λ proof. Shows self.now
             (answer_rows self.now proof.labeller.items)
             (request_rows self.now proof.adversary.items) proof.claim) }
@@ -48,7 +49,7 @@ pub fn document_by<M: Moves>(alloc: Global, moves: &M, space: &Space) -> Result<
         IsDocumentOf (M.board moves.now) (plain_proof (M.board moves.now) proof)) }
     ensures form { IfOk result (IsDocument (M.board moves.now)) }
     ensures rules { IfOk result (λ proof.
-        BreaksNoRule (M.board moves.now) (plain_proof (M.board moves.now) proof)) }
+        BreaksNoRule configuration_positions (M.board moves.now) (plain_proof (M.board moves.now) proof)) }
     ensures shows { IfOk result (λ proof. Shows (M.board moves.now)
         (answer_rows (M.board moves.now) proof.labeller.items)
         (request_rows (M.board moves.now) proof.adversary.items) proof.claim) }
@@ -79,7 +80,7 @@ impl RankMoves<'_> {
         requires adversary { AreAdversaryRows self.now value adversary.items }
         ensures document { IsDocumentOf self.now (plain_proof self.now result) }
         ensures form { IsDocument self.now result }
-        ensures rules { BreaksNoRule self.now (plain_proof self.now result) }
+        ensures rules { BreaksNoRule configuration_positions self.now (plain_proof self.now result) }
         ensures shows { Shows self.now (answer_rows self.now result.labeller.items)
             (request_rows self.now result.adversary.items) result.claim }
     {
@@ -99,7 +100,7 @@ pub fn document(alloc: Global, board: &Board, values: &Values) -> Result<Proof, 
     requires same_board { values.now ≡ board.now }
     ensures document { IfOk result (λ proof. IsDocumentOf board.now (plain_proof board.now proof)) }
     ensures form { IfOk result (IsDocument board.now) }
-    ensures rules { IfOk result (λ proof. BreaksNoRule board.now (plain_proof board.now proof)) }
+    ensures rules { IfOk result (λ proof. BreaksNoRule configuration_positions board.now (plain_proof board.now proof)) }
     ensures shows { IfOk result (λ proof. Shows board.now
         (answer_rows board.now proof.labeller.items)
         (request_rows board.now proof.adversary.items) proof.claim) }

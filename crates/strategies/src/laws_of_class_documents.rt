@@ -10,11 +10,11 @@ ghost use Rattle.positions.specs.declared.value.Value.TheVariants.{Finite};
 ghost use Rattle.proof_text.specs.Proof.{PlainProof, IsClaim};
 ghost use Rattle.proof_text.specs.Documents.{IsClassProof};
 ghost use Rattle.proof_text.specs.ProofText.{class_text};
-ghost use Rattle.proof_check.specs.ClassRules.{BreaksNoClassRule};
+ghost use Rattle.proof_text.specs.Positions.{class_positions, configuration_positions};
+ghost use Rattle.proof_text.specs.Rules.{BreaksNoRule};
 ghost use Rattle.proof_text.specs.Arranged.{order_number};
 ghost use Rattle.strategies.specs.ClassDocument.{IsClassDocumentOf, FitsFormat};
 ghost use Rattle.strategies.specs.PositionDocument.{IsDocumentOver};
-ghost use Rattle.symmetries.specs.Positions.{by_classes, by_configurations};
 ghost use Rattle.strategies.specs.Document.{IsDocumentOf};
 ghost use Rattle.positions.specs.Ranks.{rank_of};
 
@@ -23,7 +23,7 @@ use proof_text::{MAX_CLASS_ROWS, MOST_TURNS};
 /// The document by classes of a board breaks no rule of checking.
 pub fn class_documents_break_no_rule()
     ensures { (board : PlainBoard) → (proof : PlainProof) → IsConfiguration board board.start
-        → IsClassDocumentOf board proof → BreaksNoClassRule board proof }
+        → IsClassDocumentOf board proof → BreaksNoRule (class_positions board.labels) board proof }
 {}
 
 /// The document by classes of a board is one as the format has it, if it fits there. It does if the
@@ -46,9 +46,9 @@ pub fn class_documents_have_the_form()
 pub fn both_documents_are_documents_over_positions()
     ensures plain { (board : PlainBoard) → (proof : PlainProof) → IsConfiguration board board.start
         → IsDocumentOf board proof
-        ↔ IsDocumentOver by_configurations (rank_of board) board proof }
+        ↔ IsDocumentOver configuration_positions (rank_of board) board proof }
     ensures classes { (board : PlainBoard) → (proof : PlainProof) → IsClassDocumentOf board proof
-        ↔ IsDocumentOver (by_classes board.labels) (order_number board.labels) board proof }
+        ↔ IsDocumentOver (class_positions board.labels) (order_number board.labels) board proof }
 {}
 
 /// Each board has a document by classes.
@@ -77,6 +77,6 @@ pub fn finite_values_are_less_than_the_number_of_gaps()
 pub fn claims_hold_where_class_documents_show_them()
     ensures { (board : PlainBoard) → (claim : ClaimData) → IsConfiguration board board.start
         → class_count board ≤ MAX_CLASS_ROWS → IsClaim claim → Holds board claim
-        ↔ ((proof : PlainProof) × IsClassProof board proof × BreaksNoClassRule board proof
+        ↔ ((proof : PlainProof) × IsClassProof board proof × BreaksNoRule (class_positions board.labels) board proof
         × (proof.claim ≡ claim)) }
 {}

@@ -9,6 +9,7 @@ ghost use Rattle.positions.specs.Value.{HasValue};
 ghost use Rattle.positions.specs.declared.value.Value.{Value as ValueData};
 ghost use Rattle.proof_text.specs.Proof.{PlainProof};
 ghost use Rattle.proof_text.specs.Documents.{IsProof};
+ghost use Rattle.proof_text.specs.Positions.{configuration_positions};
 ghost use Rattle.proof_text.specs.Rules.{BreaksNoRule};
 ghost use Rattle.strategies.specs.Document.{IsLabellerRow, IsAdversaryRow, IsDocumentOf};
 ghost use Rattle.strategies.specs.Meaning.{Means};
@@ -49,7 +50,7 @@ pub fn documents_mean_their_value()
 pub fn documents_break_no_rule()
     ensures { (board : PlainBoard) → (proof : PlainProof) → IsConfiguration board board.start
         → IsDocumentOf board proof
-        → BreaksNoRule board proof }
+        → BreaksNoRule configuration_positions board proof }
 {}
 
 /// The document of a board with few configurations is one as the format has it.

@@ -1,7 +1,7 @@
 use Rattle.std.proofs.Common.{refl}
 use Rattle.proof_text.specs.Proof.{plain_proof}
 use Rattle.proof_check.proofs.ShownClaims.{shows}
-use Rattle.proof_check.proofs.DocumentFaults.{only_memory, names_ranks}
+use Rattle.proof_check.proofs.RankFaults.{only_memory, names_ranks}
 use Rattle.proof_check.proofs.checking.check.Goals as goal
 
 pub returns-in-Some-clause-accepts : goal.returns-in-Some-clause-accepts

@@ -2,11 +2,11 @@ use Rattle.std.proofs.Common.{◌≡◌, ℕ, suc, ◌-◌, ◌<◌, List, ap, s
 use Rattle.positions.specs.Game.{moved}
 use Rattle.positions.specs.Table.{RequestRow}
 use Rattle.proof_text.specs.Rules.{IsListedBelow}
-use Rattle.proof_text.specs.Arranged.{arranged}
 use Rattle.proof_text.specs.ClassProof.{class_request_row, class_request_rows}
-use Rattle.proof_check.specs.ClassRules.{asked_pebble}
+use Rattle.proof_text.specs.Positions.{asked_pebble}
+use Rattle.symmetries.specs.Elements.{least_by}
 use Rattle.proof_check.specs.declared.class_fault.ClassFault.TheVariants as faults
-use Rattle.proof_check.proofs.CheckedRows.{result_is, arranged_result}
+use Rattle.proof_check.proofs.CheckedRows.{result_is, moved_result}
 use Rattle.proof_check.proofs.RowTests.{match_then}
 use Rattle.proof_check.proofs.class_adversary.label_fault.Goals as goal
 
@@ -22,18 +22,19 @@ returns-then-row-eq0 c = inl (c.if-row-eq0.true, ap (λ at. faults.NotStuck at c
 pub returns : goal.returns
 returns c =
     let board = c.args.checker.now.board.now in
+    let group = c.args.checker.now.group.now in
     let rows : List RequestRow = class_request_rows board c.args.checker.now.proof.now.adversary.items in
     let row : RequestRow = class_request_row board c.args.row.now in
     let pebble = c.args.pebble in
     let label = c.args.label in
-    let result = arranged_result board.labels board.pebbles pebble label c.args.row.now.at c.requires.is_pebble in
+    let result = moved_result (least_by board.labels group) board.pebbles pebble label c.args.row.now.at c.requires.is_pebble in
     let some : 0 < row.left = omega (arith, c.if-row-eq0.false) in
     let one : suc (row.left - 1) ≡ row.left = omega (arith, some) in
-    let asked : arranged board.labels (moved row.at pebble label)
-    ≡ arranged board.labels (moved row.at (asked_pebble row) label) =
-    ap (λ (p : ℕ). arranged board.labels (moved row.at p label)) c.requires.pebble in
+    let asked : least_by board.labels group (moved row.at pebble label)
+    ≡ least_by board.labels group (moved row.at (asked_pebble row) label) =
+    ap (λ (p : ℕ). least_by board.labels group (moved row.at p label)) c.requires.pebble in
     match_then c.number_fault.result
     (λ listed _. subst (λ l. IsListedBelow rows l row.left) asked
-    (subst (IsListedBelow rows (arranged board.labels (moved row.at pebble label))) one listed))
+    (subst (IsListedBelow rows (least_by board.labels group (moved row.at pebble label))) one listed))
     (λ fault wrong. inr (some, rw (one, c.requires.at, asked) at wrong))
     (rw (c.pebbles-pebbles.ensures.value, result) at c.number_fault.ensures)

@@ -1,6 +1,6 @@
 use Rattle.std.proofs.Common.{ℕ, List, suc, refl, inl, arith}
 use Rattle.std.proofs.lemmas.Bool.{ltb-true, ltb-false}
-use Rattle.proof_text.specs.Arranged.{arranged}
+use Rattle.symmetries.specs.Elements.{least_by}
 use Rattle.proof_text.specs.ClassProof.{class_request_row, class_request_rows}
 use Rattle.proof_check.proofs.CheckedRows.{adversary_in_order, none_for, row_for}
 use Rattle.proof_check.proofs.RowTests.{number_tested}
@@ -9,12 +9,12 @@ use Rattle.proof_check.proofs.class_adversary.number_fault.Goals as goal
 pub find-requires-clause-rows : goal.find-requires-clause-rows
 find-requires-clause-rows c =
     rw c.deref.ensures.value
-    (adversary_in_order c.args.checker.now.board.now c.args.checker.now.proof.now c.requires.document)
+    (adversary_in_order c.args.checker.now.board.now c.args.checker.now.proof.now c.requires.ready.document)
 
 pub returns-in_default : goal.returns-in_default
 returns-in_default c =
     let board = c.args.checker.now.board.now in
-    let wanted : List ℕ = arranged board.labels c.args.places.now in
+    let wanted : List ℕ = least_by board.labels c.args.checker.now.group.now c.args.places.now in
     inl (
       none_for board (class_request_row board) (λ r. r.at) (λ r. r.at)
           (λ r. refl) c.args.checker.now.proof.now.adversary.items wanted
@@ -25,7 +25,7 @@ returns-in_default c =
 pub returns : goal.returns
 returns c =
     let board = c.args.checker.now.board.now in
-    let wanted : List ℕ = arranged board.labels c.args.places.now in
+    let wanted : List ℕ = least_by board.labels c.args.checker.now.group.now c.args.places.now in
     let rows = c.args.checker.now.proof.now.adversary.items in
     let row = class_request_row board c.in-Some.row.now in
     let found = row_for board (class_request_row board) (λ r. r.at) (λ r. r.at) (λ r. refl) rows wanted

@@ -1,3 +1,4 @@
+use Rattle.proof_text.specs.Arranged.{arranged}
 use Rattle.proof_text.specs.ClassProof.{plain_class_proof}
 use Rattle.proof_check.proofs.ClassClaims.{claim_holds, start_claim_holds}
 use Rattle.proof_check.proofs.ClassDocumentFaults.{no_fault, names_class}
@@ -5,13 +6,13 @@ use Rattle.proof_check.proofs.class_checking.check_classes.Goals as goal
 
 pub returns-in-Some-clause-accepts : goal.returns-in-Some-clause-accepts
 returns-in-Some-clause-accepts g c =
-    λ rules. absurd (no_fault c.args.board.now
+    λ rules. absurd (no_fault (arranged c.args.board.now.labels) c.args.board.now
     (plain_class_proof c.args.board.now c.args.proof.now) c.in-Some.fault rules
     c.in-Some.ensures.fault)
 
 pub returns-in-Some-clause-named : goal.returns-in-Some-clause-named
 returns-in-Some-clause-named g c =
-    names_class c.args.board.now
+    names_class (arranged c.args.board.now.labels) c.args.board.now
     (plain_class_proof c.args.board.now c.args.proof.now) c.in-Some.fault c.requires.document.is_proof
     c.in-Some.ensures.fault
 

@@ -1,7 +1,8 @@
 use Rattle.std.proofs.Common.{rules, ◌<◌, length, slice_index, ap, inl, inr}
 use Rattle.std.proofs.lemmas.Bool.{iff_false}
+use Rattle.symmetries.specs.Elements.{least_by}
 use Rattle.proof_check.specs.declared.class_fault.ClassFault.TheVariants as faults
-use Rattle.proof_check.proofs.CheckedRows.{result_is, arranged_result}
+use Rattle.proof_check.proofs.CheckedRows.{result_is, moved_result}
 use Rattle.proof_check.proofs.RowTests.{answer_is, match_then}
 use Rattle.proof_check.proofs.class_labeller.answer_fault.Goals as goal
 
@@ -36,7 +37,7 @@ returns c =
     let fits : pebble < length row.take = search rules in
     let answer = answer_is board.pebbles row.take pebble c.requires.pebble fits in
     let legal = (rw c.pebbles-pebbles.ensures.value at c.is_legal.ensures).0 c.if-not-is_legal.false in
-    let result = arranged_result board.labels board.pebbles pebble label row.at c.requires.pebble in
+    let result = moved_result (least_by board.labels c.args.checker.now.group.now) board.pebbles pebble label row.at c.requires.pebble in
     match_then c.turns_fault.result
     (λ serves. record { label = label; answer = answer; legal = legal; serves = serves })
     (λ fault wrong. (label, answer, inr (legal, wrong.0, rw c.requires.at at wrong.1)))

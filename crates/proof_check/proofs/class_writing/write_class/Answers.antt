@@ -2,7 +2,7 @@ use Rattle.std.proofs.Common.{◌≡◌, ◌++◌, ◌∙◌, List, ℕ, take, s
 use Rattle.std.specs.Prelude.{OnOk}
 use Rattle.board_text.specs.PlaceForms.{spaced_places}
 use Rattle.proof_text.specs.Arranged.{arranged_at}
-use Rattle.proof_check.proofs.NamedClasses.{class_at_number}
+use Rattle.proof_text.proofs.Cited.{class_at_number}
 use Rattle.proof_check.proofs.class_writing.write_class.Goals as goal
 
 pub returns : goal.returns

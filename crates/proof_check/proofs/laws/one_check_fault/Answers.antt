@@ -1,4 +1,4 @@
-use Rattle.proof_check.proofs.DocumentFaults.{one_fault}
+use Rattle.proof_check.proofs.RankFaults.{one_fault}
 use Rattle.proof_check.proofs.laws.one_check_fault.Goals as goal
 
 pub returns : goal.returns

@@ -1,8 +1,10 @@
-use Rattle.std.proofs.Common.{ℕ, ◌<◌}
+use Rattle.std.proofs.Common.{ℕ, ◌<◌, arith}
 use Rattle.board_text.specs.declared.board.TheConstants.{MAX_LABELS}
 use Rattle.positions.specs.Game.{Legal}
 use Rattle.positions.specs.Ranks.{configuration_at}
+use Rattle.positions.proofs.Cited.{configuration_at_is}
 use Rattle.proof_text.specs.Proof.{request_row}
+use Rattle.proof_text.specs.Positions.{configuration_positions}
 use Rattle.proof_text.specs.Rules.{MeetsAnswer}
 use Rattle.proof_check.proofs.AdversarySteps.{legal_few, none_met, next_legal, before_next, met_on, all_met}
 use Rattle.proof_check.proofs.adversary.AdversaryRowCheckedRowCheckerCheckFault.fault.Goals as goal
@@ -13,7 +15,7 @@ loop-label-init c =
     let at = c.args.self.now.at in
     let ask = c.args.self.now.ask in
     let IsLegal : ℕ → Type 0 = Legal v.board (configuration_at v.board at) ask in
-    let Meets : ℕ → Type 0 = MeetsAnswer v.board v.proof.adversary (request_row v.board c.args.self.now) in
+    let Meets : ℕ → Type 0 = MeetsAnswer configuration_positions v.board v.proof.adversary (request_row v.board c.args.self.now) in
     none_met IsLegal Meets c.answers.result c.walk-answers.result c.walk-answers.ensures
     (rw c.moves-moves.ensures at c.answers.ensures.bits)
 
@@ -23,7 +25,7 @@ label_fault-requires-clause-legal c =
     let at = c.args.self.now.at in
     let ask = c.args.self.now.ask in
     let IsLegal : ℕ → Type 0 = Legal v.board (configuration_at v.board at) ask in
-    let Meets : ℕ → Type 0 = MeetsAnswer v.board v.proof.adversary (request_row v.board c.args.self.now) in
+    let Meets : ℕ → Type 0 = MeetsAnswer configuration_positions v.board v.proof.adversary (request_row v.board c.args.self.now) in
     let few : (label : ℕ) → IsLegal label → label < MAX_LABELS =
     legal_few v.board c.moves-moves.result at ask c.moves-moves.ensures c.answers.ensures.few in
     let skipped : (label : ℕ) → ¬ IsLegal label → Meets label = λ label not legal. absurd (not legal) in
@@ -36,7 +38,7 @@ returns-in-Some-label_fault-clause-fault c =
     let at = c.args.self.now.at in
     let ask = c.args.self.now.ask in
     let IsLegal : ℕ → Type 0 = Legal v.board (configuration_at v.board at) ask in
-    let Meets : ℕ → Type 0 = MeetsAnswer v.board v.proof.adversary (request_row v.board c.args.self.now) in
+    let Meets : ℕ → Type 0 = MeetsAnswer configuration_positions v.board v.proof.adversary (request_row v.board c.args.self.now) in
     let few : (label : ℕ) → IsLegal label → label < MAX_LABELS =
     legal_few v.board c.moves-moves.result at ask c.moves-moves.ensures c.answers.ensures.few in
     let skipped : (label : ℕ) → ¬ IsLegal label → Meets label = λ label not legal. absurd (not legal) in
@@ -55,7 +57,7 @@ loop-label-preserved c =
     let at = c.args.self.now.at in
     let ask = c.args.self.now.ask in
     let IsLegal : ℕ → Type 0 = Legal v.board (configuration_at v.board at) ask in
-    let Meets : ℕ → Type 0 = MeetsAnswer v.board v.proof.adversary (request_row v.board c.args.self.now) in
+    let Meets : ℕ → Type 0 = MeetsAnswer configuration_positions v.board v.proof.adversary (request_row v.board c.args.self.now) in
     let few : (label : ℕ) → IsLegal label → label < MAX_LABELS =
     legal_few v.board c.moves-moves.result at ask c.moves-moves.ensures c.answers.ensures.few in
     let skipped : (label : ℕ) → ¬ IsLegal label → Meets label = λ label not legal. absurd (not legal) in
@@ -69,8 +71,12 @@ returns-clause-fault c =
     let at = c.args.self.now.at in
     let ask = c.args.self.now.ask in
     let IsLegal : ℕ → Type 0 = Legal v.board (configuration_at v.board at) ask in
-    let Meets : ℕ → Type 0 = MeetsAnswer v.board v.proof.adversary (request_row v.board c.args.self.now) in
+    let Meets : ℕ → Type 0 = MeetsAnswer configuration_positions v.board v.proof.adversary (request_row v.board c.args.self.now) in
     let few : (label : ℕ) → IsLegal label → label < MAX_LABELS =
     legal_few v.board c.moves-moves.result at ask c.moves-moves.ensures c.answers.ensures.few in
     let skipped : (label : ℕ) → ¬ IsLegal label → Meets label = λ label not legal. absurd (not legal) in
-    all_met IsLegal Meets few skipped c.loop-label.answers c.loop-label.invariant c.in_default.ensures
+    let is = configuration_at_is v.board at c.requires.is_rank in
+    record {
+      asks = omega (arith, is.each_pebble, c.requires.is_pebble);
+      each = all_met IsLegal Meets few skipped c.loop-label.answers c.loop-label.invariant c.in_default.ensures;
+    }

@@ -1,4 +1,4 @@
--- Classes told by their numbers.
+-- Arranged places, told by their numbers.
 use Rattle.std.proofs.Common.{◌≡◌, ℕ, suc, ◌+◌, ◌-◌, cond, List, [], ◌∷◌, length, map, refl, sym, ap, ◌∙◌, arith}
 use Rattle.std.proofs.Common.{inl, inr, eq-eqb, ne_eqb}
 use Rattle.std.proofs.lemmas.Bool.{cases_eq}
@@ -7,7 +7,8 @@ use Rattle.board_text.specs.PlainBoard.{PlainBoard, IsConfiguration}
 use Rattle.positions.specs.Ranks.{digits_of}
 use Rattle.positions.proofs.Digits.{digits_of-number_of}
 use Rattle.proof_text.specs.Arranged.{order_of, order_number, place_in_order, arranged_at}
-use Rattle.proof_text.proofs.Cited.{order-none, order-label, orders-below, places-few}
+use Rattle.proof_text.proofs.NumberedPlaces.{places-few}
+use Rattle.proof_text.proofs.OrderNumbers.{order-none, order-label, orders-below}
 
 -- ---- places
 
