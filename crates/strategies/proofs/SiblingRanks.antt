@@ -19,7 +19,7 @@ use Rattle.classes.specs.Numbers.{class_number, ways}
 use Rattle.classes.proofs.Cited.{all-remove, class-push, falls-class_of, is-below, length-class_of, remove-last}
 use Rattle.classes.proofs.Cited.{remove-past}
 use Rattle.gap_values.proofs.Cited.{gap-is}
-use Rattle.strategies.specs.Inside.Walks.{AreGapNumbers, AreRests, IsGapWalk, others_held}
+use Rattle.strategies.specs.Inside.Walks.{AreGapNumbers, AreNumberRows, IsGapWalk, others_held}
 
 -- ---- ranks
 
@@ -151,7 +151,7 @@ module _ (board : PlainBoard) (held : List ℕ) (is : IsConfiguration board held
       subst (λ n. n < ways (board.pebbles - 1) (places board)) (sym same)
       (is-below (places board) (board.pebbles - 1) (gap_at held pebble) (gap-is board held is pebble low))
 
-  module _ (rests : List ℕ) (are : AreRests held board.pebbles rests) where
+  module _ (rests : List ℕ) (are : AreNumberRows held board.pebbles rests) where
     abbrev entry : ℕ → ℕ
     entry pebble = get_or rests (6 * (board.pebbles - 1) + pebble) 0
 
@@ -254,11 +254,11 @@ module _ (board : PlainBoard) (held : List ℕ) (is : IsConfiguration board held
 module _ (held : List ℕ) where
   -- the rows so far, and in the next one the entries of the pebbles below a bound
   pub record IsRowBelow (size bound : ℕ) (rests : List ℕ) : Type 0 where
-    pub before : AreRests held (size + 1) rests
+    pub before : AreNumberRows held (size + 1) rests
     pub found : (pebble : ℕ) → pebble < bound
         → get_or rests (6 * (size + 1) + pebble) 0 ≡ class_number (rest held (size + 1) pebble)
 
-  pub row-begins : (size : ℕ) (rests : List ℕ) → AreRests held (size + 1) rests → IsRowBelow size 0 rests
+  pub row-begins : (size : ℕ) (rests : List ℕ) → AreNumberRows held (size + 1) rests → IsRowBelow size 0 rests
   row-begins size rests are = record { before = are; found = λ pebble low. absurd (omega (arith, low)) }
 
   pub row-more : (size bound number : ℕ) (rests : List ℕ) → size + 1 < 6 → bound < size + 2
@@ -286,7 +286,7 @@ module _ (held : List ℕ) where
       }
 
   pub row-ends : (size bound : ℕ) (rests : List ℕ) → size + 2 ≤ bound → IsRowBelow size bound rests
-      → AreRests held (size + 2) rests
+      → AreNumberRows held (size + 2) rests
   row-ends size bound rests most are = record {
     room = are.before.room;
     rows = λ other less pebble inside. elim (cases_eq other (size + 1)) [
@@ -307,7 +307,7 @@ take_take-le (suc few) (suc many) (first ∷ others) most =
 
 -- the rows of first pebbles whose places stay are kept
 pub rests-kept : (held next rests : List ℕ) (same bound : ℕ) → take same held ≡ take same next → same < bound
-    → AreRests held bound rests → AreRests next (same + 1) rests
+    → AreNumberRows held bound rests → AreNumberRows next (same + 1) rests
 rests-kept held next rests same bound equal low are = record {
   room = are.room;
   rows = λ size less pebble inside.
@@ -319,7 +319,7 @@ rests-kept held next rests same bound equal low are = record {
     shorter size most = sym (take_take-le size same held most) ∙ ap (take size) equal ∙ take_take-le size same next most
 
 -- no pebble has the class of no places
-pub rests-begin : (held rests : List ℕ) → length rests ≡ 36 → get_or rests 0 0 ≡ 0 → AreRests held 1 rests
+pub rests-begin : (held rests : List ℕ) → length rests ≡ 36 → get_or rests 0 0 ≡ 0 → AreNumberRows held 1 rests
 rests-begin held rests room none = record { room = room; rows = by }
   where
     by : (size : ℕ) → size < 1 → (pebble : ℕ) → pebble ≤ size

@@ -25,14 +25,14 @@ impl Model for Answer {
     ghost use Rattle.std.specs.Prelude.{Option};
     ghost use Rattle.std.proofs.Common.{ap, ◌∙◌};
     ghost use Rattle.strategies.specs.declared.gap_best.Best.{Best};
-    ghost use Rattle.strategies.specs.Inside.Answers.{IsAnswer, best_with, label_of, requests_of};
+    ghost use Rattle.strategies.specs.Inside.Answers.{IsAnswerInNumbers, best_with, label_of, requests_of};
     ghost use Rattle.strategies.specs.Inside.Answers.{same_label, same_requests};
 
     ghost Value = { Option Best };
 
     ghost view = { λ a. best_with a.label a.requests };
 
-    ghost invariant = { λ a. IsAnswer a.label a.requests };
+    ghost invariant = { λ a. IsAnswerInNumbers a.label a.requests };
 
     ghost inverse = { λ best. record { label = label_of best; requests = requests_of best } };
 

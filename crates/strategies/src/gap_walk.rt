@@ -9,7 +9,7 @@ ghost use Rattle.classes.specs.Classes.{class_of};
 ghost use Rattle.classes.specs.ClassGaps.{gap_at};
 ghost use Rattle.classes.specs.Numbers.{class_number};
 ghost use Rattle.strategies.specs.Inside.MovesAt.{position};
-ghost use Rattle.strategies.specs.Inside.Walks.{AreGapNumbers, AreRests};
+ghost use Rattle.strategies.specs.Inside.Walks.{AreGapNumbers, AreNumberRows};
 
 use crate::configuration::Configuration;
 use board_text::MAX_PEBBLES;
@@ -182,8 +182,8 @@ fn fill_rests(members: &MemberTables, held: &[u16], count: u8, rests: &mut [u32;
     requires some { 0 < length held.now }
     requires few { length held.now ≤ MAX_PEBBLES }
     requires count { count < length held.now }
-    requires rests { AreRests held.now (count + 1) rests.old }
-    ensures { AreRests held.now (length held.now) rests.new }
+    requires rests { AreNumberRows held.now (count + 1) rests.old }
+    ensures { AreNumberRows held.now (length held.now) rests.new }
 {
     for size in count..held.len() as u8 - 1 {
         fill_row(members, held, size, rests);
@@ -195,8 +195,8 @@ fn fill_row(members: &MemberTables, held: &[u16], size: u8, rests: &mut [u32; RO
     requires held { IsConfiguration members.now held.now }
     requires few { length held.now ≤ MAX_PEBBLES }
     requires size { size + 1 < length held.now }
-    requires rests { AreRests held.now (size + 1) rests.old }
-    ensures { AreRests held.now (size + 2) rests.new }
+    requires rests { AreNumberRows held.now (size + 1) rests.old }
+    ensures { AreNumberRows held.now (size + 2) rests.new }
 {
     for pebble in 0..size + 2 {
         let number = rest_of(members, held, size, pebble, rests);
@@ -211,7 +211,7 @@ fn rest_of(members: &MemberTables, held: &[u16], size: u8, pebble: u8, rests: &[
     requires few { length held.now ≤ MAX_PEBBLES }
     requires size { size + 1 < length held.now }
     requires pebble { pebble ≤ size + 1 }
-    requires rests { AreRests held.now (size + 1) rests.now }
+    requires rests { AreNumberRows held.now (size + 1) rests.now }
     ensures { result ≡ class_number (class_of (remove (take (size + 1) held.now) pebble)) }
 {
     let row = MAX_PEBBLES * size as usize;

@@ -36,7 +36,7 @@ requests_of (Some best) = requests_before best.value
 requests_of None = 0
 
 -- a number of 32 bits, and the label 0 without an answer
-pub record IsAnswer (label requests : ℕ) : Type 0 where
+pub record IsAnswerInNumbers (label requests : ℕ) : Type 0 where
   pub few : requests ≤ ENDLESS
   pub no_label : requests ≡ 0 → label ≡ 0
 
@@ -48,11 +48,11 @@ low-after number low = ap (λ b. if b then Finite number else Forever) (lt-ltb (
 pub high-after : (number : ℕ) → 4294967295 ≤ suc number → value_after number ≡ Forever
 high-after number high = ap (λ b. if b then Finite number else Forever) (le-ltb (suc number) 4294967295 high)
 
-pub same_label : (label requests : ℕ) → IsAnswer label requests → label_of (best_with label requests) ≡ label
+pub same_label : (label requests : ℕ) → IsAnswerInNumbers label requests → label_of (best_with label requests) ≡ label
 same_label label zero is = sym (is.no_label refl)
 same_label label (suc number) is = refl
 
-pub same_requests : (label requests : ℕ) → IsAnswer label requests → requests_of (best_with label requests) ≡ requests
+pub same_requests : (label requests : ℕ) → IsAnswerInNumbers label requests → requests_of (best_with label requests) ≡ requests
 same_requests label zero is = refl
 same_requests label (suc number) is = elim (cases_lt (suc number) 4294967295) [
   | inl low ↦ ap requests_before (low-after number low)

@@ -19,7 +19,7 @@ others_held board held = take (board.pebbles - 1) held
 
 -- for each number of first pebbles below a bound a row: for each of these pebbles the number of the class of their
 -- places without its own, and after these the number of the class of all
-pub record AreRests (held : List ℕ) (bound : ℕ) (rests : List ℕ) : Type 0 where
+pub record AreNumberRows (held : List ℕ) (bound : ℕ) (rests : List ℕ) : Type 0 where
   pub room : length rests ≡ 36
   pub rows : (size : ℕ) → size < bound → (pebble : ℕ) → pebble ≤ size
       → slice_index rests (MAX_PEBBLES * size + pebble)
@@ -39,7 +39,7 @@ pub record IsGapWalk (board members : PlainBoard) (held : List ℕ) (first : ℕ
   pub is_configuration : IsConfiguration board held
   pub ranks : (place : ℕ) → place < places board
       → configuration_at board (first + place) ≡ moved held (board.pebbles - 1) place
-  pub numbers : AreRests held board.pebbles rests
+  pub numbers : AreNumberRows held board.pebbles rests
 
 -- the best answers to requests of the pebbles below a bound are in their places
 pub record AreFoundBelow (board : PlainBoard) (held : List ℕ) (bound : ℕ)

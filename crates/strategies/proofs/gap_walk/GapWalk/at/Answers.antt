@@ -1,7 +1,7 @@
 use Rattle.std.proofs.Common.{◌<◌, ℕ, subst, arith}
 use Rattle.board_text.specs.PlainBoard.{IsConfiguration}
 use Rattle.positions.proofs.Cited.{configuration_at_is}
-use Rattle.strategies.specs.Inside.Walks.{AreRests}
+use Rattle.strategies.specs.Inside.Walks.{AreNumberRows}
 use Rattle.strategies.proofs.SiblingRanks.{sibling-ranks}
 use Rattle.strategies.proofs.gap_walk.GapWalk.at.Goals as goal
 use Rattle.strategies.proofs.gap_walk.GapWalk.at.Goals.{After-as_slice}
@@ -25,6 +25,6 @@ invariant_of-result c =
       ranks = λ place low. rw c.at-configuration.ensures
           (sibling-ranks board some c.args.rank c.with.result c.requires.rank
           (rw c.pebbles-last.ensures.value at c.with.ensures.rank) place low);
-      numbers = subst (λ (n : ℕ). AreRests c.at-configuration.result n c.fill_rests.new.rests) there.each_pebble
+      numbers = subst (λ (n : ℕ). AreNumberRows c.at-configuration.result n c.fill_rests.new.rests) there.each_pebble
           (rw c.as_slice.ensures.value at c.fill_rests.ensures);
     }
