@@ -12,7 +12,8 @@ use board_text::{Board, Memory};
 use proof_text::{ClassProof, ClassRow, class_order, places_order};
 use std::alloc::Global;
 
-/// The numbers of the classes of a document's rows in the order of documents, row by row.
+/// The numbers of the classes of a document's rows in the order of documents, row by row. They are
+/// made once and halved: halving rows, place by place, took two thirds of a check.
 #[derive(Drop)]
 pub struct ClassNumbers {
     pub labeller: Vec<u64>,
