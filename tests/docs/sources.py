@@ -124,6 +124,9 @@ def reached(functions, sure):
             elif dot or len(kind) == 1:
                 # a method of some type, or of a type that is a parameter
                 yield from every if paren and not (sure and len({other.owner for other in every}) > 1) else ()
+            elif kind[:1].islower() and not sure:
+                # a function by its module
+                yield from every
             elif not kind and (paren or not sure):
                 home = function.imported.get(name, function.crate)
                 yield from [other for other in every if other.crate == home] or (every if home in below and not sure else ())
