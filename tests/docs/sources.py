@@ -22,6 +22,7 @@ LIMIT = re.compile(r'(\w+) ≡ (\d+)')
 COMMENT = re.compile(r'//.*')
 # stands for all calls of a crate
 ALL = '*'
+TABLE = 'What no command runs'
 
 
 class Function:
@@ -123,6 +124,9 @@ def reached(functions, sure):
             elif dot or len(kind) == 1:
                 # a method of some type, or of a type that is a parameter
                 yield from every if paren and not (sure and len({other.owner for other in every}) > 1) else ()
+            elif kind[:1].islower() and not sure:
+                # a function by its module
+                yield from every
             elif not kind and (paren or not sure):
                 home = function.imported.get(name, function.crate)
                 yield from [other for other in every if other.crate == home] or (every if home in below and not sure else ())
@@ -141,7 +145,7 @@ def reached(functions, sure):
 
 def listed():
     """The calls and the types that the first column of the table of docs/architecture.md names, each with its crate, if the row names one."""
-    section = text_of('docs', 'architecture.md').split('## What no command runs')[1].split('\n## ')[0]
+    section = text_of('docs', 'architecture.md').split(f'## {TABLE}')[1].split('\n## ')[0]
     crates, found = set(standing(TOP)), set()
     for row in re.findall(r'^\| (.*?) \|', section, re.M):
         for part in row.split('; '):
@@ -173,7 +177,7 @@ def unreached_differ():
             found.append(f'no command reaches {function.shown} of {function.crate}')
         if id(function) in surely and are_listed(function, (function.shown,)):
             found.append(f'a command reaches {function.shown} of {function.crate}')
-    return '; '.join(found) or None
+    return f'{TABLE} of docs/architecture.md: {"; ".join(found)}' if found else None
 
 
 # ---- calls that may wait, trusted crates, limits

@@ -19,7 +19,7 @@ pub record CarriesExactly (board : PlainBoard) (count : ℕ) : Type 0 where
   pub carries : Carries board count
   pub no_more : Carries board (suc count) → ⊥
 
--- some domain of this number of labels, of which no two beat each other, carries exactly this
+-- some domain of this number of labels, of which no two dominate each other, carries exactly this
 -- number of pebbles
 abbrev pub SomeCarries : ℕ → ℕ → Type 0
 SomeCarries labels count =

@@ -2,7 +2,7 @@
 use Rattle.std.specs.Prelude.{◌≡◌, ◌↔◌, ℕ, ◌+◌, ◌-◌, ◌%◌, ◌<◌, ◌⊎◌, List, [], ◌∷◌, Contains}
 use Rattle.board_text.specs.PlainBoard.{PlainBoard, Dominates}
 
--- this many labels, of which one beats another if it is one of these steps ahead of it on a circle
+-- `labels` labels, of which one dominates another if it is one of the steps ahead on a circle
 pub record IsCircle (labels : ℕ) (steps : List ℕ) (board : PlainBoard) : Type 0 where
   pub labels_are : board.labels ≡ labels
   pub beats : (x y : ℕ) → x < labels → y < labels

@@ -2,7 +2,7 @@
 use Rattle.std.specs.Prelude.{◌≡◌, ℕ, ◌<◌, List, length, All}
 use Rattle.board_text.specs.PlainBoard.{PlainBoard, Dominates}
 
--- each list of this many labels has a label that beats them all
+-- each list of `count` labels has a label that dominates them all
 abbrev pub AreDominated : PlainBoard → ℕ → Type 0
 AreDominated board count =
     (labels : List ℕ) → length labels ≡ count → All (λ label. label < board.labels) labels

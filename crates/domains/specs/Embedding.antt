@@ -17,7 +17,7 @@ pub record IsOnBoth (board wider : PlainBoard) (configuration : List ℕ) : Type
       ⊎ (wider.labels ≤ slice_index configuration pebble)
 
 -- one map takes the labels of the first board to those of the second, one to one, the other map
--- takes them back, and of two labels the one beats the other on both boards or on neither
+-- takes them back, and of two labels the one dominates the other on both boards or on neither
 pub record IsRenaming (board renamed : PlainBoard) (to back : ℕ → ℕ) : Type 0 where
   pub labels : renamed.labels ≡ board.labels
   pub pebbles : renamed.pebbles ≡ board.pebbles

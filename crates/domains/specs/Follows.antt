@@ -3,7 +3,7 @@ use Rattle.std.specs.Prelude.{◌≡◌, ℕ, ◌<◌, ◌≤◌, ◌⊎◌, Lis
 use Rattle.board_text.specs.PlainBoard.{PlainBoard, Dominates}
 
 -- Each pebble of the one board has a leader on the other, a pebble of its own; and labels of the
--- leaders' board have images, of which those beat one another whose labels do.
+-- leaders' board have images, of which those dominate one another whose labels do.
 pub record Follows (board leading : PlainBoard) (image leader : ℕ → ℕ) : Type 0 where
   pub labels : (label : ℕ) → label < leading.labels → image label < board.labels
   pub beats : (x y : ℕ) → x < leading.labels → y < leading.labels

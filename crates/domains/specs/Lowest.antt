@@ -2,7 +2,7 @@
 use Rattle.std.specs.Prelude.{◌≡◌, ℕ, suc, ◌<◌, ◌↔◌}
 use Rattle.board_text.specs.PlainBoard.{PlainBoard, Dominates}
 
--- the board has one label more than the domain, which all others beat and which beats none
+-- the board has one label more than the domain, which all others dominate and which dominates none
 pub record HasLowest (domain board : PlainBoard) : Type 0 where
   pub labels : board.labels ≡ suc domain.labels
   pub pebbles : board.pebbles ≡ domain.pebbles

@@ -8,7 +8,7 @@ use Rattle.positions.specs.declared.value.Value.TheVariants.{Forever}
 abbrev pub IsUsed : PlainBoard → ℕ → Type 0
 IsUsed board label = (label < board.labels) × HasValue board (replicate board.pebbles label) Forever
 
--- the part has as many pebbles, and images of the used labels, of which those beat one another
+-- the part has as many pebbles, and images of the used labels, of which those dominate one another
 -- whose labels do
 pub record KeepsUsed (board part : PlainBoard) (image : ℕ → ℕ) : Type 0 where
   pub pebbles : part.pebbles ≡ board.pebbles
@@ -16,8 +16,8 @@ pub record KeepsUsed (board part : PlainBoard) (image : ℕ → ℕ) : Type 0 wh
   pub beats : (x y : ℕ) → IsUsed board x → IsUsed board y → Dominates board x y
       → Dominates part (image x) (image y)
 
--- the part has one pebble fewer, and images of the labels that beat this one, of which those beat
--- one another whose labels do
+-- the part has one pebble fewer, and images of the labels that dominate this one, of which those
+-- dominate one another whose labels do
 pub record KeepsAbove (board part : PlainBoard) (label : ℕ) (image : ℕ → ℕ) : Type 0 where
   pub pebbles : suc part.pebbles ≡ board.pebbles
   pub labels : (other : ℕ) → other < board.labels → Dominates board other label

@@ -6,7 +6,7 @@ use Rattle.runs.specs.Texts.{HasNoneAmong, IsBoardAmong, IsWithinLimit}
 use Rattle.command_line.specs.declared.asked.BoardLimit.{BoardLimit}
 use Rattle.runs.specs.declared.fault.RunFault.{RunFault}
 
--- the reader gave all, which is at most so many bytes and the text of this board, which is small
+-- the reader gave all, which is at most `most_bytes` and the text of this board, which is small
 -- enough
 abbrev pub GaveBoardAmong : (PlainBoard → Type 0) → ℕ → Bytes → PlainBoard → Type 0
 GaveBoardAmong IsSmall most_bytes read board =

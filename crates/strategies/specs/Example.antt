@@ -5,7 +5,7 @@ use Rattle.positions.specs.declared.claim.Claim.TheVariants.{Exactly, Forever}
 use Rattle.positions.specs.declared.turns.Turns.TheVariants.{Count, Always}
 use Rattle.proof_text.specs.Proof.{PlainProof}
 
--- two pebbles on label 0, and label 1, which beats it
+-- two pebbles on label 0, and label 1, which dominates it
 abbrev pub small_board : PlainBoard
 small_board = record { labels = 2; pebbles = 2; start = 0 ∷ 0 ∷ []; pairs = (1, 0) ∷ [] }
 

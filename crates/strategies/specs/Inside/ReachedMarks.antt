@@ -12,7 +12,7 @@ pub record ReachedMarks : Type 0 where
   pub reached : List Bool
   pub left : List Bool
 
--- none of so many ranks is reached
+-- none of the `size` ranks is reached
 abbrev pub none_reached : ℕ → ReachedMarks
 none_reached size = record { reached = replicate size false; left = replicate size false }
 
