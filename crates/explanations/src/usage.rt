@@ -31,9 +31,10 @@ pub(crate) fn usage_hint(words: &[&str]) -> &'static str {
             return "only `solve`, `report` and `play` have `--large`; ";
         }
         if is_unknown_option(word) {
-            return "the only options are `--workers` of `solve` and `report`, `--side` of `play`, \
-                `--large` of `solve`, `report` and `play`, `--explain`, `--help` and `--version`; a \
-                path that begins with `-` comes after `--`; ";
+            return "the only options are `--workers` of `solve`, `report` and `chains`, `--most` of \
+                `chains`, `--side` of `play`, `--large` of `solve`, `report` and `play`, \
+                `--explain`, `--help` and `--version`; a path that begins with `-` comes after \
+                `--`; ";
         }
     }
     ""
@@ -76,10 +77,12 @@ fn is_version(word: &str) -> bool {
 /// Whether a word is an option that no command has.
 fn is_unknown_option(word: &str) -> bool {
     let is_known = word.starts_with(WORKERS_IS)
+        || word.starts_with("--most=")
         || word.starts_with("--side=")
         || word == "--help"
         || word == "-h"
         || word == "--workers"
+        || word == "--most"
         || word == "--side"
         || word == "--large"
         || word == "--explain";
