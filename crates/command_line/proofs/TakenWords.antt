@@ -32,6 +32,7 @@ use Rattle.clap.specs.declared.builder.value_parser.ValueParser.TheVariants as v
 use Rattle.board_text.specs.declared.board.TheConstants.{MAX_PEBBLES}
 use Rattle.nested_cycles.specs.declared.nested_boards.TheConstants.{MAX_BOARD_LEVELS}
 use Rattle.nested_cycles.specs.declared.game.TheConstants.{MAX_LEVELS}
+use Rattle.chains.specs.declared.counting.TheConstants.{MAX_LENGTH}
 use Rattle.command_line.specs.declared.asked.TheConstants.{MAX_WORKERS}
 use Rattle.clap.proofs.OnLiterals.{clap_on_literals}
 use Rattle.clap.proofs.WalkLemmas.{both}
@@ -218,6 +219,25 @@ report_row = record {
   );
 }
 
+chains_row : IsCommand rows.chains
+chains_row = record {
+  plain = refl;
+  good = (
+    (refl, inl (refl, omega arith)),
+    (
+      (refl, inl (refl, omega arith)),
+      ((refl, inl (refl, omega arith)), ((refl, inr (inl (refl, omega arith))), ((refl, inr (inr refl)), tt))),
+    ),
+  );
+  arguments = (
+    (inr (omega arith), refl, inl (refl, inr (inl (MAX_WORKERS, refl)))),
+    (
+      (inr (omega arith), refl, inl (refl, inr (inl (MAX_LENGTH, refl)))),
+      ((inl refl, refl, inl (refl, inl refl)), (word_given (codes "explain"), tt)),
+    ),
+  );
+}
+
 nested_row : IsCommand rows.nested
 nested_row = record {
   plain = refl;
@@ -262,12 +282,15 @@ are_commands = (
     (
       report_row,
       (
-        nested_row,
+        chains_row,
         (
-          play_row,
+          nested_row,
           (
-            climb_row,
-            tt,
+            play_row,
+            (
+              climb_row,
+              tt,
+            ),
           ),
         ),
       ),

@@ -8,6 +8,7 @@ use Rattle.clap.specs.declared.builder.value_parser.ValueParser.TheVariants as v
 use Rattle.board_text.specs.declared.board.TheConstants.{MAX_PEBBLES}
 use Rattle.nested_cycles.specs.declared.nested_boards.TheConstants.{MAX_BOARD_LEVELS}
 use Rattle.nested_cycles.specs.declared.game.TheConstants.{MAX_LEVELS}
+use Rattle.chains.specs.declared.counting.TheConstants.{MAX_LENGTH}
 use Rattle.command_line.specs.declared.asked.TheConstants.{MAX_WORKERS}
 
 -- a word that must be given, and one that must be a number from 1 to `most`
@@ -53,6 +54,19 @@ check = command (codes "check") (path (codes "board") ∷ path (codes "proof") �
 abbrev pub report : Shape
 report = command (codes "report") (workers ∷ large ∷ path (codes "board") ∷ explain ∷ [])
 
+-- the option for the greatest length of chains, which is the greatest of all if the option isn't
+-- given
+abbrev pub most : Rule
+most = record (new_rule (codes "most")) {
+  long = Some (codes "most");
+  value_names = 1;
+  defaults = codes "8" ∷ [];
+  parser = Some (vp.Signed (pos 1) (pos MAX_LENGTH));
+}
+
+abbrev pub chains : Shape
+chains = command (codes "chains") (workers ∷ most ∷ path (codes "board") ∷ explain ∷ [])
+
 abbrev pub nested : Shape
 nested =
     command (codes "nested")
@@ -85,6 +99,7 @@ commands_among words =
     solve
     ∷ check
     ∷ report
+    ∷ chains
     ∷ nested
     ∷ play_among words
     ∷ climb

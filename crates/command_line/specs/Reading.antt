@@ -15,6 +15,7 @@ use Rattle.board_text.specs.LineForms.{with_line_feed}
 use Rattle.board_text.specs.declared.board.TheConstants.{MAX_PEBBLES}
 use Rattle.nested_cycles.specs.declared.nested_boards.TheConstants.{MAX_BOARD_LEVELS}
 use Rattle.nested_cycles.specs.declared.game.TheConstants.{MAX_LEVELS}
+use Rattle.chains.specs.declared.counting.TheConstants.{MAX_LENGTH}
 use Rattle.command_line.specs.Commands.{commands, program}
 use Rattle.command_line.specs.declared.asked.TheConstants.{MAX_WORKERS}
 use Rattle.command_line.specs.declared.asked.BoardLimit.{BoardLimit}
@@ -64,6 +65,10 @@ AsksFor name rows (jobs.Report workers limit board) = (name ≡ codes "report")
     × HasNumber rows (codes "workers") MAX_WORKERS workers
     × HasFlag rows (codes "large") (is_large limit)
     × (first_of (codes "board") rows ≡ Some board.now)
+AsksFor name rows (jobs.Chains workers most board) = (name ≡ codes "chains")
+    × HasNumber rows (codes "workers") MAX_WORKERS workers
+    × HasNumber rows (codes "most") MAX_LENGTH most
+    × (first_of (codes "board") rows ≡ Some board.now)
 AsksFor name rows (jobs.Play side limit board) = (name ≡ codes "play")
     × (first_of (codes "side") rows ≡ Some (side_word side))
     × HasFlag rows (codes "large") (is_large limit)
@@ -76,8 +81,8 @@ abbrev pub IsReadAs : Option (Text × List Row) → Job → Type 0
 IsReadAs None job = ⊥
 IsReadAs (Some found) job = AsksFor found.0 found.1 job
 
--- the numbers of the job are those of boards that can be made or
--- played on unmade, and of workers that can be started
+-- the numbers of the job are those of boards that can be made or played on unmade, of workers that
+-- can be started, and of lengths of chains
 abbrev pub IsInRange : Job → Type 0
 IsInRange jobs.Joined = Unit {0}
 IsInRange (jobs.Check board proof) = Unit {0}
@@ -85,6 +90,8 @@ IsInRange (jobs.Nested levels pebbles) =
     (1 ≤ levels) × (levels ≤ MAX_BOARD_LEVELS) × (1 ≤ pebbles) × (pebbles ≤ MAX_PEBBLES)
 IsInRange (jobs.Solve workers limit board) = (1 ≤ workers) × (workers ≤ MAX_WORKERS)
 IsInRange (jobs.Report workers limit board) = (1 ≤ workers) × (workers ≤ MAX_WORKERS)
+IsInRange (jobs.Chains workers most board) =
+    (1 ≤ workers) × (workers ≤ MAX_WORKERS) × (1 ≤ most) × (most ≤ MAX_LENGTH)
 IsInRange (jobs.Play side limit board) = Unit {0}
 IsInRange (jobs.Climb levels) = (1 ≤ levels) × (levels ≤ MAX_LEVELS)
 
@@ -107,7 +114,8 @@ has_topic words = false
 abbrev pub version_text : List ℕ
 version_text = with_line_feed (codes "pebbles 1.1.0")
     ++ with_line_feed
-    (codes "reads `board 1`, `board 2`, `proof 1` and `proof 2`, writes these and `report 1`")
+    (codes "reads `board 1`, `board 2`, `proof 1` and `proof 2`, writes these, `report 1` and "
+    ++ codes "`chains 1`")
 
 -- the name stands in the text
 abbrev pub Names : List ℕ → Text → Type 0

@@ -47,6 +47,13 @@ pub enum Job<'a> {
         limit: BoardLimit,
         board: &'a str,
     },
+    /// Count the chains of the board, a path, with 1 to `MAX_WORKERS` workers: of each length up to
+    /// the first with a chain that no label dominates, or up to `most`, 1 to `MAX_LENGTH`.
+    Chains {
+        workers: u8,
+        most: u8,
+        board: &'a str,
+    },
     /// Play on the board, a path. The person plays this side, by lines of standard input, and the
     /// program the other one.
     Play {

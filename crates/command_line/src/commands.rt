@@ -8,6 +8,7 @@ ghost use Rattle.command_line.specs.Commands as commands;
 
 use crate::asked::MAX_WORKERS;
 use board_text::MAX_PEBBLES;
+use chains::{MAX_CHAINS, MAX_LENGTH};
 use clap::{Arg, ArgAction, Command, value_parser};
 use nested_cycles::{MAX_BOARD_LEVELS, MAX_LEVELS};
 use positions::MAX_CONFIGURATIONS;
@@ -16,7 +17,8 @@ use std::alloc::{AllocError, Global};
 /// The program's version, and the first lines of the texts that it reads and writes. `clap` takes
 /// the option from it, and `words` shows it.
 pub(crate) const VERSION: &str =
-    "pebbles 1.1.0\nreads `board 1`, `board 2`, `proof 1` and `proof 2`, writes these and `report 1`\n";
+    "pebbles 1.1.0\nreads `board 1`, `board 2`, `proof 1` and `proof 2`, writes these, `report 1` and \
+    `chains 1`\n";
 
 /// The name of the program.
 const NAME: &str = "pebbles";
@@ -48,6 +50,9 @@ const AFTER_HELP: &str = "With or without a command:\n      \
 // The helps of `solve`, `report`, `check` and `play` say this limit.
 const _: () = prove!(MAX_CONFIGURATIONS == 1_048_576);
 
+// The help of `chains` says this limit.
+const _: () = prove!(MAX_CHAINS == 68_719_476_736);
+
 /// The help of `solve`.
 const ABOUT_SOLVING: &str =
     "Writes the strategy document of the board, which `check` accepts. It is the\n\
@@ -73,6 +78,22 @@ const ABOUT_REPORTING: &str = "The report is the same for every number of worker
     board too large             labels^pebbles is above 1048576; try --large\n\n\
     Example:\n  \
     pebbles report chain.board";
+
+/// The help of `chains`.
+const ABOUT_CHAINS: &str =
+    "In a chain each label dominates all before it. The number of chains is written\n\
+    for each length, up to the first with a chain that no label dominates, and that\n\
+    chain. As many processes as its labels last for ever from each label, and any\n\
+    label that dominates the others' labels is a right answer. More may last if\n\
+    answers are chosen, which `solve` tells. The pebbles and the start of the board\n\
+    are not used.\n\n\
+    Common faults:\n  \
+    board fault line 1 Version  no board: Windows line ends, a strategy document\n  \
+    board fault line N Beats    not `beats` and two labels, with single spaces\n  \
+    board fault line N Order    pairs not sorted as numbers, or one is there twice\n  \
+    too many chains             above 68719476736 of one length; try --most\n\n\
+    Example:\n  \
+    pebbles chains chain.board";
 
 /// The help of `check`.
 const ABOUT_CHECKING: &str =
@@ -151,6 +172,7 @@ fn program_among<'a>(alloc: Global, sides: &'a [&'a str]) -> Result<Command<'a>,
     let command = command.subcommand(solve(alloc)?)?;
     let command = command.subcommand(check(alloc)?)?;
     let command = command.subcommand(report(alloc)?)?;
+    let command = command.subcommand(chains(alloc)?)?;
     let command = command.subcommand(nested(alloc)?)?;
     let command = command.subcommand(play(alloc, sides)?)?;
     let command = command.subcommand(climb(alloc)?)?;
@@ -196,6 +218,18 @@ fn report<'a>(alloc: Global) -> Result<Command<'a>, AllocError>
         .after_help(ABOUT_REPORTING)
         .arg(workers(alloc))?;
     on_board(alloc, command)
+}
+
+fn chains<'a>(alloc: Global) -> Result<Command<'a>, AllocError>
+    ensures shape { IfOk result (λ c. shape_of c ≡ commands.chains) }
+    ensures local { IfOk result (λ c. (out-Command c).has_globals ≡ false) }
+{
+    let command = Command::new(alloc, "chains")
+        .about("Reads a board, and writes how many chains of labels are dominated")
+        .after_help(ABOUT_CHAINS)
+        .arg(workers(alloc))?
+        .arg(most(alloc))?;
+    on_any_board(alloc, command)
 }
 
 fn nested<'a>(alloc: Global) -> Result<Command<'a>, AllocError>
@@ -268,6 +302,17 @@ fn on_board<'a>(alloc: Global, command: Command<'a>) -> Result<Command<'a>, Allo
     command.arg(large(alloc))?.arg(board)?.arg(explain(alloc))
 }
 
+/// The command with the words of one on a board of any size.
+fn on_any_board<'a>(alloc: Global, command: Command<'a>) -> Result<Command<'a>, AllocError>
+    ensures app { IfOk result (λ c. app_of c ≡ with_rule (with_rule (app_of command.entry)
+        (commands.path (codes "board"))) commands.explain) }
+    ensures local { (out-Command command.entry).has_globals ≡ false
+        → IfOk result (λ c. (out-Command c).has_globals ≡ false) }
+{
+    let board = path(alloc, "board", "BOARD", "The path of a board");
+    command.arg(board)?.arg(explain(alloc))
+}
+
 /// The option for the side that the person plays, one of the words `sides`.
 fn side<'a>(alloc: Global, sides: &'a [&'a str]) -> Arg<'a>
     ensures rule { rule_of result ≡ commands.side_among sides.entry }
@@ -337,6 +382,20 @@ fn word<'a>(alloc: Global, name: &'a str, help: &'a str) -> Arg<'a>
         .long(name)
         .action(ArgAction::SetTrue)
         .help(help)
+}
+
+/// The option for the greatest length of chains, 1 to `MAX_LENGTH`; the greatest of all if it isn't
+/// given.
+fn most<'a>(alloc: Global) -> Arg<'a>
+    ensures rule { rule_of result ≡ commands.most }
+    ensures local { result.global ≡ false }
+{
+    Arg::new(alloc, "most")
+        .long("most")
+        .value_name("K")
+        .default_value("8")
+        .value_parser(value_parser!(u8).range(1..=MAX_LENGTH as i64))
+        .help("Stop after the chains of K labels, 1 to 8")
 }
 
 /// The option for the number of workers, 1 to `MAX_WORKERS`; 1 if it isn't given.

@@ -7,6 +7,7 @@ ghost use Rattle.command_line.specs.Reading.{AsksForHelp, AsksForVersion, IsWron
 
 use crate::asked::MAX_WORKERS;
 use board_text::MAX_PEBBLES;
+use chains::{MAX_CHAINS, MAX_LENGTH};
 use gap_values::MAX_GAPS;
 use nested_cycles::{MAX_BOARD_LEVELS, MAX_LEVELS};
 
@@ -18,6 +19,8 @@ pub fn limits()
     ensures pebbles { MAX_PEBBLES ≡ 6 }
     ensures played_levels { MAX_LEVELS ≡ 24 }
     ensures gaps { MAX_GAPS ≡ 536870912 }
+    ensures length { MAX_LENGTH ≡ 8 }
+    ensures chains { MAX_CHAINS ≡ 68719476736 }
 {}
 
 /// `clap` finds no fault in words exactly if it takes them.

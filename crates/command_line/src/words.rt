@@ -18,6 +18,7 @@ ghost use Rattle.command_line.specs.Inside.Reading.{has_flag, has_number, has_si
 use crate::asked::{BoardLimit, Job, JobFault, MAX_WORKERS};
 use crate::commands::{VERSION, program};
 use board_text::MAX_PEBBLES;
+use chains::MAX_LENGTH;
 use clap::error::ErrorKind;
 use clap::{ArgMatches, Error};
 use nested_cycles::{MAX_BOARD_LEVELS, MAX_LEVELS};
@@ -25,7 +26,7 @@ use positions::Side;
 use std::alloc::{AllocError, Global};
 
 /// The names of the commands.
-const COMMANDS: &str = "solve, check, report, nested, play, climb\n";
+const COMMANDS: &str = "solve, check, report, chains, nested, play, climb\n";
 
 /// The beginning of `clap`'s tip to pass a word as a value, with the empty line before it.
 const TIP: &str = "\n\n  tip: to pass '";
@@ -144,6 +145,7 @@ fn names_commands(text: &str) -> bool
     names(text, "solve")
         && names(text, "check")
         && names(text, "report")
+        && names(text, "chains")
         && names(text, "nested")
         && names(text, "play")
         && names(text, "climb")
@@ -184,7 +186,7 @@ fn is_topic(word: &str) -> bool
 {
     matches!(
         word,
-        "help" | "solve" | "check" | "report" | "nested" | "play" | "climb"
+        "help" | "solve" | "check" | "report" | "chains" | "nested" | "play" | "climb"
     )
 }
 
@@ -199,6 +201,7 @@ fn chosen<'a>(matches: &ArgMatches<'a>) -> Option<Job<'a>>
         "solve" => solve_job(values),
         "check" => check_job(values),
         "report" => report_job(values),
+        "chains" => chains_job(values),
         "nested" => nested_job(values),
         "play" => play_job(values),
         "climb" => climb_job(values),
@@ -247,6 +250,20 @@ fn report_job<'a>(values: &ArgMatches<'a>) -> Option<Job<'a>>
     Some(Job::Report {
         workers,
         limit,
+        board,
+    })
+}
+
+fn chains_job<'a>(values: &ArgMatches<'a>) -> Option<Job<'a>>
+    ensures asked { Reads commands.chains (rows_of (found_of values.now)) result }
+    ensures numbers { IfSome result IsInRange }
+{
+    let workers = number(values, "workers", MAX_WORKERS)?;
+    let most = number(values, "most", MAX_LENGTH)?;
+    let board = text(values, "board")?;
+    Some(Job::Chains {
+        workers,
+        most,
         board,
     })
 }

@@ -10,7 +10,8 @@ use Rattle.nested_cycles.proofs.Cited.{contains_here, contains_map, each_of}
 use Rattle.board_text.specs.PlainBoard.{PlainBoard}
 use Rattle.positions.specs.Value.{HasValue}
 use Rattle.positions.specs.declared.value.Value.TheVariants.{Forever}
-use Rattle.domains.specs.Chains.{AreChained, IsClosedFamily, IsCovered}
+use Rattle.chains.specs.Chains.{AreChained}
+use Rattle.domains.specs.Families.{IsClosedFamily, IsCovered}
 use Rattle.domains.specs.Used.{IsUsed}
 use Rattle.domains.proofs.ClosedFamilies.{covered_last, member_lasts, put_covered}
 use Rattle.domains.proofs.DecidedChains.{IsDecided, lasting_or_not}

@@ -1,17 +1,19 @@
--- Above a used label a domain carries one pebble fewer.
+-- The labels above one label: they carry one pebble fewer, and their chains are shorter by one label.
 use Rattle.std.proofs.Common.{◌≡◌, ℕ, zero, suc, ◌<◌, List, [], ◌∷◌, ◌++◌, length, map}
 use Rattle.std.proofs.Common.{All, Contains, refl, sym, ◌∙◌, ap, subst, arith, inl, inr}
 use Rattle.std.specs.List.{remove}
 use Rattle.std.proofs.lemmas.List.{length-append, length-map}
 use Rattle.std.proofs.lemmas.List.Edits.{remove-append_left}
-use Rattle.std.proofs.lemmas.List.Elements.{All-contains, All-map, Contains-append_left, Contains-append_right}
-use Rattle.nested_cycles.proofs.Cited.{contains_cases, contains_here, each_of}
+use Rattle.std.proofs.lemmas.List.Elements.{All-append, All-cons, All-contains, All-map, All-nil}
+use Rattle.std.proofs.lemmas.List.Elements.{Contains-append_left, Contains-append_right}
+use Rattle.nested_cycles.proofs.Cited.{contains_cases, contains_here, contains_later, contains_map, each_of}
 use Rattle.board_text.specs.PlainBoard.{PlainBoard, Dominates}
-use Rattle.domains.specs.Chains.{AreChained, IsClosedFamily, IsCovered}
-use Rattle.domains.specs.Used.{IsUsed, KeepsAbove}
+use Rattle.chains.specs.Chains.{AreChained, AreChainsDominated}
+use Rattle.domains.specs.Families.{IsClosedFamily, IsCovered}
+use Rattle.domains.specs.Used.{AreAbove, IsUsed, KeepsAbove}
 use Rattle.domains.proofs.ClosedFamilies.{covered_last, put_covered}
-use Rattle.domains.proofs.LastingChains.{LastingChain, chain_above, chain_answered, chain_without, chained_rest}
-use Rattle.domains.proofs.LastingChains.{first_beats}
+use Rattle.domains.proofs.LastingChains.{LastingChain, chain_above, chain_answered, chain_without, chained_more}
+use Rattle.domains.proofs.LastingChains.{chained_none, chained_rest, first_beats, oldest_of}
 use Rattle.domains.proofs.SharedLabels.{all_on_one}
 
 -- each label of a chain but the oldest beats the oldest
@@ -122,3 +124,58 @@ module _ (board part : PlainBoard) (image : ℕ → ℕ) (label count : ℕ) (mo
               depth (covered_last part count IsImage fewer image_closed start covered depth),
         ),
       )
+
+-- ---- chains of the labels above each label
+
+module _ (board part : PlainBoard) (label : ℕ) (to back : ℕ → ℕ) (above : AreAbove board part label to back) where
+  names_chained : (newer : List ℕ) → AreChained board (newer ++ label ∷ []) → AreChained part (map to newer)
+  names_chained [] chained = chained_none part
+  names_chained (next ∷ newer) chained =
+      let chain = newer ++ label ∷ [] in
+      let low : (other : ℕ) → Contains (next ∷ chain) other → other < board.labels
+      = λ other has. All-contains (λ n. n < board.labels) (next ∷ chain) other chained.are_labels has in
+      let next_low = low next (contains_here next chain) in
+      let over : (other : ℕ) → Contains (next ∷ newer) other → Dominates board other label
+      = λ other has. newer_beat board (next ∷ newer) label other chained has in
+      let next_over = over next (contains_here next newer) in
+      chained_more part (to next) (map to newer) (above.there next next_low next_over)
+      (All-map (λ other. Dominates part (to next) other) to newer
+      (each_of (λ other. Dominates part (to next) (to other)) newer (λ other has.
+      let inside : Contains chain other = Contains-append_left newer (label ∷ []) other has in
+      (above.beats next other next_low (low other (contains_later next chain other inside)) next_over
+      (over other (contains_later next newer other has))).0
+      (first_beats board next other chain chained inside))))
+      (names_chained newer (chained_rest board next chain chained))
+
+pub dominated_above : (board : PlainBoard) (count : ℕ) → 0 < board.labels
+    → ((label : ℕ) → label < board.labels → (part : PlainBoard) × (to : ℕ → ℕ) × (back : ℕ → ℕ)
+    × AreAbove board part label to back × AreChainsDominated part count)
+    → AreChainsDominated board (suc count)
+dominated_above board count some each [] short chained = (0, some, All-nil (λ other. Dominates board 0 other))
+dominated_above board count some each (first ∷ chain) short chained =
+    let its = oldest_of first chain in
+    let whole = its.0 ++ its.1 ∷ [] in
+    let ordered : AreChained board whole = subst (AreChained board) its.2 chained in
+    let long : length whole ≡ suc (length chain) = ap length (sym its.2) in
+    let low : (other : ℕ) → Contains whole other → other < board.labels
+    = λ other has. All-contains (λ n. n < board.labels) whole other ordered.are_labels has in
+    let last : Contains whole its.1 = Contains-append_right its.0 (its.1 ∷ []) its.1 (contains_here its.1 []) in
+    let over = each its.1 (low its.1 last) in
+    let found = over.4 (map over.1 its.0)
+    (omega (arith, short, long, length-append its.0 (its.1 ∷ []), length-map its.0 over.1))
+    (names_chained board over.0 its.1 over.1 over.2 over.3 its.0 ordered) in
+    let label = over.2 found.0 in
+    let again = over.3.again found.0 found.1 in (
+      label,
+      again.0,
+      subst (All (λ other. Dominates board label other)) (sym its.2)
+          (All-append (λ other. Dominates board label other) its.0 (its.1 ∷ [])
+          (each_of (λ other. Dominates board label other) its.0 (λ other has.
+          (over.3.beats label other again.0 (low other (Contains-append_left its.0 (its.1 ∷ []) other has)) again.1
+          (newer_beat board its.0 its.1 other ordered has)).1
+          (subst (λ n. Dominates over.0 n (over.1 other)) (sym again.2)
+          (All-contains (λ n. Dominates over.0 found.0 n) (map over.1 its.0) (over.1 other) found.2
+          (contains_map over.1 its.0 other has)))))
+          (All-cons (λ other. Dominates board label other) its.1 [] again.1
+          (All-nil (λ other. Dominates board label other)))),
+    )

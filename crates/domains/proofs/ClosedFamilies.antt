@@ -10,7 +10,7 @@ use Rattle.std.proofs.lemmas.Grind.{get_or-set_at}
 use Rattle.nested_cycles.proofs.Cited.{contains_here, contains_later}
 use Rattle.board_text.specs.PlainBoard.{PlainBoard, Dominates}
 use Rattle.positions.specs.Game.{LabellerTree, moved}
-use Rattle.domains.specs.Chains.{IsClosedFamily, IsCovered}
+use Rattle.domains.specs.Families.{IsClosedFamily, IsCovered}
 use Rattle.domains.specs.Kept.{IsKept}
 use Rattle.domains.proofs.KeptProperties.{kept_lasts}
 use Rattle.domains.proofs.OtherPlaces.{all_others, contains_left, left_at, others_left, spare}
@@ -18,7 +18,7 @@ use Rattle.domains.proofs.OtherPlaces.{all_others, contains_left, left_at, other
 module _ (board : PlainBoard) (count : ℕ) (Family : List ℕ → Type 0) (more : board.pebbles ≡ suc count)
     (closed : IsClosedFamily board count Family) where
   -- the label of each pebble but one is in the list
-  held_in : (c labels : List ℕ) (pebble other : ℕ) → length c ≡ board.pebbles
+  pub held_in : (c labels : List ℕ) (pebble other : ℕ) → length c ≡ board.pebbles
       → All (Contains labels) (remove c pebble) → other < board.pebbles → other ≢ pebble
       → Contains labels (get_or c other 0)
   held_in c labels pebble other long all below differs =
@@ -26,7 +26,7 @@ module _ (board : PlainBoard) (count : ℕ) (Family : List ℕ → Type 0) (more
       (others_left c pebble other (omega (arith, long, below)) differs)
 
   -- the labels of all pebbles but two are in the list without some label of it
-  two_left : (c labels : List ℕ) (pebble asked : ℕ) → length c ≡ board.pebbles → pebble < board.pebbles
+  pub two_left : (c labels : List ℕ) (pebble asked : ℕ) → length c ≡ board.pebbles → pebble < board.pebbles
       → asked < board.pebbles → pebble ≢ asked → length labels ≡ count → All (Contains labels) (remove c asked)
       → (index : ℕ) × (index < count) × ((other : ℕ) → other < board.pebbles → other ≢ asked → other ≢ pebble
       → Contains (remove labels index) (get_or c other 0))

@@ -5,7 +5,7 @@ use Rattle.std.proofs.lemmas.Bool.{cases_lt, cases_eq}
 use Rattle.std.proofs.lemmas.List.Elements.{All-from_get_or, All-head, All-tail}
 use Rattle.board_text.specs.PlainBoard.{PlainBoard, Dominates}
 use Rattle.positions.proofs.Cited.{beats_or_not, each_or_some, not_both_trees}
-use Rattle.domains.specs.Chains.{AreChained}
+use Rattle.chains.specs.Chains.{AreChained}
 use Rattle.domains.proofs.LastingChains.{LastingChain, chained_more, chained_none, none_and, none_long}
 use Rattle.domains.proofs.LastingMoves.{lasts_or_ends}
 

@@ -10,7 +10,8 @@ use Rattle.classes.proofs.Cited.{all-remove}
 use Rattle.nested_cycles.proofs.Cited.{contains_here, contains_later, each_of}
 use Rattle.board_text.specs.PlainBoard.{PlainBoard, Dominates}
 use Rattle.positions.specs.Game.{LabellerTree}
-use Rattle.domains.specs.Chains.{AreChained, AreChainsDominated, IsClosedFamily, IsCovered}
+use Rattle.chains.specs.Chains.{AreChained, AreChainsDominated}
+use Rattle.domains.specs.Families.{IsClosedFamily, IsCovered}
 use Rattle.domains.specs.Dominated.{AreDominated}
 use Rattle.domains.proofs.ClosedFamilies.{covered_last}
 use Rattle.domains.proofs.LastingChains.{chained_more, chained_none, chained_one, chained_without}
@@ -24,11 +25,11 @@ IsShort board count chain = (length chain ≤ count) × AreChained board chain
 module _ (board : PlainBoard) (count : ℕ) (more : board.pebbles ≡ suc count)
     (dominated : AreChainsDominated board count) where
   -- chains of just this many
-  record IsFull (chain : List ℕ) : Type 0 where
-    long : length chain ≡ count
-    chained : AreChained board chain
+  pub record IsFull (chain : List ℕ) : Type 0 where
+    pub long : length chain ≡ count
+    pub chained : AreChained board chain
 
-  full_closed : IsClosedFamily board count IsFull
+  pub full_closed : IsClosedFamily board count IsFull
   full_closed = record {
     long = λ chain full. full.long;
     answered = λ chain full.
@@ -48,7 +49,7 @@ module _ (board : PlainBoard) (count : ℕ) (more : board.pebbles ≡ suc count)
   }
 
   -- a short chain is part of a full one
-  filled : (steps : ℕ) (chain : List ℕ) → steps + length chain ≡ count → AreChained board chain
+  pub filled : (steps : ℕ) (chain : List ℕ) → steps + length chain ≡ count → AreChained board chain
       → (longer : List ℕ) × IsFull longer × ((label : ℕ) → Contains chain label → Contains longer label)
   filled zero chain long chained =
       (chain, record { long = omega (arith, long); chained = chained }, λ label has. has)

@@ -8,7 +8,7 @@ use Rattle.std.proofs.lemmas.List.Elements.{All-contains_itself, All-get_or, All
 use Rattle.classes.proofs.Cited.{all-remove}
 use Rattle.board_text.specs.PlainBoard.{PlainBoard, Dominates}
 use Rattle.positions.specs.Game.{LabellerTree}
-use Rattle.domains.specs.Chains.{IsClosedFamily}
+use Rattle.domains.specs.Families.{IsClosedFamily}
 use Rattle.domains.specs.Dominated.{AreDominated, IsHeld}
 use Rattle.domains.proofs.ClosedFamilies.{covered_last}
 

@@ -9,7 +9,7 @@ use Rattle.positions.specs.Game.{moved}
 use Rattle.nested_cycles.specs.Words.{word_of}
 use Rattle.player.specs.NestedPlay.{IsNestedPlay}
 use Rattle.domains.specs.Carried.{with_pebbles, Carries, CarriesExactly}
-use Rattle.domains.specs.Chains.{AreChainsDominated}
+use Rattle.chains.specs.Chains.{AreChainsDominated}
 use Rattle.domains.specs.Circles.{IsCircle}
 use Rattle.domains.specs.Dominated.{AreDominated}
 use Rattle.domains.specs.Products.{IsProduct, IsProductOf}

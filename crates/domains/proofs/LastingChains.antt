@@ -15,7 +15,8 @@ use Rattle.board_text.specs.PlainBoard.{PlainBoard, Dominates}
 use Rattle.positions.specs.Game.{LabellerTree}
 use Rattle.positions.specs.Value.{HasValue}
 use Rattle.positions.specs.declared.value.Value.TheVariants.{Forever}
-use Rattle.domains.specs.Chains.{AreChained, IsClosedFamily}
+use Rattle.chains.specs.Chains.{AreChained}
+use Rattle.domains.specs.Families.{IsClosedFamily}
 use Rattle.domains.specs.Withdrawal.{IsFreed}
 use Rattle.domains.proofs.Exchanges.{permuted_lasts}
 use Rattle.domains.proofs.LastingMoves.{lasting_answer}
@@ -58,6 +59,13 @@ pub first_beats : (board : PlainBoard) (label other : ℕ) (chain : List ℕ) �
     → Contains chain other → Dominates board label other
 first_beats board label other chain chained has =
     subst (Dominates board label) has.2 (chained.beat 0 (suc has.0) other (omega arith) (omega (arith, has.1)))
+
+-- the oldest label of a chain, and the others
+pub oldest_of : (label : ℕ) (chain : List ℕ) → (newer : List ℕ) × (oldest : ℕ) × (label ∷ chain ≡ newer ++ oldest ∷ [])
+oldest_of label [] = ([], label, refl)
+oldest_of label (next ∷ chain) =
+    let rest = oldest_of next chain in
+    (label ∷ rest.0, rest.1, ap (λ xs. label ∷ xs) rest.2)
 
 -- ---- the last of the first places is set
 

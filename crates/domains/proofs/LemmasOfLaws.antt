@@ -13,9 +13,10 @@ use Rattle.domains.proofs.ProductValues.{product_worth}
 use Rattle.domains.proofs.ResiduesModuloFortySeven.{forty_seven_dominated}
 use Rattle.domains.proofs.ResiduesModuloNineteen.{nineteen_dominated}
 use Rattle.domains.proofs.ShownDocuments.{documents_for, claims_of_documents}
-use Rattle.domains.proofs.SmallDomains.{two_carried, three_carried, four_carried, five_carried}
-use Rattle.domains.proofs.SmallDomains.{six_carried, seven_carried, eight_carried}
-use Rattle.domains.proofs.SmallDomains.{cycle_exactly, residues_exactly, products_exactly}
+use Rattle.domains.proofs.SmallCovers.{sixteen_carry, forty_carry, ninety_six_carry, seven_on_few, eight_on_few}
+use Rattle.domains.proofs.SmallCovers.{sixteen_exactly, forty_exactly, ninety_six_exactly}
+use Rattle.domains.proofs.SmallDomains.{two_carried, three_carried, cycle_exactly, residues_exactly}
+use Rattle.domains.proofs.SmallDomains.{products_exactly}
 use Rattle.domains.proofs.Withdrawals.{freed_lasts}
 use Rattle.positions.proofs.Cited.{same_value}
 
@@ -35,11 +36,14 @@ pub ruleset few_labels_carry_many_lemmas = (
   forty_seven_dominated,
   two_carried,
   three_carried,
-  four_carried,
-  five_carried,
-  six_carried,
-  seven_carried,
-  eight_carried,
+  sixteen_carry,
+  forty_carry,
+  ninety_six_carry,
+  seven_on_few,
+  eight_on_few,
+  sixteen_exactly,
+  forty_exactly,
+  ninety_six_exactly,
   cycle_exactly,
   residues_exactly,
   products_exactly,

@@ -1,3 +1,4 @@
+mod AnyAnswers
 mod BothVersions
 mod BothWays
 mod ChainFamilies
@@ -9,6 +10,7 @@ mod ComparedValues
 mod DecidedChains
 mod DominatedChains
 mod DominatedLists
+mod DoubleCovers
 mod EachValue
 mod Embedded
 mod ExactCounts
@@ -45,6 +47,7 @@ mod ResiduesModuloNineteen
 mod SeveralProducts
 mod SharedLabels
 mod ShownDocuments
+mod SmallCovers
 mod SmallDomains
 mod Totals
 mod TwoPebbles

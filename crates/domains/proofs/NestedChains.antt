@@ -9,7 +9,7 @@ use Rattle.board_text.specs.PlainBoard.{PlainBoard, Dominates}
 use Rattle.positions.specs.Value.{HasValue}
 use Rattle.positions.specs.declared.value.Value.TheVariants.{Forever}
 use Rattle.player.specs.NestedPlay.{IsNestedPlay}
-use Rattle.domains.specs.Chains.{AreChainsDominated}
+use Rattle.chains.specs.Chains.{AreChainsDominated}
 use Rattle.domains.specs.Circles.{IsCircle}
 use Rattle.domains.specs.Dominated.{AreDominated}
 use Rattle.domains.specs.Products.{IsProduct}

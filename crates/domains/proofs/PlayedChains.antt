@@ -11,7 +11,7 @@ use Rattle.std.proofs.lemmas.List.Kept.{AllPairs-cons, AllPairs-filter}
 use Rattle.std.proofs.lemmas.Grind.{get_or-set_at}
 use Rattle.nested_cycles.proofs.Cited.{contains_cases, contains_here, contains_later, each_of}
 use Rattle.board_text.specs.PlainBoard.{PlainBoard, Dominates, DominatesPlace}
-use Rattle.domains.specs.Chains.{AreChained}
+use Rattle.chains.specs.Chains.{AreChained}
 use Rattle.domains.specs.Plays.{HaveLed, last_asked}
 use Rattle.domains.proofs.ProductBoards.{kept}
 

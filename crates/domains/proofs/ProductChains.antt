@@ -14,7 +14,7 @@ use Rattle.nested_cycles.proofs.Cited.{contains_cases, contains_here, contains_l
 use Rattle.nested_cycles.proofs.Cited.{each_of}
 use Rattle.board_text.specs.PlainBoard.{PlainBoard, Dominates}
 use Rattle.positions.proofs.Cited.{beats_or_not}
-use Rattle.domains.specs.Chains.{AreChained, AreChainsDominated}
+use Rattle.chains.specs.Chains.{AreChained, AreChainsDominated}
 use Rattle.domains.specs.Plays.{last_asked}
 use Rattle.domains.specs.Products.{IsProduct}
 use Rattle.domains.proofs.LastingChains.{chained_more, chained_none, chained_rest, first_beats}
@@ -26,7 +26,7 @@ label_of_chain : (board : PlainBoard) (other : ℕ) (chain : List ℕ) → AreCh
 label_of_chain board other chain chained has =
     All-contains (λ n. n < board.labels) chain other chained.are_labels has
 
-chained_filter : (board : PlainBoard) (test : ℕ → Bool) (chain : List ℕ) → AreChained board chain
+pub chained_filter : (board : PlainBoard) (test : ℕ → Bool) (chain : List ℕ) → AreChained board chain
     → AreChained board (filter test chain)
 chained_filter board test chain chained = record {
   are_labels = All-filter test (λ n. n < board.labels) chain chained.are_labels;

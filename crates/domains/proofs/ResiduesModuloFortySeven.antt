@@ -8,10 +8,10 @@ use Rattle.std.proofs.lemmas.List.Elements.{All-contains, All-contains_itself, A
 use Rattle.std.proofs.lemmas.List.Elements.{Contains-append_left, Contains-append_right, filter_passes}
 use Rattle.board_text.specs.PlainBoard.{PlainBoard, Dominates}
 use Rattle.nested_cycles.proofs.Cited.{contains_cases, contains_here, contains_later, contains_none, each_of}
-use Rattle.domains.specs.Chains.{AreChained, AreChainsDominated}
+use Rattle.chains.specs.Chains.{AreChained, AreChainsDominated}
 use Rattle.domains.specs.Circles.{IsCircle}
 use Rattle.domains.proofs.FewestLabels.{Ahead}
-use Rattle.domains.proofs.LastingChains.{chained_rest, first_beats}
+use Rattle.domains.proofs.LastingChains.{chained_rest, first_beats, oldest_of}
 use Rattle.domains.proofs.ProductBoards.{kept}
 use Rattle.domains.proofs.ResiduesModuloNineteen.{all_below, among, each_below, first_is, is_among, is_found, not_both}
 
@@ -109,13 +109,6 @@ unfolding squares
 forty_seven_one_way x y there back = one_way x y there back
 
 -- ---- chains
-
--- the oldest label of a chain, and the others
-oldest_of : (label : ℕ) (chain : List ℕ) → (newer : List ℕ) × (oldest : ℕ) × (label ∷ chain ≡ newer ++ oldest ∷ [])
-oldest_of label [] = ([], label, refl)
-oldest_of label (next ∷ chain) =
-    let rest = oldest_of next chain in
-    (label ∷ rest.0, rest.1, ap (λ xs. label ∷ xs) rest.2)
 
 -- the distances from the oldest label at which labels beat all of the chain
 above : ℕ → List ℕ → List ℕ

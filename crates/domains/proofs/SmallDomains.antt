@@ -1,10 +1,10 @@
--- Domains with few labels for two to eight processes.
+-- Circles of few labels, and their products.
 use Rattle.std.proofs.Common.{ℕ, suc, ◌+◌, ◌*◌, ◌^◌, ◌<◌, List, [], ◌∷◌, ◌∙◌, ap, inl, inr, subst, sym, arith}
 use Rattle.std.proofs.lemmas.List.Elements.{All-cons, All-head, All-nil, All-tail}
 use Rattle.std.specs.Prelude.{All}
 use Rattle.board_text.specs.PlainBoard.{PlainBoard, IsAntisymmetric}
 use Rattle.domains.specs.Carried.{CarriesExactly, SomeCarries}
-use Rattle.domains.specs.Chains.{AreChainsDominated}
+use Rattle.chains.specs.Chains.{AreChainsDominated}
 use Rattle.domains.specs.Circles.{AreResidues, IsCircle}
 use Rattle.domains.specs.Products.{IsProductOf}
 use Rattle.domains.proofs.Circles.{cycle_dominated, residues_dominated}
@@ -12,8 +12,8 @@ use Rattle.domains.proofs.DominatedChains.{chains_of_dominated}
 use Rattle.domains.proofs.ExactCounts.{chains_exactly, product_carries_exactly, several_carry_exactly}
 use Rattle.domains.proofs.FewestLabels.{Ahead, circle_board, cycle_one_way, residues_one_way}
 use Rattle.domains.proofs.ProductData.{product_exists}
-use Rattle.domains.proofs.ResiduesModuloFortySeven.{forty_seven_dominated, forty_seven_one_way}
-use Rattle.domains.proofs.ResiduesModuloNineteen.{nineteen_dominated, nineteen_one_way}
+use Rattle.domains.proofs.ResiduesModuloFortySeven.{forty_seven_dominated}
+use Rattle.domains.proofs.ResiduesModuloNineteen.{nineteen_dominated}
 
 -- a circle whose short chains of labels are dominated
 circle_exactly : (labels count : ℕ) (steps : List ℕ) → 0 < labels → suc labels < 2 ^ suc (suc count)
@@ -37,7 +37,7 @@ circle_carries labels count steps some few one_way dominated =
       circle_exactly labels count steps some few dominated found.0 found.3.one_way found.1,
     )
 
-product_carries : (labels more count others : ℕ) → 0 < labels → 0 < more → SomeCarries labels (suc count)
+pub product_carries : (labels more count others : ℕ) → 0 < labels → 0 < more → SomeCarries labels (suc count)
     → SomeCarries more (suc others) → SomeCarries (labels * more) (suc (count + others))
 product_carries labels more count others some some_more outer inner =
     let found = product_exists outer.0 inner.0 0 [] (subst (λ n. 0 < n) (sym inner.1) some_more) outer.2.one_way
@@ -53,11 +53,11 @@ cycle_chains : (board : PlainBoard) → IsCircle 3 (1 ∷ []) board → AreChain
 cycle_chains board circle =
     chains_of_dominated board 1 (omega (arith, circle.labels_are)) (cycle_dominated board circle)
 
-residues_chains : (board : PlainBoard) → IsCircle 7 (1 ∷ 2 ∷ 4 ∷ []) board → AreChainsDominated board 2
+pub residues_chains : (board : PlainBoard) → IsCircle 7 (1 ∷ 2 ∷ 4 ∷ []) board → AreChainsDominated board 2
 residues_chains board circle =
     chains_of_dominated board 2 (omega (arith, circle.labels_are)) (residues_dominated board circle)
 
-nineteen_chains : (board : PlainBoard) → IsCircle 19 (1 ∷ 4 ∷ 5 ∷ 6 ∷ 7 ∷ 9 ∷ 11 ∷ 16 ∷ 17 ∷ []) board
+pub nineteen_chains : (board : PlainBoard) → IsCircle 19 (1 ∷ 4 ∷ 5 ∷ 6 ∷ 7 ∷ 9 ∷ 11 ∷ 16 ∷ 17 ∷ []) board
     → AreChainsDominated board 3
 nineteen_chains board circle =
     chains_of_dominated board 3 (omega (arith, circle.labels_are)) (nineteen_dominated board circle)
@@ -67,26 +67,6 @@ two_carried = circle_carries 3 1 (1 ∷ []) (omega arith) (omega arith) cycle_on
 
 pub three_carried : SomeCarries 7 3
 three_carried = circle_carries 7 2 (1 ∷ 2 ∷ 4 ∷ []) (omega arith) (omega arith) residues_one_way residues_chains
-
-pub four_carried : SomeCarries 19 4
-four_carried =
-    circle_carries 19 3 (1 ∷ 4 ∷ 5 ∷ 6 ∷ 7 ∷ 9 ∷ 11 ∷ 16 ∷ 17 ∷ []) (omega arith) (omega arith) nineteen_one_way
-    nineteen_chains
-
-pub five_carried : SomeCarries 47 5
-five_carried =
-    circle_carries 47 4
-    (1 ∷ 2 ∷ 3 ∷ 4 ∷ 6 ∷ 7 ∷ 8 ∷ 9 ∷ 12 ∷ 14 ∷ 16 ∷ 17 ∷ 18 ∷ 21 ∷ 24 ∷ 25 ∷ 27 ∷ 28 ∷ 32 ∷ 34 ∷ 36 ∷ 37 ∷ 42 ∷ [])
-    (omega arith) (omega arith) forty_seven_one_way forty_seven_dominated
-
-pub six_carried : SomeCarries 133 6
-six_carried = product_carries 7 19 2 3 (omega arith) (omega arith) three_carried four_carried
-
-pub seven_carried : SomeCarries 329 7
-seven_carried = product_carries 7 47 2 4 (omega arith) (omega arith) three_carried five_carried
-
-pub eight_carried : SomeCarries 893 8
-eight_carried = product_carries 19 47 3 4 (omega arith) (omega arith) four_carried five_carried
 
 -- ---- which domains they are
 

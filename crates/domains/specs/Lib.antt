@@ -1,10 +1,11 @@
 pub mod Agreement
 pub mod Carried
-pub mod Chains
 pub mod Circles
 pub mod Cycles
 pub mod Dominated
+pub mod DoubleCovers
 pub mod Embedding
+pub mod Families
 pub mod Follows
 pub mod Kept
 pub mod Lowest

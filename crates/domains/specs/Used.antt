@@ -1,5 +1,5 @@
 -- Labels from which a domain lasts for ever, and boards that keep them.
-use Rattle.std.specs.Prelude.{◌≡◌, ℕ, suc, ◌<◌, replicate}
+use Rattle.std.specs.Prelude.{◌≡◌, ◌↔◌, ℕ, suc, ◌<◌, replicate}
 use Rattle.board_text.specs.PlainBoard.{PlainBoard, Dominates}
 use Rattle.positions.specs.Value.{HasValue}
 use Rattle.positions.specs.declared.value.Value.TheVariants.{Forever}
@@ -25,3 +25,14 @@ pub record KeepsAbove (board part : PlainBoard) (label : ℕ) (image : ℕ → �
   pub beats : (first second : ℕ) → first < board.labels → second < board.labels
       → Dominates board first label → Dominates board second label → Dominates board first second
       → Dominates part (image first) (image second)
+
+-- each label that beats this one has a name in the part, each label of the part is such a name, and
+-- of two labels that beat this one, one beats the other if its name does, and only then
+pub record AreAbove (board part : PlainBoard) (label : ℕ) (to back : ℕ → ℕ) : Type 0 where
+  pub there : (other : ℕ) → other < board.labels → Dominates board other label
+      → to other < part.labels
+  pub again : (name : ℕ) → name < part.labels
+      → (back name < board.labels) × Dominates board (back name) label × (to (back name) ≡ name)
+  pub beats : (first second : ℕ) → first < board.labels → second < board.labels
+      → Dominates board first label → Dominates board second label
+      → Dominates board first second ↔ Dominates part (to first) (to second)

@@ -1,17 +1,23 @@
 //! Laws of chains: the labels of a play, newest first, and from which of them a domain lasts for
 //! ever. Each is the contract of a function without a body.
 
-ghost use Rattle.std.specs.Prelude.{◌≡◌, ◌≢◌, ◌↔◌, ◌+◌, ◌<◌, ◌≤◌, ℕ, suc, List, ◌∷◌, ◌++◌};
+ghost use Rattle.std.specs.Prelude.{◌≡◌, ◌≢◌, ◌↔◌, ◌+◌, ◌^◌, ◌<◌, ◌≤◌, ℕ, suc, List};
+ghost use Rattle.std.specs.Prelude.{[], ◌∷◌, ◌++◌};
 ghost use Rattle.std.specs.Prelude.{length, map, replicate, slice_index, All, AllPairs, Contains};
 ghost use Rattle.board_text.specs.PlainBoard.{PlainBoard, Dominates, DominatesPlace};
+ghost use Rattle.board_text.specs.PlainBoard.{IsAntisymmetric};
 ghost use Rattle.player.specs.NestedPlay.{IsNestedPlay};
+ghost use Rattle.positions.specs.Game.{Legal, moved};
 ghost use Rattle.positions.specs.Value.{HasValue};
 ghost use Rattle.positions.specs.declared.value.Value.TheVariants.{Forever};
-ghost use Rattle.domains.specs.Chains.{AreChained, AreChainsDominated, IsClosedFamily, IsCovered};
+ghost use Rattle.chains.specs.Chains.{AreChained, AreChainsDominated};
+ghost use Rattle.domains.specs.Families.{IsClosedFamily, IsCovered};
+ghost use Rattle.domains.specs.Circles.{IsCircle};
 ghost use Rattle.domains.specs.Dominated.{AreDominated};
+ghost use Rattle.domains.specs.DoubleCovers.{IsDoubleCover};
 ghost use Rattle.domains.specs.Plays.{HaveLed, last_asked};
 ghost use Rattle.domains.specs.Products.{IsProduct};
-ghost use Rattle.domains.specs.Used.{IsUsed, KeepsAbove};
+ghost use Rattle.domains.specs.Used.{AreAbove, IsUsed, KeepsAbove};
 
 use crate::laws_of_values::Property;
 
@@ -75,8 +81,10 @@ pub fn dominators_carry_one_fewer()
 
 /// If each chain of fewer labels than there are processes is dominated by one label, the domain
 /// lasts for ever from all processes on one label, whichever, or on none, and from each
-/// configuration whose labels, whichever process is left out, are all in one such chain. Where each
-/// list of one label fewer than there are processes is dominated, each such chain is.
+/// configuration whose labels, whichever process is left out, are all in one such chain. Each label
+/// that dominates the others' labels is then a right answer: after it the labels are in such chains
+/// again. Where each list of one label fewer than there are processes is dominated, each such chain
+/// is. And so many processes need 2 to their number labels, less one.
 pub fn dominated_chains_last()
     ensures on_one_label { (board : PlainBoard) → (count : ℕ) → (label : ℕ)
         → AreChainsDominated board count → board.pebbles ≡ suc count
@@ -85,8 +93,55 @@ pub fn dominated_chains_last()
         → board.pebbles ≡ suc count → AreChainsDominated board count
         → IsCovered board (λ chain. (length chain ≤ count) × AreChained board chain) configuration
         → HasValue board configuration Forever }
+    ensures any_answer { (board : PlainBoard) → (count : ℕ) → (configuration : List ℕ)
+        → (pebble : ℕ) → (label : ℕ)
+        → board.pebbles ≡ suc count → AreChainsDominated board count
+        → IsCovered board (λ chain. (length chain ≤ count) × AreChained board chain) configuration
+        → pebble < board.pebbles → Legal board configuration pebble label
+        → IsCovered board (λ chain. (length chain ≤ count) × AreChained board chain)
+        (moved configuration pebble label) }
     ensures of_lists { (board : PlainBoard) → (count : ℕ) → 0 < board.labels
         → AreDominated board count → AreChainsDominated board count }
+    ensures labels { (board : PlainBoard) → (count : ℕ) → IsAntisymmetric board
+        → AreChainsDominated board count → 2 ^ suc count ≤ suc board.labels }
+{}
+
+/// If above each label the labels that dominate it have each chain of k labels dominated, by
+/// themselves and with other names, the domain has each chain of k + 1 dominated. Above each label
+/// of the double cover of the squares modulo 7, 19 or 47 are the squares with other names: so on 16
+/// labels each chain of up to three labels is dominated, on 40 of up to four, and on 96 of up to
+/// five.
+pub fn chains_above_labels()
+    ensures one_more { (board : PlainBoard) → (count : ℕ) → 0 < board.labels
+        → ((label : ℕ) → label < board.labels
+        → (part : PlainBoard) × (to : ℕ → ℕ) × (back : ℕ → ℕ) × AreAbove board part label to back
+        × AreChainsDominated part count)
+        → AreChainsDominated board (suc count) }
+    ensures above_sixteen { (board : PlainBoard) → (part : PlainBoard) → (label : ℕ)
+        → IsDoubleCover 7 (1 ∷ 2 ∷ 4 ∷ []) board → IsCircle 7 (1 ∷ 2 ∷ 4 ∷ []) part
+        → label < board.labels
+        → (to : ℕ → ℕ) × (back : ℕ → ℕ) × AreAbove board part label to back }
+    ensures above_forty { (board : PlainBoard) → (part : PlainBoard) → (label : ℕ)
+        → IsDoubleCover 19 (1 ∷ 4 ∷ 5 ∷ 6 ∷ 7 ∷ 9 ∷ 11 ∷ 16 ∷ 17 ∷ []) board
+        → IsCircle 19 (1 ∷ 4 ∷ 5 ∷ 6 ∷ 7 ∷ 9 ∷ 11 ∷ 16 ∷ 17 ∷ []) part
+        → label < board.labels
+        → (to : ℕ → ℕ) × (back : ℕ → ℕ) × AreAbove board part label to back }
+    ensures above_ninety_six { (board : PlainBoard) → (part : PlainBoard) → (label : ℕ)
+        → IsDoubleCover 47 (1 ∷ 2 ∷ 3 ∷ 4 ∷ 6 ∷ 7 ∷ 8 ∷ 9 ∷ 12 ∷ 14 ∷ 16 ∷ 17 ∷ 18 ∷ 21 ∷ 24 ∷ 25
+        ∷ 27 ∷ 28 ∷ 32 ∷ 34 ∷ 36 ∷ 37 ∷ 42 ∷ []) board
+        → IsCircle 47 (1 ∷ 2 ∷ 3 ∷ 4 ∷ 6 ∷ 7 ∷ 8 ∷ 9 ∷ 12 ∷ 14 ∷ 16 ∷ 17 ∷ 18 ∷ 21 ∷ 24 ∷ 25 ∷ 27
+        ∷ 28 ∷ 32 ∷ 34 ∷ 36 ∷ 37 ∷ 42 ∷ []) part
+        → label < board.labels
+        → (to : ℕ → ℕ) × (back : ℕ → ℕ) × AreAbove board part label to back }
+    ensures sixteen { (board : PlainBoard) → IsDoubleCover 7 (1 ∷ 2 ∷ 4 ∷ []) board
+        → AreChainsDominated board 3 }
+    ensures forty { (board : PlainBoard)
+        → IsDoubleCover 19 (1 ∷ 4 ∷ 5 ∷ 6 ∷ 7 ∷ 9 ∷ 11 ∷ 16 ∷ 17 ∷ []) board
+        → AreChainsDominated board 4 }
+    ensures ninety_six { (board : PlainBoard)
+        → IsDoubleCover 47 (1 ∷ 2 ∷ 3 ∷ 4 ∷ 6 ∷ 7 ∷ 8 ∷ 9 ∷ 12 ∷ 14 ∷ 16 ∷ 17 ∷ 18 ∷ 21 ∷ 24 ∷ 25
+        ∷ 27 ∷ 28 ∷ 32 ∷ 34 ∷ 36 ∷ 37 ∷ 42 ∷ []) board
+        → AreChainsDominated board 5 }
 {}
 
 /// If each chain of up to a labels is dominated in the outer domain, and each of up to b in the

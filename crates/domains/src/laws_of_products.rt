@@ -9,9 +9,10 @@ ghost use Rattle.positions.specs.declared.value.Value.{Value as ValueData};
 ghost use Rattle.positions.specs.declared.value.Value.TheVariants.{Finite, Forever};
 ghost use Rattle.player.specs.NestedPlay.{IsNestedPlay};
 ghost use Rattle.domains.specs.Carried.{Carries, CarriesExactly, SomeCarries};
-ghost use Rattle.domains.specs.Chains.{AreChainsDominated};
+ghost use Rattle.chains.specs.Chains.{AreChainsDominated};
 ghost use Rattle.domains.specs.Circles.{AreResidues, IsCircle};
 ghost use Rattle.domains.specs.Dominated.{AreDominated, IsHeld};
+ghost use Rattle.domains.specs.DoubleCovers.{IsDoubleCover};
 ghost use Rattle.domains.specs.Orders.{IsChain};
 ghost use Rattle.domains.specs.Products.{IsProduct, IsProductOf, IsBelowCopy};
 ghost use Rattle.domains.specs.ValueOrder.{IsAtMost};
@@ -161,11 +162,12 @@ pub fn large_products()
 {}
 
 /// Few labels carry two to eight processes for ever, and no more: the three-cycle two, the
-/// residues modulo seven three, of which each two are dominated by one, those modulo nineteen
-/// four, of which each three are, and those modulo 47 five, of which each four are that are a
-/// chain; and some domains of 133, 329 and 893 labels six to eight. Products of these residues
-/// carry as many as their factors together, less one for each factor after the first. That no
-/// domain has fewer labels isn't said.
+/// residues modulo seven three, of which each two are dominated by one, and the double covers of
+/// 16, 40 and 96 labels, of the squares modulo 7, 19 and 47, four, five and six; and some domains
+/// of 256 and 640 labels seven and eight. The residues modulo nineteen, of which each three labels
+/// are dominated, carry four, and those modulo 47, of which each four that are a chain are, five;
+/// products of these residues as many as their factors together, less one for each factor after
+/// the first. That no domain has fewer labels isn't said.
 #[tactic(auto, using(crate::proofs::LemmasOfLaws::few_labels_carry_many_lemmas))]
 pub fn few_labels_carry_many()
     ensures residues_modulo_seven { (board : PlainBoard) → IsCircle 7 (1 ∷ 2 ∷ 4 ∷ []) board
@@ -178,11 +180,20 @@ pub fn few_labels_carry_many()
         → AreChainsDominated board 4 }
     ensures two { SomeCarries 3 2 }
     ensures three { SomeCarries 7 3 }
-    ensures four { SomeCarries 19 4 }
-    ensures five { SomeCarries 47 5 }
-    ensures six { SomeCarries 133 6 }
-    ensures seven { SomeCarries 329 7 }
-    ensures eight { SomeCarries 893 8 }
+    ensures four { SomeCarries 16 4 }
+    ensures five { SomeCarries 40 5 }
+    ensures six { SomeCarries 96 6 }
+    ensures seven { SomeCarries 256 7 }
+    ensures eight { SomeCarries 640 8 }
+    ensures sixteen { (board : PlainBoard) → IsAntisymmetric board
+        → IsDoubleCover 7 (1 ∷ 2 ∷ 4 ∷ []) board → CarriesExactly board 4 }
+    ensures forty { (board : PlainBoard) → IsAntisymmetric board
+        → IsDoubleCover 19 (1 ∷ 4 ∷ 5 ∷ 6 ∷ 7 ∷ 9 ∷ 11 ∷ 16 ∷ 17 ∷ []) board
+        → CarriesExactly board 5 }
+    ensures ninety_six { (board : PlainBoard) → IsAntisymmetric board
+        → IsDoubleCover 47 (1 ∷ 2 ∷ 3 ∷ 4 ∷ 6 ∷ 7 ∷ 8 ∷ 9 ∷ 12 ∷ 14 ∷ 16 ∷ 17 ∷ 18 ∷ 21 ∷ 24 ∷ 25
+        ∷ 27 ∷ 28 ∷ 32 ∷ 34 ∷ 36 ∷ 37 ∷ 42 ∷ []) board
+        → CarriesExactly board 6 }
     ensures cycle { (board : PlainBoard) → IsAntisymmetric board → IsCircle 3 (1 ∷ []) board
         → CarriesExactly board 2 }
     ensures residues { (board : PlainBoard) → IsAntisymmetric board → AreResidues board

@@ -17,8 +17,8 @@ pub use laws_of_answers::{
     answers_depend_on_others, dominators_are_not_asked, no_label_is_a_lowest_label,
 };
 pub use laws_of_chains::{
-    asked_labels_are_chains, chains_decide_what_lasts, closed_families_last, dominated_chains_last,
-    dominators_carry_one_fewer, products_dominate_chains,
+    asked_labels_are_chains, chains_above_labels, chains_decide_what_lasts, closed_families_last,
+    dominated_chains_last, dominators_carry_one_fewer, products_dominate_chains,
 };
 pub use laws_of_claims::{
     both_versions_show_the_same_claims, claims_hold_where_documents_show_them,

@@ -48,6 +48,10 @@ impl<'a> Note<'a> {
                 about: board.name,
                 parts: long_document_hint(board.text),
             },
+            RunFault::TooManyChains => Note {
+                about: board.name,
+                parts: many_chains_hint(),
+            },
             RunFault::Proof(fault) => Note {
                 about: other.name,
                 parts: proof_hint(fault, inputs),
@@ -196,6 +200,11 @@ fn long_document_hint(board: &[u8]) -> Parts {
         sizes.classes(),
         " classes more are listed than fit into 134217728 bytes, the most that `check` reads",
     )
+}
+
+/// The words for a board with too many chains of one length.
+fn many_chains_hint() -> Parts {
+    words("it has more chains of one length than 68719476736; `--most` stops at shorter ones")
 }
 
 /// The words for a board with too many configurations for a document that lists them.

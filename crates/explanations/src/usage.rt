@@ -11,6 +11,9 @@ const _: () = prove!(MAX_WORKERS == 16);
 /// The option for workers, with its number in the same word.
 const WORKERS_IS: &str = "--workers=";
 
+/// The option for the greatest length of chains, with its number in the same word.
+const MOST_IS: &str = "--most=";
+
 /// The option for a side, with the side in the same word.
 const SIDE_IS: &str = "--side=";
 
@@ -37,15 +40,19 @@ pub(crate) fn usage_hint(words: &[&str]) -> &'static str {
             return "only `solve`, `report` and `play` have `--large`; ";
         }
         if is_for_workers(word) && !takes_workers(words[1]) {
-            return "only `solve` and `report` have `--workers`; ";
+            return "only `solve`, `report` and `chains` have `--workers`; ";
+        }
+        if is_for_a_length(word) && words[1] != "chains" {
+            return "only `chains` has `--most`; ";
         }
         if is_for_a_side(word) && words[1] != "play" {
             return "only `play` has `--side`; ";
         }
         if is_unknown_option(word) {
-            return "the only options are `--workers` of `solve` and `report`, `--side` of `play`, \
-                `--large` of `solve`, `report` and `play`, `--explain`, `--help` and `--version`; a \
-                path that begins with `-` comes after `--`; ";
+            return "the only options are `--workers` of `solve`, `report` and `chains`, `--most` of \
+                `chains`, `--side` of `play`, `--large` of `solve`, `report` and `play`, \
+                `--explain`, `--help` and `--version`; a path that begins with `-` comes after \
+                `--`; ";
         }
     }
     ""
@@ -58,12 +65,17 @@ fn takes_large(command: &str) -> bool {
 
 /// Whether the command of this name has the option for workers.
 fn takes_workers(command: &str) -> bool {
-    command == "solve" || command == "report"
+    command == "solve" || command == "report" || command == "chains"
 }
 
 /// Whether a word is the option for workers.
 fn is_for_workers(word: &str) -> bool {
     word == "--workers" || word.starts_with(WORKERS_IS)
+}
+
+/// Whether a word is the option for the greatest length of chains.
+fn is_for_a_length(word: &str) -> bool {
+    word == "--most" || word.starts_with(MOST_IS)
 }
 
 /// Whether a word is the option for a side.
@@ -117,6 +129,7 @@ fn is_version(word: &str) -> bool {
 /// Whether a word is an option that no command has.
 fn is_unknown_option(word: &str) -> bool {
     let is_known = is_for_workers(word)
+        || is_for_a_length(word)
         || is_for_a_side(word)
         || word == "--help"
         || word == "-h"

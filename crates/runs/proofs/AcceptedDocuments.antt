@@ -32,7 +32,7 @@ use Rattle.graphs.specs.declared.graph.Numbering.TheVariants.{Ordered, Classes}
 use Rattle.runs.proofs.DocumentKinds.{by_classes, by_ranks}
 use Rattle.runs.specs.declared.fault.RunFault.{RunFault}
 use Rattle.runs.specs.declared.fault.RunFault.TheVariants.{Board, TooLarge, Proof, Memory, Worker, Read, Write, Limit}
-use Rattle.runs.specs.declared.fault.RunFault.TheVariants.{DocumentTooLarge}
+use Rattle.runs.specs.declared.fault.RunFault.TheVariants.{DocumentTooLarge, TooManyChains}
 use Rattle.runs.specs.declared.verdicts.Verdict.{Verdict}
 use Rattle.runs.specs.declared.verdicts.Verdict.TheVariants.{Accepted, Refused, RefusedByClasses}
 
@@ -77,6 +77,7 @@ not_wrong_among IsSmall text board small Worker wrong = wrong
 not_wrong_among IsSmall text board small Read wrong = wrong
 not_wrong_among IsSmall text board small Write wrong = wrong
 not_wrong_among IsSmall text board small DocumentTooLarge wrong = wrong
+not_wrong_among IsSmall text board small TooManyChains wrong = wrong
 not_wrong_among IsSmall text board small Limit wrong = wrong
 
 -- nor is that of a board within the limit
@@ -99,6 +100,7 @@ module _ (text written : List ℕ) (value : Value) (solution : IsSolution text v
   no_fault_of_board Read wrong = absurd wrong
   no_fault_of_board Write wrong = absurd wrong
   no_fault_of_board DocumentTooLarge wrong = absurd wrong
+  no_fault_of_board TooManyChains wrong = absurd wrong
   no_fault_of_board Limit wrong = absurd wrong
 
   module _ (board : PlainBoard) (small : IsSmallBoard text board) where
@@ -134,6 +136,7 @@ module _ (text written : List ℕ) (value : Value) (solution : IsSolution text v
     no_fault_of_document Read wrong = absurd wrong
     no_fault_of_document Write wrong = absurd wrong
     no_fault_of_document DocumentTooLarge wrong = absurd wrong
+    no_fault_of_document TooManyChains wrong = absurd wrong
     no_fault_of_document Limit wrong = absurd wrong
 
 -- bytes that were all given are the text

@@ -4,3 +4,4 @@ pub use Rattle.runs.proofs.ClassSolutions.{class_solution_or_fault, one_class_so
 pub use Rattle.runs.proofs.EndLines.{one_length}
 pub use Rattle.runs.proofs.OneOutcome.{one_report, one_solution, one_wrong, one_wrong_among}
 pub use Rattle.runs.proofs.OneVerdict.{one_verdict, one_wrong_proof, verdict_or_fault}
+pub use Rattle.runs.proofs.ChainTexts.{chains_or_fault, one_chain_fault, one_chains, wrong_counting}

@@ -24,7 +24,7 @@ use Rattle.runs.specs.declared.checking.TheConstants.{MAX_PROOF_BYTES}
 use Rattle.runs.specs.Verdicts.{IsChecked, IsClassVerdict, IsProofOf, IsVerdictOf, text_of_proof}
 use Rattle.runs.specs.declared.fault.RunFault.{RunFault}
 use Rattle.runs.specs.declared.fault.RunFault.TheVariants.{Board, TooLarge, Proof, Memory, Worker, Read, Write, Limit}
-use Rattle.runs.specs.declared.fault.RunFault.TheVariants.{DocumentTooLarge}
+use Rattle.runs.specs.declared.fault.RunFault.TheVariants.{DocumentTooLarge, TooManyChains}
 use Rattle.runs.specs.declared.verdicts.Verdict.{Verdict}
 use Rattle.runs.specs.declared.verdicts.Verdict.TheVariants.{Accepted, Refused, RefusedByClasses}
 use Rattle.runs.proofs.AcceptedDocuments.{not_wrong}
@@ -66,6 +66,7 @@ module _ (text : List ℕ) where
   fault_is : (fault : RunFault) → IsUnsolvedByClasses text fault
       → ((fault ≡ DocumentTooLarge) × IsUnsolvedByClasses text DocumentTooLarge) ⊎ IsWrongWithin Large text fault
   fault_is DocumentTooLarge h = inl (refl, h)
+  fault_is TooManyChains h = inr h
   fault_is (Board told) h = inr h
   fault_is TooLarge h = inr h
   fault_is (Proof told) h = inr h
@@ -197,4 +198,5 @@ module _ (text written : List ℕ) (value : Value) (solution : IsClassSolution t
   class_document_faultless Read wrong = absurd wrong
   class_document_faultless Write wrong = absurd wrong
   class_document_faultless DocumentTooLarge wrong = absurd wrong
+  class_document_faultless TooManyChains wrong = absurd wrong
   class_document_faultless Limit wrong = absurd wrong

@@ -17,5 +17,6 @@ pub mod OneOutcome
 pub mod ClassSolutions
 pub mod ToldNotices
 pub mod PlayFaults
+pub mod ChainTexts
 pub mod Cited
 pub mod ValueCounts

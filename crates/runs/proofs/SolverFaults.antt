@@ -11,7 +11,7 @@ use Rattle.command_line.specs.declared.asked.BoardLimit.{BoardLimit}
 use Rattle.command_line.specs.declared.asked.BoardLimit.TheVariants.{Small}
 use Rattle.runs.specs.declared.fault.RunFault.{RunFault}
 use Rattle.runs.specs.declared.fault.RunFault.TheVariants.{Board, TooLarge, Proof, Memory, Worker, Read, Write, Limit}
-use Rattle.runs.specs.declared.fault.RunFault.TheVariants.{DocumentTooLarge}
+use Rattle.runs.specs.declared.fault.RunFault.TheVariants.{DocumentTooLarge, TooManyChains}
 use Rattle.runs.specs.Inside.Faults.{fault_of_solving}
 use Rattle.runs.specs.Texts.{HasNoneWithin}
 use Rattle.runs.specs.Inside.SolveRun.{IsRefused}
@@ -44,4 +44,5 @@ any_worker limit workers text Worker h = absurd h
 any_worker limit workers text Read h = absurd h
 any_worker limit workers text Write h = absurd h
 any_worker limit workers text DocumentTooLarge h = absurd h
+any_worker limit workers text TooManyChains h = absurd h
 any_worker limit workers text Limit h = absurd h

@@ -16,7 +16,7 @@ use Rattle.command_line.specs.declared.asked.BoardLimit.{BoardLimit}
 use Rattle.command_line.specs.declared.asked.BoardLimit.TheVariants.{Small}
 use Rattle.positions.specs.declared.value.Value.{Value}
 use Rattle.runs.specs.declared.fault.RunFault.{RunFault}
-use Rattle.runs.specs.declared.fault.RunFault.TheVariants.{Board, DocumentTooLarge, Limit, Memory, Proof, Read}
+use Rattle.runs.specs.declared.fault.RunFault.TheVariants.{Board, DocumentTooLarge, TooManyChains, Limit, Memory, Proof, Read}
 use Rattle.runs.specs.declared.fault.RunFault.TheVariants.{TooLarge, Worker, Write}
 use Rattle.runs.specs.declared.reading.TheConstants.{MAX_BOARD_BYTES}
 
@@ -83,6 +83,7 @@ unsolved workers text Worker cannot = inr (cannot.2.0, cannot.2.1)
 unsolved workers text (Board fault) cannot = inl cannot
 unsolved workers text TooLarge cannot = inl cannot
 unsolved workers text DocumentTooLarge cannot = inl cannot
+unsolved workers text TooManyChains cannot = inl cannot
 unsolved workers text (Proof fault) cannot = inl cannot
 unsolved workers text Read cannot = inl cannot
 unsolved workers text Write cannot = inl cannot

@@ -13,6 +13,7 @@ pub mod ClassSolveRun
 pub mod LimitedSolveRun
 pub mod Headline
 pub mod Report
+pub mod ChainText
 pub mod Notices
 pub mod PlayRun
 pub mod Inside

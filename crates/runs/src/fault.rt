@@ -3,10 +3,11 @@
 ghost use Rattle.std.specs.Prelude.{◌≡◌};
 ghost use Rattle.runs.specs.Faults.{fault_of_play};
 ghost use Rattle.runs.specs.Inside.Faults.{IsFaultOfBoard, IsFaultOfProof, fault_of_reading};
-ghost use Rattle.runs.specs.Inside.Faults.{fault_of_solving};
+ghost use Rattle.runs.specs.Inside.Faults.{fault_of_chains, fault_of_solving};
 ghost use Rattle.runs.specs.declared.fault.RunFault.TheVariants as faults;
 
 use board_text::{BoardFault, BoardKind, Memory, ReadFault};
+use chains::ChainFault;
 use player::PlayFault;
 use positions::TooLarge;
 use proof_text::{ProofFault, ProofKind};
@@ -22,6 +23,8 @@ pub enum RunFault {
     TooLarge,
     /// The document by classes of the board has more than `MAX_PROOF_BYTES` bytes.
     DocumentTooLarge,
+    /// The board has more than `MAX_CHAINS` chains of one length.
+    TooManyChains,
     /// The text of the document has a fault.
     Proof(ProofFault),
     /// A growth of memory was refused.
@@ -93,6 +96,17 @@ impl From<TooLarge> for RunFault {
 
     fn from(_fault: TooLarge) -> RunFault {
         RunFault::TooLarge
+    }
+}
+
+impl From<ChainFault> for RunFault {
+    ghost from_gives = { λ fault told. told ≡ fault_of_chains fault };
+
+    fn from(fault: ChainFault) -> RunFault {
+        match fault {
+            ChainFault::TooMany => RunFault::TooManyChains,
+            ChainFault::Memory => RunFault::Memory,
+        }
     }
 }
 

@@ -3,6 +3,7 @@
 #![tactic(auto)]
 
 mod boards;
+mod chaining;
 mod checking;
 mod class_solving;
 mod counting;
@@ -20,6 +21,7 @@ mod verdicts;
 mod work;
 mod writing;
 
+pub use chaining::run_chains;
 pub use checking::{
     JoinedRun, MAX_JOINED_BYTES, MAX_PROOF_BYTES, run_check, run_joined, run_keeping_text,
 };

@@ -162,7 +162,7 @@ fn count_configurations(board: &Board) -> u64
 }
 
 /// Writes the line of a `word` and a number.
-fn write_size(text: &mut String, word: &str, number: u64) -> Result<(), AllocError>
+pub(crate) fn write_size(text: &mut String, word: &str, number: u64) -> Result<(), AllocError>
     ensures { OnOk result (string_bytes text.new ≡ string_bytes text.old
         ++ size_line word.now number) }
 {

@@ -18,6 +18,8 @@ use Rattle.board_text.specs.declared.fault.BoardFault.{BoardFault}
 use Rattle.runs.proofs.Cited.{not_wrong, not_wrong_among, one_length, one_report, one_solution, one_verdict, one_wrong}
 use Rattle.runs.proofs.Cited.{class_solution_or_fault, one_class_solution, one_unsolved, one_wrong_among}
 use Rattle.runs.proofs.Cited.{one_wrong_proof, verdict_or_fault}
+use Rattle.runs.proofs.Cited.{chains_or_fault, one_chain_fault, one_chains, wrong_counting}
+use Rattle.runs.specs.ChainText.{CannotCountChains, HasNoChains, SaysChains}
 use Rattle.runs.specs.ClassSolveRun.{CannotSolveByClasses, IsClassSolution, IsUnsolvedByClasses}
 use Rattle.std.proofs.Common.{take}
 use Rattle.command_line.specs.Commands.{program}
@@ -47,7 +49,7 @@ use Rattle.runs.specs.BoardRun.{GaveBoard, GaveBoardAmong, GaveNoBoard, GaveNone
 use Rattle.runs.specs.CheckRun.{CheckFails, RanCheck}
 use Rattle.serving.specs.Folders.{CanFail, Closed, File, Holds, Unknown}
 use Rattle.serving.specs.FaultLines.{line_of_fault}
-use Rattle.serving.specs.Jobs.{Checks, ChecksJoined, Climbs, Counts, IsDone, Opening, Plays, Solves}
+use Rattle.serving.specs.Jobs.{Checks, ChecksJoined, Climbs, Counts, CountsChains, IsDone, Opening, Plays, Solves}
 use Rattle.serving.specs.Jobs.{WritesNested, WritesWhole}
 use Rattle.runs.specs.NestedText.{IsNestedText}
 use Rattle.serving.specs.Outcomes.{EndsAs, outcome_of_check, outcome_of_run, status_of}
@@ -69,7 +71,7 @@ use Rattle.runs.specs.declared.checking.TheConstants.{MAX_JOINED_BYTES, MAX_PROO
 use Rattle.runs.specs.declared.reading.TheConstants.{MAX_BOARD_BYTES}
 use Rattle.runs.specs.declared.fault.RunFault.{RunFault}
 use Rattle.runs.specs.declared.fault.RunFault.TheVariants.{Board, TooLarge, Proof, Memory, Worker, Read, Write, Limit}
-use Rattle.runs.specs.declared.fault.RunFault.TheVariants.{DocumentTooLarge}
+use Rattle.runs.specs.declared.fault.RunFault.TheVariants.{DocumentTooLarge, TooManyChains}
 use Rattle.serving.specs.declared.outcome.Outcome.{Outcome}
 use Rattle.serving.specs.declared.outcome.Outcome.TheVariants.{Broken, Done, Refused}
 use Rattle.console.specs.declared.streams.Terminals.{Terminals}
@@ -100,6 +102,7 @@ wrong_solving limit workers text (Proof fault) h = absurd h
 wrong_solving limit workers text Read h = absurd h
 wrong_solving limit workers text Write h = absurd h
 wrong_solving limit workers text DocumentTooLarge h = absurd h
+wrong_solving limit workers text TooManyChains h = absurd h
 wrong_solving limit workers text Limit h = absurd h
 
 wrong_class_solving : (text : List ℕ) (fault : RunFault) → CannotSolveByClasses text fault
@@ -109,6 +112,7 @@ wrong_class_solving text Worker h = absurd h
 wrong_class_solving text (Board fault) h = inr (inr h)
 wrong_class_solving text TooLarge h = inr (inr h)
 wrong_class_solving text DocumentTooLarge h = inr (inr h)
+wrong_class_solving text TooManyChains h = absurd h
 wrong_class_solving text (Proof fault) h = absurd h
 wrong_class_solving text Read h = absurd h
 wrong_class_solving text Write h = absurd h
@@ -124,6 +128,7 @@ wrong_board IsSmall text Worker h = absurd h
 wrong_board IsSmall text Read h = absurd h
 wrong_board IsSmall text Write h = absurd h
 wrong_board IsSmall text DocumentTooLarge h = absurd h
+wrong_board IsSmall text TooManyChains h = absurd h
 wrong_board IsSmall text Limit h = absurd h
 
 wrong_proof : (board : PlainBoard) (text : List ℕ) (fault : RunFault) → HasNoProof board text fault
@@ -136,6 +141,7 @@ wrong_proof board text Worker h = absurd h
 wrong_proof board text Read h = absurd h
 wrong_proof board text Write h = absurd h
 wrong_proof board text DocumentTooLarge h = absurd h
+wrong_proof board text TooManyChains h = absurd h
 wrong_proof board text Limit h = absurd h
 
 one_check : (board : PlainBoard) (text : List ℕ) → IsBoard board → (verdict other : Verdict) (line more : List ℕ)
@@ -361,6 +367,7 @@ module _ (text : List ℕ) where
   wrong_joined Read h = inr (inr h)
   wrong_joined Write h = inr (inr h)
   wrong_joined DocumentTooLarge h = inr (inr h)
+  wrong_joined TooManyChains h = inr (inr h)
   wrong_joined Limit h = inr (inr h)
 
   -- a text that begins with a board's has no fault of a board's text
@@ -390,6 +397,7 @@ module _ (text : List ℕ) where
   wrong_text_is Read h = inr h
   wrong_text_is Write h = inr h
   wrong_text_is DocumentTooLarge h = inr h
+  wrong_text_is TooManyChains h = inr h
   wrong_text_is Limit h = inr h
 
   one_board_text_fault : (told other : BoardFault) → IsWrongText text (Board told) → IsWrongText text (Board other)
@@ -737,6 +745,25 @@ module _ (at : List ℕ → File) (known : AreKnown at) (input output other_inpu
       (wrong_solving limit more) other_output taken had_too other fair_too also.1 (at second)
       (known second) unread_too also.0)
 
+  two_chains : (most more : ℕ) (path second : List ℕ) → most ≡ more → path ≡ second
+      → (outcome ≡ Broken Read → CanFail (at path)) → (other ≡ Broken Read → CanFail (at second))
+      → CountsChains most (at path) output outcome → CountsChains more (at second) other_output other
+      → AreAlike outcome other output other_output
+  two_chains most more path second same same_path unread unread_too is also =
+      let here : CountsChains more (at second) output outcome
+      = subst (λ m. CountsChains m (at second) output outcome) same
+      (subst (λ p. CountsChains most (at p) output outcome) same_path is) in
+      alike (FileEnds (Ends outcome_of_run (SaysChains more) (HasNoChains more) MAX_BOARD_BYTES) (at second))
+      (one_file (Ends outcome_of_run (SaysChains more) (HasNoChains more) MAX_BOARD_BYTES)
+      (λ bytes. one_end outcome_of_run (SaysChains more) (HasNoChains more) MAX_BOARD_BYTES bytes
+      (λ answer next line text says says_too. (refl, one_chains more bytes answer next line text says says_too))
+      (one_chain_fault more bytes) (chains_or_fault more bytes)) (at second))
+      outcome other output other_output taken
+      (opened (SaysChains more) (CannotCountChains more) (HasNoChains more) (wrong_counting more) output taken had
+      outcome fair here.1 (at second) (known second) (λ e. subst (λ p. CanFail (at p)) same_path (unread e)) here.0)
+      (opened (SaysChains more) (CannotCountChains more) (HasNoChains more) (wrong_counting more) other_output taken
+      had_too other fair_too also.1 (at second) (known second) unread_too also.0)
+
   two_checked : (path second document paper : List ℕ) → path ≡ second → document ≡ paper
       → (outcome ≡ Broken Read → CanFail (at path) ⊎ CanFail (at document)) →
       (other ≡ Broken Read → CanFail (at second) ⊎ CanFail (at paper))
@@ -857,6 +884,8 @@ module _ (at : List ℕ → File) (known : AreKnown at) (input output other_inpu
       absurd (names_differ (codes "check") (codes "solve") refl (sym asks.0 ∙ asks_too.0))
   two_done name rows (jobs.Check b p) (jobs.Report ow og ob) asks asks_too is also =
       absurd (names_differ (codes "check") (codes "report") refl (sym asks.0 ∙ asks_too.0))
+  two_done name rows (jobs.Check b p) (jobs.Chains ow om ob) asks asks_too is also =
+      absurd (names_differ (codes "check") (codes "chains") refl (sym asks.0 ∙ asks_too.0))
   two_done name rows (jobs.Check b p) (jobs.Play os og ob) asks asks_too is also =
       absurd (names_differ (codes "check") (codes "play") refl (sym asks.0 ∙ asks_too.0))
   two_done name rows (jobs.Check b p) (jobs.Climb ol) asks asks_too is also =
@@ -872,6 +901,8 @@ module _ (at : List ℕ → File) (known : AreKnown at) (input output other_inpu
       absurd (names_differ (codes "nested") (codes "solve") refl (sym asks.0 ∙ asks_too.0))
   two_done name rows (jobs.Nested l q) (jobs.Report ow og ob) asks asks_too is also =
       absurd (names_differ (codes "nested") (codes "report") refl (sym asks.0 ∙ asks_too.0))
+  two_done name rows (jobs.Nested l q) (jobs.Chains ow om ob) asks asks_too is also =
+      absurd (names_differ (codes "nested") (codes "chains") refl (sym asks.0 ∙ asks_too.0))
   two_done name rows (jobs.Nested l q) (jobs.Play os og ob) asks asks_too is also =
       absurd (names_differ (codes "nested") (codes "play") refl (sym asks.0 ∙ asks_too.0))
   two_done name rows (jobs.Nested l q) (jobs.Climb ol) asks asks_too is also =
@@ -888,6 +919,8 @@ module _ (at : List ℕ → File) (known : AreKnown at) (input output other_inpu
       also.does.0
   two_done name rows (jobs.Solve w g b) (jobs.Report ow og ob) asks asks_too is also =
       absurd (names_differ (codes "solve") (codes "report") refl (sym asks.0 ∙ asks_too.0))
+  two_done name rows (jobs.Solve w g b) (jobs.Chains ow om ob) asks asks_too is also =
+      absurd (names_differ (codes "solve") (codes "chains") refl (sym asks.0 ∙ asks_too.0))
   two_done name rows (jobs.Solve w g b) (jobs.Play os og ob) asks asks_too is also =
       absurd (names_differ (codes "solve") (codes "play") refl (sym asks.0 ∙ asks_too.0))
   two_done name rows (jobs.Solve w g b) (jobs.Climb ol) asks asks_too is also =
@@ -904,10 +937,28 @@ module _ (at : List ℕ → File) (known : AreKnown at) (input output other_inpu
       (subst (λ l. Counts w l (at b.now) output outcome)
       (same_limit rows g og asks.2 asks_too.2) is.does.0)
       also.does.0
+  two_done name rows (jobs.Report w g b) (jobs.Chains ow om ob) asks asks_too is also =
+      absurd (names_differ (codes "report") (codes "chains") refl (sym asks.0 ∙ asks_too.0))
   two_done name rows (jobs.Report w g b) (jobs.Play os og ob) asks asks_too is also =
       absurd (names_differ (codes "report") (codes "play") refl (sym asks.0 ∙ asks_too.0))
   two_done name rows (jobs.Report w g b) (jobs.Climb ol) asks asks_too is also =
       absurd (names_differ (codes "report") (codes "climb") refl (sym asks.0 ∙ asks_too.0))
+  two_done name rows (jobs.Chains w m b) jobs.Joined asks asks_too is also = absurd asks_too
+  two_done name rows (jobs.Chains w m b) (jobs.Check ob op) asks asks_too is also =
+      absurd (names_differ (codes "chains") (codes "check") refl (sym asks.0 ∙ asks_too.0))
+  two_done name rows (jobs.Chains w m b) (jobs.Nested ol oq) asks asks_too is also =
+      absurd (names_differ (codes "chains") (codes "nested") refl (sym asks.0 ∙ asks_too.0))
+  two_done name rows (jobs.Chains w m b) (jobs.Solve ow og ob) asks asks_too is also =
+      absurd (names_differ (codes "chains") (codes "solve") refl (sym asks.0 ∙ asks_too.0))
+  two_done name rows (jobs.Chains w m b) (jobs.Report ow og ob) asks asks_too is also =
+      absurd (names_differ (codes "chains") (codes "report") refl (sym asks.0 ∙ asks_too.0))
+  two_done name rows (jobs.Chains w m b) (jobs.Chains ow om ob) asks asks_too is also =
+      two_chains m om b.now ob.now (same_number rows (codes "most") _ m om asks.2 asks_too.2)
+      (same_path _ b.now ob.now asks.3 asks_too.3) is.unread also.unread is.does.0 also.does.0
+  two_done name rows (jobs.Chains w m b) (jobs.Play os og ob) asks asks_too is also =
+      absurd (names_differ (codes "chains") (codes "play") refl (sym asks.0 ∙ asks_too.0))
+  two_done name rows (jobs.Chains w m b) (jobs.Climb ol) asks asks_too is also =
+      absurd (names_differ (codes "chains") (codes "climb") refl (sym asks.0 ∙ asks_too.0))
   two_done name rows (jobs.Play s g b) jobs.Joined asks asks_too is also = absurd asks_too
   two_done name rows (jobs.Play s g b) (jobs.Check ob op) asks asks_too is also =
       absurd (names_differ (codes "play") (codes "check") refl (sym asks.0 ∙ asks_too.0))
@@ -917,6 +968,8 @@ module _ (at : List ℕ → File) (known : AreKnown at) (input output other_inpu
       absurd (names_differ (codes "play") (codes "solve") refl (sym asks.0 ∙ asks_too.0))
   two_done name rows (jobs.Play s g b) (jobs.Report ow og ob) asks asks_too is also =
       absurd (names_differ (codes "play") (codes "report") refl (sym asks.0 ∙ asks_too.0))
+  two_done name rows (jobs.Play s g b) (jobs.Chains ow om ob) asks asks_too is also =
+      absurd (names_differ (codes "play") (codes "chains") refl (sym asks.0 ∙ asks_too.0))
   two_done name rows (jobs.Play s g b) (jobs.Play os og ob) asks asks_too is also =
       two_played og s os b.now ob.now (same_side s os (same_path _ (side_word s) (side_word os) asks.1 asks_too.1))
       (same_path _ b.now ob.now asks.3 asks_too.3) is.unread also.unread
@@ -934,6 +987,8 @@ module _ (at : List ℕ → File) (known : AreKnown at) (input output other_inpu
       absurd (names_differ (codes "climb") (codes "solve") refl (sym asks.0 ∙ asks_too.0))
   two_done name rows (jobs.Climb l) (jobs.Report ow og ob) asks asks_too is also =
       absurd (names_differ (codes "climb") (codes "report") refl (sym asks.0 ∙ asks_too.0))
+  two_done name rows (jobs.Climb l) (jobs.Chains ow om ob) asks asks_too is also =
+      absurd (names_differ (codes "climb") (codes "chains") refl (sym asks.0 ∙ asks_too.0))
   two_done name rows (jobs.Climb l) (jobs.Play os og ob) asks asks_too is also =
       absurd (names_differ (codes "climb") (codes "play") refl (sym asks.0 ∙ asks_too.0))
   two_done name rows (jobs.Climb l) (jobs.Climb ol) asks asks_too is also =
@@ -1051,6 +1106,7 @@ typed_by_name name rows (jobs.Check b p) asks = rw asks.0 refl
 typed_by_name name rows (jobs.Nested l p) asks = rw asks.0 refl
 typed_by_name name rows (jobs.Solve w g b) asks = rw asks.0 refl
 typed_by_name name rows (jobs.Report w g b) asks = rw asks.0 refl
+typed_by_name name rows (jobs.Chains w m b) asks = rw asks.0 refl
 typed_by_name name rows (jobs.Play s g b) asks = rw asks.0 refl
 typed_by_name name rows (jobs.Climb l) asks = rw asks.0 refl
 

@@ -3,7 +3,8 @@ use Rattle.std.proofs.Common.{◌≡◌, ℕ, ◌&&◌, Bool, true, false, List,
 use Rattle.std.specs.Prelude.{◌⊎◌, Err, Result}
 use Rattle.command_line.specs.declared.asked.BoardLimit.{BoardLimit}
 use Rattle.command_line.specs.declared.asked.Job.{Job}
-use Rattle.command_line.specs.declared.asked.Job.TheVariants.{Joined, Check, Nested, Solve, Report, Play, Climb}
+use Rattle.command_line.specs.declared.asked.Job.TheVariants.{Joined, Check, Nested, Solve, Report, Chains}
+use Rattle.command_line.specs.declared.asked.Job.TheVariants.{Play, Climb}
 use Rattle.console.specs.declared.streams.Terminals.{Terminals}
 use Rattle.player.specs.Prompts.{ArePrompts}
 use Rattle.player.specs.Transcript.{PersonClimbs}
@@ -74,6 +75,7 @@ module _ (at : List ℕ → File) (terminals : Terminals) (off : terminals.error
   nothing_in_job (Nested levels pebbles) told is = is
   nothing_in_job (Solve workers limit board) told is = size_untold limit (at board.now) told is
   nothing_in_job (Report workers limit board) told is = size_untold limit (at board.now) told is
+  nothing_in_job (Chains workers most board) told is = is
   nothing_in_job (Play side limit board) told is =
       unopened {Answer = PlayEnd} (at board.now)
       (λ read. IsToldInRun limit side MAX_BOARD_BYTES (input.IsKept × output.IsKept) read input.bytes output.bytes

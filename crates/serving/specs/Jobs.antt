@@ -1,7 +1,7 @@
 -- Jobs: from the files and standard input to standard output.
 use Rattle.std.specs.Prelude.{◌≡◌, ◌≢◌, ℕ, ◌⊎◌, ◌↔◌, List}
 use Rattle.command_line.specs.declared.asked.Job.{Job}
-use Rattle.command_line.specs.declared.asked.Job.TheVariants.{Joined, Check, Nested, Solve, Report}
+use Rattle.command_line.specs.declared.asked.Job.TheVariants.{Joined, Check, Nested, Solve, Report, Chains}
 use Rattle.command_line.specs.declared.asked.Job.TheVariants.{Play, Climb}
 use Rattle.player.specs.Transcript.{PersonClimbs}
 use Rattle.positions.specs.declared.side.Side.{Side}
@@ -10,6 +10,7 @@ use Rattle.serving.specs.Folders.{File, OpensWith, CanFail}
 use Rattle.runs.specs.NestedText.{IsNestedText}
 use Rattle.serving.specs.Outcomes.{EndsAs, outcome_of_check, outcome_of_run}
 use Rattle.runs.specs.PlayRun.{IsBrokenOff, IsOver, PlayFails, RanPlay}
+use Rattle.runs.specs.ChainText.{CannotCountChains, SaysChains}
 use Rattle.runs.specs.Report.{Reports}
 use Rattle.runs.specs.Run.{Bytes, Fails, Ran, Stream, Wrote, WrotePrefix}
 use Rattle.runs.specs.LimitedSolveRun.{CannotSolveWithin, SolutionWithin}
@@ -76,6 +77,14 @@ Counts workers limit board output outcome =
     MAX_BOARD_BYTES read output.bytes)) outcome
     × WritesWhole output outcome
 
+-- the chains of the board were counted, of up to this many labels
+abbrev pub CountsChains : ℕ → File → Stream → Outcome → Type 0
+CountsChains most board output outcome =
+    Opening board output.IsKept (λ read. EndsAs outcome_of_run
+    (Ran (SaysChains most) MAX_BOARD_BYTES read output.bytes)
+    (Fails (SaysChains most) (CannotCountChains most) MAX_BOARD_BYTES read output.bytes)) outcome
+    × WritesWhole output outcome
+
 -- a play on the board, with a person who is this side
 abbrev pub Plays : Side → BoardLimit → File → Stream → Stream → Outcome → Type 0
 Plays side limit board input output outcome =
@@ -111,6 +120,8 @@ module _ (at : List ℕ → File) (input output : Stream) where
       Solves workers limit (at board.now) output outcome × input.IsKept
   DoesJob (Report workers limit board) outcome =
       Counts workers limit (at board.now) output outcome × input.IsKept
+  DoesJob (Chains workers most board) outcome =
+      CountsChains most (at board.now) output outcome × input.IsKept
   DoesJob (Play side limit board) outcome = Plays side limit (at board.now) input output outcome
   DoesJob (Climb levels) outcome = Climbs levels input output outcome
 
@@ -121,6 +132,7 @@ module _ (at : List ℕ → File) (input output : Stream) where
   CanBeUnread (Nested levels pebbles) = ⊥
   CanBeUnread (Solve workers limit board) = CanFail (at board.now)
   CanBeUnread (Report workers limit board) = CanFail (at board.now)
+  CanBeUnread (Chains workers most board) = CanFail (at board.now)
   CanBeUnread (Play side limit board) = CanFail (at board.now) ⊎ input.HasFailed
   CanBeUnread (Climb levels) = input.HasFailed
 

@@ -2,7 +2,7 @@
 use Rattle.std.specs.Prelude.{◌≡◌, ℕ, Result, Ok, Err, MatchResult}
 use Rattle.runs.specs.declared.fault.RunFault.{RunFault}
 use Rattle.runs.specs.declared.fault.RunFault.TheVariants.{Board, TooLarge, Proof, Memory, Worker}
-use Rattle.runs.specs.declared.fault.RunFault.TheVariants.{DocumentTooLarge, Read, Write, Limit}
+use Rattle.runs.specs.declared.fault.RunFault.TheVariants.{DocumentTooLarge, TooManyChains, Read, Write, Limit}
 use Rattle.serving.specs.declared.outcome.Outcome.{Outcome}
 use Rattle.serving.specs.declared.outcome.Outcome.TheVariants.{Done, Refused, Broken}
 use Rattle.runs.specs.declared.verdicts.Verdict.{Verdict}
@@ -33,6 +33,7 @@ abbrev pub status_of_fault : RunFault → ℕ
 status_of_fault (Board fault) = 1
 status_of_fault TooLarge = 1
 status_of_fault DocumentTooLarge = 1
+status_of_fault TooManyChains = 1
 status_of_fault (Proof fault) = 1
 status_of_fault Memory = 4
 status_of_fault Worker = 4

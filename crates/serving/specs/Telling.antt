@@ -2,7 +2,7 @@
 use Rattle.std.specs.Prelude.{◌≡◌, ℕ, ◌⊎◌, ◌&&◌, ◌++◌, if◌then◌else◌, Bool, List, [], Result}
 use Rattle.std.specs.Prelude.{codes}
 use Rattle.command_line.specs.declared.asked.Job.{Job}
-use Rattle.command_line.specs.declared.asked.Job.TheVariants.{Joined, Check, Nested, Solve, Report}
+use Rattle.command_line.specs.declared.asked.Job.TheVariants.{Joined, Check, Nested, Solve, Report, Chains}
 use Rattle.command_line.specs.declared.asked.Job.TheVariants.{Play, Climb}
 use Rattle.console.specs.declared.streams.Terminals.{Terminals}
 use Rattle.player.specs.Prompts.{ArePrompts, shown_line}
@@ -57,6 +57,7 @@ module _ (at : List ℕ → File) (terminals : Terminals) (input output : Stream
       (λ read. IsNoticedInRun limit read terminals.errors) outcome told
   IsToldInJob (Report workers limit board) told = OpensAndTells {Answer = Unit {0}} (at board.now)
       (λ read. IsNoticedInRun limit read terminals.errors) outcome told
+  IsToldInJob (Chains workers most board) told = told ≡ []
   IsToldInJob (Play side limit board) told = OpensAndTells {Answer = PlayEnd} (at board.now)
       (λ read. IsToldInRun limit side MAX_BOARD_BYTES (input.IsKept × output.IsKept) read
       input.bytes output.bytes terminals.errors (types_and_sees terminals)) outcome told

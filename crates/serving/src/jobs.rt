@@ -13,7 +13,8 @@ ghost use Rattle.runs.specs.PlayRun.{IsToldInRun};
 ghost use Rattle.runs.specs.Run.{bytes_of, stream_of};
 ghost use Rattle.serving.specs.Consoles.{IsReady};
 ghost use Rattle.serving.specs.Folders.{CanFail};
-ghost use Rattle.serving.specs.Jobs.{IsDone, Checks, ChecksJoined, Climbs, Counts, Plays, Solves};
+ghost use Rattle.serving.specs.Jobs.{IsDone, Checks, ChecksJoined, Climbs, Counts, CountsChains};
+ghost use Rattle.serving.specs.Jobs.{Plays, Solves};
 ghost use Rattle.serving.specs.Jobs.{TellsReads, TellsWrites, WritesNested};
 ghost use Rattle.serving.specs.Telling.{IsToldInClimb, IsToldInJob, OpensAndTells};
 ghost use Rattle.serving.specs.Telling.{joined_greeting, types_and_sees};
@@ -23,13 +24,14 @@ use crate::folder::Folder;
 use crate::outcome::Outcome;
 use crate::watched::Watched;
 use board_text::{MAX_PEBBLES, Sink, Source};
+use chains::MAX_LENGTH;
 use command_line::{BoardLimit, Job, MAX_WORKERS};
 use console::{Console, Terminals, write_line};
 use explanations::{Inputs, Note, Origin};
 use nested_cycles::{MAX_BOARD_LEVELS, MAX_LEVELS};
 use runs::{
-    JoinedRun, MAX_BOARD_BYTES, Playing, RunFault, Work, run_check, run_climb, run_keeping_text,
-    run_nested,
+    JoinedRun, MAX_BOARD_BYTES, Playing, RunFault, Work, run_chains, run_check, run_climb,
+    run_keeping_text, run_nested,
 };
 use std::alloc::Global;
 use std::sync::Wait;
@@ -143,6 +145,11 @@ pub(crate) fn carry_out<'a, F: Folder, I: Source, O: Sink, E: Sink>(
             };
             report(rt, alloc, work, files, board, console)
         }
+        Job::Chains {
+            workers,
+            most,
+            board,
+        } => chains(rt, alloc, workers, most, files, board, &mut console.output),
         Job::Play { side, limit, board } => {
             let playing = Playing {
                 side,
@@ -317,6 +324,38 @@ fn report<'a, F: Folder, I: Source, O: Sink, E: Sink>(
         &mut console.errors,
     );
     Ended::of_board(Outcome::of_run(done), work.limit, files, board, &reader)
+}
+
+/// Counts the chains of the board at a path.
+fn chains<'a, F: Folder, O: Sink>(
+    rt: &(impl Threads + Sync),
+    alloc: Global,
+    workers: u8,
+    most: u8,
+    files: &Files<'_, F>,
+    board: &'a str,
+    output: &mut O,
+) -> Ended<'a>
+    requires workers { InRange 1 MAX_WORKERS workers }
+    requires most { InRange 1 MAX_LENGTH most }
+    requires output_ready { O.has_failed output.old ≡ false }
+    ensures done { CountsChains most (F.at files.now.folder.now board.now)
+        (stream_of O.contents O.has_failed output.old output.new) result.outcome }
+    ensures writes { TellsWrites (stream_of O.contents O.has_failed output.old output.new)
+        result.outcome }
+    ensures unread { result.outcome ≡ Broken Read → CanFail (F.at files.now.folder.now board.now) }
+{
+    let Ok(mut reader) = files.open(alloc, board) else {
+        return Ended::unopened(files, board);
+    };
+    let counted = run_chains(rt, alloc, workers, most, &mut reader, output);
+    Ended::of_board(
+        Outcome::of_run(counted),
+        BoardLimit::Large,
+        files,
+        board,
+        &reader,
+    )
 }
 
 /// Plays on the board at a path with a person, who writes to standard input.

@@ -4,13 +4,15 @@ use Rattle.board_text.specs.declared.fault.BoardFault.{BoardFault}
 use Rattle.board_text.specs.declared.fault.BoardKind.TheVariants as board_kinds
 use Rattle.board_text.specs.declared.read_write.ReadFault.{ReadFault}
 use Rattle.board_text.specs.declared.read_write.ReadFault.TheVariants as read_faults
+use Rattle.chains.specs.declared.counting.ChainFault.{ChainFault}
+use Rattle.chains.specs.declared.counting.ChainFault.TheVariants as chain_faults
 use Rattle.proof_text.specs.declared.fault.ProofFault.{ProofFault}
 use Rattle.proof_text.specs.declared.fault.ProofKind.TheVariants as proof_kinds
 use Rattle.solver.specs.declared.fault.SolveFault.{SolveFault}
 use Rattle.solver.specs.declared.fault.SolveFault.TheVariants as solve_faults
 use Rattle.runs.specs.declared.fault.RunFault.{RunFault}
 use Rattle.runs.specs.declared.fault.RunFault.TheVariants.{Board, TooLarge, Proof, Memory, Worker}
-use Rattle.runs.specs.declared.fault.RunFault.TheVariants.{Read, Limit}
+use Rattle.runs.specs.declared.fault.RunFault.TheVariants.{TooManyChains, Read, Limit}
 
 -- of a text that wasn't read to its end
 abbrev pub fault_of_reading : ReadFault → RunFault
@@ -35,3 +37,8 @@ abbrev pub fault_of_solving : SolveFault → RunFault
 fault_of_solving solve_faults.TooLarge = TooLarge
 fault_of_solving solve_faults.Memory = Memory
 fault_of_solving solve_faults.Worker = Worker
+
+-- of chains that weren't counted
+abbrev pub fault_of_chains : ChainFault → RunFault
+fault_of_chains chain_faults.TooMany = TooManyChains
+fault_of_chains chain_faults.Memory = Memory

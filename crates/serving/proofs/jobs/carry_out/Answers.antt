@@ -65,6 +65,15 @@ returns-in-Report-clause-done g c =
       unread = c.report.ensures.unread;
     }
 
+pub returns-in-Chains-clause-done : goal.returns-in-Chains-clause-done
+returns-in-Chains-clause-done g c =
+    rw c.in-Chains.is record {
+      does = (c.chains.ensures.done, refl);
+      writes = c.chains.ensures.writes;
+      reads = (λ failed. absurd (true≢false (sym failed ∙ c.requires.ready.input)));
+      unread = c.chains.ensures.unread;
+    }
+
 pub returns-in-Joined-clause-told : goal.returns-in-Joined-clause-told
 returns-in-Joined-clause-told g c = rw c.in-Joined.is (_, refl, c.check_joined.ensures.told)
 
@@ -75,6 +84,10 @@ returns-in-Check-clause-told g c =
 pub returns-in-Nested-clause-told : goal.returns-in-Nested-clause-told
 returns-in-Nested-clause-told g c =
     rw c.in-Nested.is ([], refl, none_more g.E.Sink.contents g.E.Sink.has_failed c.args.console.now.errors)
+
+pub returns-in-Chains-clause-told : goal.returns-in-Chains-clause-told
+returns-in-Chains-clause-told g c =
+    rw c.in-Chains.is ([], refl, none_more g.E.Sink.contents g.E.Sink.has_failed c.args.console.now.errors)
 
 pub returns-in-Solve-clause-told : goal.returns-in-Solve-clause-told
 returns-in-Solve-clause-told g c = rw c.in-Solve.is c.solve.ensures.told

@@ -1,20 +1,9 @@
--- Chains of labels, newest first, and families of lists of labels that answers keep.
-use Rattle.std.specs.Prelude.{◌≡◌, ℕ, ◌<◌, ◌≤◌, List, ◌∷◌, length, All, AllPairs, Contains}
+-- Families of lists of labels that answers keep.
+use Rattle.std.specs.Prelude.{◌≡◌, ℕ, ◌<◌, List, ◌∷◌, length, All, Contains}
 use Rattle.std.specs.List.{remove}
 use Rattle.board_text.specs.PlainBoard.{PlainBoard, Dominates}
 
--- labels of which each dominates all after it
-pub record AreChained (board : PlainBoard) (chain : List ℕ) : Type 0 where
-  pub are_labels : All (λ label. label < board.labels) chain
-  pub beat : AllPairs (Dominates board) chain
-
--- each chain of at most `count` labels has a label that dominates them all
-abbrev pub AreChainsDominated : PlainBoard → ℕ → Type 0
-AreChainsDominated board count =
-    (chain : List ℕ) → length chain ≤ count → AreChained board chain
-    → (label : ℕ) × (label < board.labels) × All (λ other. Dominates board label other) chain
-
--- Lists of `count` labels. For each of them there is a label that dominates them all, and that, put
+-- Lists of this many labels. For each of them there is a label that dominates them all, and that, put
 -- before the others in the place of any one of them, gives a list of the family again.
 pub record IsClosedFamily (board : PlainBoard) (count : ℕ) (Family : List ℕ → Type 0) : Type 0 where
   pub long : (labels : List ℕ) → Family labels → length labels ≡ count
