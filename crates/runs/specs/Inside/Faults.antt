@@ -9,8 +9,10 @@ use Rattle.proof_text.specs.declared.fault.ProofKind.TheVariants as proof_kinds
 use Rattle.solver.specs.declared.fault.SolveFault.{SolveFault}
 use Rattle.solver.specs.declared.fault.SolveFault.TheVariants as solve_faults
 use Rattle.runs.specs.declared.fault.RunFault.{RunFault}
+use Rattle.strategies.specs.declared.unmade.Unmade.{Unmade}
+use Rattle.strategies.specs.declared.unmade.Unmade.TheVariants as unmade
 use Rattle.runs.specs.declared.fault.RunFault.TheVariants.{Board, TooLarge, Proof, Memory, Worker}
-use Rattle.runs.specs.declared.fault.RunFault.TheVariants.{Read, Limit}
+use Rattle.runs.specs.declared.fault.RunFault.TheVariants.{DocumentTooLarge, Read, Limit}
 
 -- of a text that wasn't read to its end
 abbrev pub fault_of_reading : ReadFault → RunFault
@@ -35,3 +37,8 @@ abbrev pub fault_of_solving : SolveFault → RunFault
 fault_of_solving solve_faults.TooLarge = TooLarge
 fault_of_solving solve_faults.Memory = Memory
 fault_of_solving solve_faults.Worker = Worker
+
+-- of a document by classes that wasn't made
+abbrev pub fault_of_making : Unmade → RunFault
+fault_of_making unmade.Memory = Memory
+fault_of_making unmade.TooLong = DocumentTooLarge
