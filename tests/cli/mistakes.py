@@ -421,14 +421,17 @@ def of_typed_lines(work):
     asks, answers = ['play', '--side', 'adversary'], ['play', '--side', 'labeller']
     pebbles, only = 'type a pebble, 0 to 1, or quit', 'type 0, the only pebble, or quit'
     first, second = (f'labels that pebble {pebble} can take: {labels}; type one, or quit' for pebble, labels in ((0, '1 2'), (1, '2')))
-    nil, one, two = (f'{left} more can be answered; ' for left in range(3))
-    ever = 'requests can be answered for ever; '
+    nil, one, two = (f'at least {left} more will be answered, however you ask; ' for left in range(3))
+    most_one, most_two = (f'at most {left} more can be answered; ' for left in (1, 2))
+    ever = 'requests will be answered for ever, however you ask; '
     more, for_ever = (f'{of}: the play could have gone on' for of in ('2 can be answered from the start', 'requests can be answered from the start for ever'))
+    blank = 'a space or a tab is in the line: type the number alone'
     plays = [('good requests', [*asks, CHAIN], b'1\nquit\n', [ASKING, two + pebbles, one + pebbles, more]),
              ('wrong requests', [*asks, CHAIN], b'2\n1\n\nquit\n', [ASKING, two + pebbles, two + pebbles, one + pebbles, one + pebbles, more]),
-             ('wrong answers', [*answers, CHAIN], b'0\nx\n1\n1\nquit\n', [ANSWERING, *[two + first] * 3, *[one + second] * 2, more]),
-             ('the greatest label at first', [*answers, CHAIN], b'2\n', [ANSWERING, two + first, more]),
-             ('the best answers', [*answers, CHAIN], b'1\n2\n', [ANSWERING, two + first, one + second]),
+             ('wrong answers', [*answers, CHAIN], b'0\nx\n1\n1\nquit\n', [ANSWERING, *[most_two + first] * 3, *[most_one + second] * 2, more]),
+             ('the greatest label at first', [*answers, CHAIN], b'2\n', [ANSWERING, most_two + first, more]),
+             ('the best answers', [*answers, CHAIN], b'1\n2\n', [ANSWERING, most_two + first, most_one + second]),
+             ('an answer with a blank', [*answers, CHAIN], b' 1\n1\n2\n', [ANSWERING, most_two + first, blank, most_two + first, most_one + second]),
              ('wrong requests of a climb', ['climb', '3'], b'3\nquit\n', [ASKING, *[f'{ever}type a pebble, 0 to 2, or quit'] * 2, for_ever]),
              ('a wrong request of a climb of one level', ['climb', '1'], b'x\nquit\n', [ASKING, *[ever + only] * 2, for_ever]),
              ('no strategy', [*answers, cycle], b'1\nquit\n', []),

@@ -11,7 +11,7 @@ use std::process::Abort;
 pub(crate) const PLENTY: usize = 1000;
 
 /// A writer of these tests.
-pub(crate) type Writer = Trickle<400>;
+pub(crate) type Writer = Trickle<600>;
 
 /// What a play came to.
 #[derive(Drop)]

@@ -5,7 +5,7 @@ ghost use Rattle.std.specs.Prelude.{◌≡◌, false};
 use crate::assertions::{assert_same, assert_text, board_of};
 use crate::outcomes::{PLENTY, Writer, assert_prefix};
 use board_text::Board;
-use fakes::boards::{CHAIN_OF_THREE, THREE_CYCLE};
+use fakes::boards::{CHAIN_OF_THREE, CYCLE_WITH_A_WAY_IN, THREE_CYCLE};
 use fakes::plays::{ANSWERS, ASKED, NO_STRATEGY, REPLIES, REQUESTS};
 use fakes::{Drip, Failing};
 use player::{AsAdversary, AsClimber, AsLabeller, PlayEnd, PlayFault, play};
@@ -19,36 +19,60 @@ use strategies::NumberedMoves;
 /// What a person is told who asks on the chain by `REQUESTS`.
 const ASKING: &[u8] =
     b"type the number of a pebble, of which the first is 0; `quit` or Ctrl-D ends the play\n\
-    2 more can be answered; type a pebble, 0 to 1, or quit\n\
-    1 more can be answered; type a pebble, 0 to 1, or quit\n\
-    1 more can be answered; type a pebble, 0 to 1, or quit\n\
-    0 more can be answered; type a pebble, 0 to 1, or quit\n";
+    at least 2 more will be answered, however you ask; type a pebble, 0 to 1, or quit\n\
+    at least 1 more will be answered, however you ask; type a pebble, 0 to 1, or quit\n\
+    at least 1 more will be answered, however you ask; type a pebble, 0 to 1, or quit\n\
+    at least 0 more will be answered, however you ask; type a pebble, 0 to 1, or quit\n";
 
 /// What a person is told who answers on the chain by `ANSWERS`.
 const ANSWERING: &[u8] =
     b"type a label for the pebble that is asked for; `quit` or Ctrl-D ends the play\n\
-    2 more can be answered; labels that pebble 0 can take: 1 2; type one, or quit\n\
-    2 more can be answered; labels that pebble 0 can take: 1 2; type one, or quit\n\
-    1 more can be answered; labels that pebble 1 can take: 2; type one, or quit\n";
+    at most 2 more can be answered; labels that pebble 0 can take: 1 2; type one, or quit\n\
+    at most 2 more can be answered; labels that pebble 0 can take: 1 2; type one, or quit\n\
+    at most 1 more can be answered; labels that pebble 1 can take: 2; type one, or quit\n";
 
 /// What a person is told whose first answer on the chain takes the greatest label.
 const TOO_HIGH: &[u8] =
     b"type a label for the pebble that is asked for; `quit` or Ctrl-D ends the play\n\
-    2 more can be answered; labels that pebble 0 can take: 1 2; type one, or quit\n\
+    at most 2 more can be answered; labels that pebble 0 can take: 1 2; type one, or quit\n\
     2 can be answered from the start: the play could have gone on\n";
 
 /// What a person is told who stops on the cycle before a request.
 const STOPPING: &[u8] =
     b"type the number of a pebble, of which the first is 0; `quit` or Ctrl-D ends the play\n\
-    requests can be answered for ever; type a pebble, 0 to 1, or quit\n\
+    requests will be answered for ever, however you ask; type a pebble, 0 to 1, or quit\n\
     requests can be answered from the start for ever: the play could have gone on\n";
 
 /// What a person is told who climbs, with one wrong line and no other.
 const CLIMBING: &[u8] =
     b"type the number of a pebble, of which the first is 0; `quit` or Ctrl-D ends the play\n\
-    requests can be answered for ever; type a pebble, 0 to 1, or quit\n\
-    requests can be answered for ever; type a pebble, 0 to 1, or quit\n\
+    requests will be answered for ever, however you ask; type a pebble, 0 to 1, or quit\n\
+    requests will be answered for ever, however you ask; type a pebble, 0 to 1, or quit\n\
     requests can be answered from the start for ever: the play could have gone on\n";
+
+/// What a person is told whose first line has a space, and whose requests let the labeller go into
+/// the cycle, although better ones end the play after one.
+const ASKING_BADLY: &[u8] =
+    b"type the number of a pebble, of which the first is 0; `quit` or Ctrl-D ends the play\n\
+    at least 1 more will be answered, however you ask; type a pebble, 0 to 1, or quit\n\
+    a space or a tab is in the line: type the number alone\n\
+    at least 1 more will be answered, however you ask; type a pebble, 0 to 1, or quit\n\
+    requests will be answered for ever, however you ask; type a pebble, 0 to 1, or quit\n\
+    requests will be answered for ever, however you ask; type a pebble, 0 to 1, or quit\n\
+    better requests would have ended the play after 1 request\n";
+
+/// A label, and 21 labels that dominate it.
+const STAR: &str = "board 1\nlabels 22\npebbles 2\nstart 0 0\nbeats 1 0\nbeats 2 0\nbeats 3 0\n\
+    beats 4 0\nbeats 5 0\nbeats 6 0\nbeats 7 0\nbeats 8 0\nbeats 9 0\nbeats 10 0\nbeats 11 0\n\
+    beats 12 0\nbeats 13 0\nbeats 14 0\nbeats 15 0\nbeats 16 0\nbeats 17 0\nbeats 18 0\n\
+    beats 19 0\nbeats 20 0\nbeats 21 0\nend\n";
+
+/// What a person is told who may put the first pebble on 21 labels.
+const MANY_LABELS: &[u8] =
+    b"type a label for the pebble that is asked for; `quit` or Ctrl-D ends the play\n\
+    at most 1 more can be answered; labels that pebble 0 can take: 1 2 3 4 5 6 7 8 9 10 11 12 13 \
+    14 15 16 17 18 19 20, the first 20 of 21; type one, or quit\n\
+    1 can be answered from the start: the play could have gone on\n";
 
 /// A writer that takes what it is given.
 fn writer() -> Writer
@@ -191,6 +215,37 @@ fn a_person_could_ask_more(rt: HostRuntime) {
         told: STOPPING,
     };
     assert_board_play(&rt, rt.alloc(), THREE_CYCLE, Side::Adversary, wanted);
+}
+
+/// The value of the start is 1: a request of pebble 1, which takes 4, and one of pebble 0, for which
+/// no label is legal. A request of pebble 0 brings both pebbles into the cycle.
+#[test]
+fn a_person_could_ask_better(rt: HostRuntime) {
+    let wanted = Wanted {
+        lines: b"0 \n0\n1\nquit\n",
+        end: PlayEnd::Stopped { requests: 2 },
+        written: b"value 1\nat 3 0\nnot a request\npebble 0 takes 1\nat 1 0\npebble 1 takes 2\n\
+            at 1 2\nstopped after 2 requests\n",
+        told: ASKING_BADLY,
+    };
+    assert_board_play(
+        &rt,
+        rt.alloc(),
+        CYCLE_WITH_A_WAY_IN,
+        Side::Adversary,
+        wanted,
+    );
+}
+
+#[test]
+fn a_person_has_many_labels(rt: HostRuntime) {
+    let wanted = Wanted {
+        lines: b"quit\n",
+        end: PlayEnd::Stopped { requests: 0 },
+        written: b"value 1\nat 0 0\nask 0\nstopped after 0 requests\n",
+        told: MANY_LABELS,
+    };
+    assert_board_play(&rt, rt.alloc(), STAR, Side::Labeller, wanted);
 }
 
 #[test]

@@ -207,10 +207,10 @@ module _ (seat : PlayState) where
         refl,
       ))
 
-  pub no_label : seat.board.labels ≤ MAX_LABELS
-      → IsResponseToMeaning (PersonAnswers seat.board) (Going seat.at seat.requests) Other no_answer_line
+  pub no_label : (blank : Bool) → seat.board.labels ≤ MAX_LABELS
+      → IsResponseToMeaning (PersonAnswers seat.board) (Going seat.at seat.requests) (Other blank) no_answer_line
       (Going seat.at seat.requests)
-  no_label few line spells = inr
+  no_label blank few line spells = inr
       (inr (
         (spells.0, λ pebble label legal. spells.1 label (omega (arith, legal.1.is_label, few)) legal.2),
         refl,

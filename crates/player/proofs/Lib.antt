@@ -5,6 +5,7 @@ pub mod WrittenPlay
 pub mod ListedLabels
 pub mod ChoiceLines
 pub mod OpeningLines
+pub mod HintedLines
 pub mod ToldPlays
 pub mod AppendedLines
 pub mod RequestLines

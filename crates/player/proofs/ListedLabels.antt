@@ -1,16 +1,18 @@
 -- The labels of a property, listed one after the other.
-use Rattle.std.proofs.Common.{◌≡◌, ℕ, ◌+◌, ◌<◌, ◌⊎◌, ◌↔◌, List, [], ◌∷◌, ◌++◌}
-use Rattle.std.proofs.Common.{inl, inr, refl, sym, subst, arith}
-use Rattle.std.proofs.lemmas.Bool.{cases_lt}
+use Rattle.std.proofs.Common.{◌≡◌, ℕ, ◌+◌, ◌<◌, ◌≤◌, ◌⊎◌, ◌↔◌, List, [], ◌∷◌, ◌++◌}
+use Rattle.std.proofs.Common.{inl, inr, sym, subst, arith, ap, ◌∙◌, append-nil}
+use Rattle.std.proofs.lemmas.Bool.{cases_lt, le-ltb, lt-ltb}
 use Rattle.std.proofs.lemmas.List.Elements.{All-nil, All-push, Contains-append_left, Contains-push, Contains-push_cases}
 use Rattle.std.proofs.lemmas.List.Quantifiers.{all_pairs_push}
-use Rattle.std.proofs.lemmas.List.{flat_map_more}
-use Rattle.std.specs.Prelude.{All, AllPairs, Bool, Contains, Option}
+use Rattle.std.proofs.lemmas.List.{flat_map_more, length_push, take-append-le, take_all}
+use Rattle.std.specs.Prelude.{All, AllPairs, Bool, Contains, Option, if◌then◌else◌, length, take}
 use Rattle.std.specs.Fmt.{decimal}
 use Rattle.board_text.specs.LineForms.{spaced_numbers}
 use Rattle.console.specs.Showing.{HasNoControl, IsMore, shown}
 use Rattle.console.proofs.Cited.{then_more}
 use Rattle.console.proofs.Cited.{plain_both}
+use Rattle.player.specs.Inside.Prompts.{label_words}
+use Rattle.player.specs.declared.prompts.TheConstants.{MOST_LISTED}
 
 low_or_last : (bound x : ℕ) → x < bound + 1 → (x < bound) ⊎ (bound ≡ x)
 low_or_last bound x low =
@@ -77,18 +79,37 @@ module _ (Has : ℕ → Type 0) where
     pub all_listed : ((x : ℕ) → Has x → x < bound) → (x : ℕ) → Contains xs x ↔ Has x
     all_listed low x = (listed.each x, λ h. listed.all x (low x h) h)
 
--- one more number in a text
-pub told_spaced : {W : Type 0} (known : W → Option (List ℕ)) (failed : W → Bool) (a b c d : W) (xs : List ℕ) (x : ℕ)
-    → IsMore known failed a b (spaced_numbers xs) → IsMore known failed b c (32 ∷ [])
-    → IsMore known failed c d (decimal x) → IsMore known failed a d (spaced_numbers (xs ++ x ∷ []))
-told_spaced known failed a b c d xs x before space digits =
-    subst (IsMore known failed a d) (flat_map_more (λ n. 32 ∷ decimal n) [] xs x)
-    (then_more known failed a b d (spaced_numbers xs) (32 ∷ decimal x) before
-    (then_more known failed b c d (32 ∷ []) (decimal x) space digits))
+-- ---- their text, of which no more than the first are listed
 
-pub spaced_plain : (xs : List ℕ) (x : ℕ) → HasNoControl (spaced_numbers xs) → HasNoControl (decimal x)
-    → HasNoControl (spaced_numbers (xs ++ x ∷ []))
+abbrev listed : List ℕ → List ℕ
+listed xs = spaced_numbers (take MOST_LISTED xs)
+
+-- one more label
+listed_more : (xs : List ℕ) (x : ℕ) → listed xs ++ label_words (length xs) x ≡ listed (xs ++ x ∷ [])
+listed_more xs x = elim (cases_lt (length xs) MOST_LISTED) [
+  | inl low ↦
+      let within : length (xs ++ x ∷ []) ≤ MOST_LISTED = omega (arith, length_push xs x, low) in
+      ap (λ l. listed xs ++ (if l then 32 ∷ decimal x else [])) (lt-ltb (length xs) MOST_LISTED low)
+      ∙ flat_map_more (λ n. 32 ∷ decimal n) [] (take MOST_LISTED xs) x
+      ∙ ap (λ l. spaced_numbers (l ++ x ∷ [])) (take_all MOST_LISTED xs (omega (arith, low)))
+      ∙ ap spaced_numbers (sym (take_all MOST_LISTED (xs ++ x ∷ []) within))
+  | inr high ↦
+      ap (λ l. listed xs ++ (if l then 32 ∷ decimal x else [])) (le-ltb (length xs) MOST_LISTED high)
+      ∙ append-nil (listed xs) ∙ ap spaced_numbers (sym (take-append-le MOST_LISTED xs (x ∷ []) high))
+]
+
+pub told_listed : {W : Type 0} (known : W → Option (List ℕ)) (failed : W → Bool) (a b c : W) (xs : List ℕ)
+    (count x : ℕ) → length xs ≡ count → IsMore known failed a b (listed xs)
+    → IsMore known failed b c (label_words count x) → IsMore known failed a c (listed (xs ++ x ∷ []))
+told_listed known failed a b c xs count x is before label =
+    subst (IsMore known failed a c) (listed_more xs x)
+    (then_more known failed a b c (listed xs) (label_words (length xs) x) before
+    (subst (λ n. IsMore known failed b c (label_words n x)) (sym is) label))
+
+pub plain_listed : (xs : List ℕ) (count x : ℕ) → length xs ≡ count → HasNoControl (listed xs)
+    → HasNoControl (label_words count x) → HasNoControl (listed (xs ++ x ∷ []))
 unfolding shown
-spaced_plain xs x before digits =
-    subst HasNoControl (flat_map_more (λ n. 32 ∷ decimal n) [] xs x)
-    (plain_both (spaced_numbers xs) (32 ∷ decimal x) before (plain_both (32 ∷ []) (decimal x) refl digits))
+plain_listed xs count x is before label =
+    subst HasNoControl (listed_more xs x)
+    (plain_both (listed xs) (label_words (length xs) x) before
+    (subst (λ n. HasNoControl (label_words n x)) (sym is) label))

@@ -1,6 +1,6 @@
 -- The reply to the line of a person who asks.
-use Rattle.std.proofs.Common.{◌≡◌, ◌≢◌, ℕ, ◌+◌, ◌≤◌, ◌<◌, ◌^◌, List, [], ◌++◌, inl, inr, refl, sym, ap, ◌∙◌, subst}
-use Rattle.std.proofs.Common.{arith}
+use Rattle.std.proofs.Common.{◌≡◌, ◌≢◌, ℕ, ◌+◌, ◌≤◌, ◌<◌, ◌^◌, List, ◌++◌, inl, inr, refl, sym, ap, ◌∙◌, subst}
+use Rattle.std.proofs.Common.{Bool, arith}
 use Rattle.std.proofs.Common.{add-one}
 use Rattle.std.specs.Prelude.{codes}
 use Rattle.std.specs.Fmt.{decimal}
@@ -51,9 +51,9 @@ no_pebble pebbles Answers there requests number outside line spells =
 
 -- a line that is neither a number nor `quit` is no request
 pub no_number : (pebbles : ℕ) (Answers : ℕ → List ℕ → Standing → Type 0) (there : List ℕ) (requests : ℕ)
-    → pebbles < 2 ^ 32 → (line : List ℕ) → Spells line Other
+    (blank : Bool) → pebbles < 2 ^ 32 → (line : List ℕ) → Spells line (Other blank)
     → RepliesToLine pebbles Answers there requests line no_request_line (Going there requests)
-no_number pebbles Answers there requests few line spells =
+no_number pebbles Answers there requests blank few line spells =
     inr (inr ((spells.0, λ pebble inside same. spells.1 pebble (omega (arith, inside, few)) same), refl, refl))
 
 -- ---- a play that is known by its parts

@@ -5,14 +5,15 @@ use Rattle.std.specs.Prelude.{Option, Result, Ok, Err, IfErr}
 use Rattle.std.specs.Io.KnownBytes.{Appends, Keeps}
 use Rattle.board_text.specs.Streams.{AppendsPrefix}
 use Rattle.positions.specs.declared.value.Value.{Value}
-use Rattle.player.specs.Inside.Prompts.{IsToldHere, IsToldAtEnd, greeting_if}
+use Rattle.player.specs.Inside.Prompts.{IsToldHere, IsToldAtEnd, greeting_if, hint_there}
 use Rattle.player.specs.Inside.LineInput.{GivesNoLine, Unread}
 use Rattle.player.specs.Inside.Steps.{FailsToWrite}
 use Rattle.player.specs.Play.{BreaksOff, Ends, GoesOnOrEnds, HasEnded}
-use Rattle.player.specs.Prompts.{ArePrompts, AreToldResponses, BringsAndTells, EndsBefore, HasValueIn, IsPlayedAndTold}
+use Rattle.player.specs.Prompts.{ArePrompts, AreToldResponses, BringsAndTells, EndsAfter, EndsBefore, HasValueIn}
+use Rattle.player.specs.Prompts.{IsPlayedAndTold, hint_after}
 use Rattle.player.specs.Prompts.{IsToldAt}
-use Rattle.player.specs.Prompts.{IsToldIn, IsToldLast, NearlyTells, TellsBefore, greeting_of, left_words, shown_line}
-use Rattle.player.specs.Prompts.{start_of, start_words}
+use Rattle.player.specs.Prompts.{IsToldIn, IsToldLast, NearlyTells, TellsBefore, greeting_of, shown_line}
+use Rattle.player.specs.Prompts.{start_of}
 use Rattle.player.specs.Transcript.{AreResponses, BeginsPlay, Game, Going, IsPlayed, IsResponse, Over}
 use Rattle.player.specs.Transcript.{Standing}
 use Rattle.player.specs.declared.end.PlayEnd.{PlayEnd}
@@ -36,7 +37,7 @@ module _ (game : Game) where
   pub told_more : (from : Standing) (lines : List (List ℕ)) (line text said told prompt : List ℕ) (to next : Standing)
       → AreToldResponses game from lines text told to → IsResponse game to line said next
       → IsToldAt game next prompt
-      → AreToldResponses game from (lines ++ line ∷ []) (text ++ said) (told ++ prompt) next
+      → AreToldResponses game from (lines ++ line ∷ []) (text ++ said) (told ++ (hint_after line ++ prompt)) next
   told_more from [] line text said told prompt to next (none, here, same) is there = (
     said,
     [],
@@ -54,13 +55,15 @@ module _ (game : Game) where
         reply,
         more ++ said,
         words,
-        later ++ prompt,
+        later ++ (hint_after line ++ prompt),
         stood,
         here,
         was,
         told_more stood lines line more said later prompt to next rest is there,
         ap (λ l. l ++ said) text_is ∙ append_assoc reply more said,
-        ap (λ l. l ++ prompt) told_is ∙ append_assoc words later prompt,
+        ap (λ l. l ++ (hint_after line ++ prompt)) told_is
+            ∙ append_assoc words (hint_after first ++ later) (hint_after line ++ prompt)
+            ∙ ap (λ l. words ++ l) (append_assoc (hint_after first) later (hint_after line ++ prompt)),
       )
 
 module _ (game : Game) (at : List ℕ) (requests : ℕ) where
@@ -75,13 +78,14 @@ module _ (game : Game) (at : List ℕ) (requests : ℕ) where
       (before answered : ℕ) → BringsAndTells shows game (Going at requests) told lines text (Going stood before)
       → IsResponse game (Going stood before) line said (Going now answered)
       → IsToldHere shows game now prompt
-      → BringsAndTells shows game (Going at requests) (told ++ prompt) (lines ++ line ∷ []) (text ++ said)
-      (Going now answered)
+      → BringsAndTells shows game (Going at requests) (told ++ (hint_there shows line ++ prompt)) (lines ++ line ∷ [])
+      (text ++ said) (Going now answered)
   goes_on_told true told prompt lines line text said stood now before answered (prompts, brings, is) replies here = (
-    prompts ++ prompt,
+    prompts ++ (hint_after line ++ prompt),
     told_more game (Going at requests) lines line text said prompts prompt (Going stood before)
         (Going now answered) brings replies here,
-    ap (λ l. l ++ prompt) is ∙ append_assoc (shown_line (greeting_of game)) prompts prompt,
+    ap (λ l. l ++ (hint_after line ++ prompt)) is
+        ∙ append_assoc (shown_line (greeting_of game)) prompts (hint_after line ++ prompt),
   )
   goes_on_told false told prompt lines line text said stood now before answered (brings, none) replies here = (
     brings_more game (Going at requests) lines line text said (Going stood before) (Going now answered) brings replies,
@@ -92,17 +96,21 @@ module _ (game : Game) (at : List ℕ) (requests : ℕ) where
   pub ends_told : (shows : Bool) (told : List ℕ) (lines : List (List ℕ)) (line text said stood : List ℕ) (before : ℕ)
       (end : PlayEnd) → BringsAndTells shows game (Going at requests) told lines text (Going stood before)
       → IsResponse game (Going stood before) line said (Over end)
-      → BringsAndTells shows game (Going at requests) told (lines ++ line ∷ []) (text ++ said) (Over end)
+      → BringsAndTells shows game (Going at requests) (told ++ hint_there shows line) (lines ++ line ∷ [])
+      (text ++ said) (Over end)
   ends_told true told lines line text said stood before end (prompts, brings, is) replies = (
-    prompts,
-    subst (λ l. AreToldResponses game (Going at requests) (lines ++ line ∷ []) (text ++ said) l (Over end))
-        (append-nil prompts)
+    prompts ++ hint_after line,
+    subst (λ l. AreToldResponses game (Going at requests) (lines ++ line ∷ []) (text ++ said) (prompts ++ l) (Over end))
+        (append-nil (hint_after line))
         (told_more game (Going at requests) lines line text said prompts [] (Going stood before)
         (Over end) brings replies refl),
-    is,
+    ap (λ l. l ++ hint_after line) is
+        ∙ append_assoc (shown_line (greeting_of game)) prompts (hint_after line),
   )
-  ends_told false told lines line text said stood before end (brings, none) replies =
-      (brings_more game (Going at requests) lines line text said (Going stood before) (Over end) brings replies, none)
+  ends_told false told lines line text said stood before end (brings, none) replies = (
+    brings_more game (Going at requests) lines line text said (Going stood before) (Over end) brings replies,
+    ap (λ l. l ++ []) none,
+  )
 
   -- a line whose reply isn't written, whatever it is
   pub nearly_told : (shows : Bool) (left_old left_new : Option (List ℕ)) (told : List ℕ) (lines : List (List ℕ))
@@ -119,9 +127,9 @@ module _ (game : Game) (at : List ℕ) (requests : ℕ) where
 
 -- as many requests were answered as the value has
 pub reached : (shows : Bool) (value : Value) (end : PlayEnd) → (EndsBefore end value → ⊥)
-    → IsToldAtEnd shows value end []
-reached true value end not_before = inr (not_before, refl)
-reached false value end not_before = refl
+    → (EndsAfter end value → ⊥) → IsToldAtEnd shows value end []
+reached true value end not_before not_after = inr (inr (not_before, not_after, refl))
+reached false value end not_before not_after = refl
 
 -- what is told at the end
 pub last_told : (shows : Bool) (game : Game) (value : Value) (end : PlayEnd) (told : List ℕ)

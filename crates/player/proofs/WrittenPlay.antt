@@ -1,7 +1,7 @@
 -- The text that a play has written, as it goes on.
-use Rattle.std.proofs.Common.{◌≡◌, ℕ, ◌≤◌, List, [], ◌∷◌, ◌++◌, ◌<◌, length, take, drop, inl, inr, refl, sym, ap, ◌∙◌}
-use Rattle.std.proofs.Common.{subst, arith, append-nil, append_assoc, take-append-drop}
-use Rattle.std.specs.Prelude.{Option, None, Some, Result, Ok, Err, IfOk, IfErr, OnOk}
+use Rattle.std.proofs.Common.{◌≡◌, ℕ, ◌≤◌, List, [], ◌∷◌, ◌++◌, ◌<◌, length, inl, inr, refl, sym, ap, ◌∙◌}
+use Rattle.std.proofs.Common.{subst, arith, append-nil, append_assoc}
+use Rattle.std.specs.Prelude.{Option, Result, Ok, Err, IfOk, IfErr, OnOk}
 use Rattle.std.specs.Io.KnownBytes.{Appends, Keeps, IsAtEnd}
 use Rattle.std.proofs.lemmas.List.{length_push}
 use Rattle.board_text.specs.Streams.{AppendsPrefix}
@@ -94,6 +94,25 @@ no_line Played left_old left_now left_new taken_old taken_now lines unread text 
 
 -- ---- one turn
 
+-- a line ended the play
+pub ended : (Played : List (List ℕ) → List ℕ → Standing → Type 0)
+    (left_old left_new taken_old taken_now taken_new : Option (List ℕ)) (lines : List (List ℕ)) (text : List ℕ)
+    (word : LineMeaning) (unread : Unread) → Appends taken_old taken_now text
+    → (next : ComesNext left_old left_new lines unread word) → length lines < MOST_LINES
+    → (end : PlayEnd) (said : List ℕ) → Played (lines ++ next.line ∷ []) (text ++ said) (Over end)
+    → Appends taken_now taken_new said
+    → HasEnded Played left_old left_new taken_old taken_new end
+ended Played left_old left_new taken_old taken_now taken_new lines text word unread written next few end said brings
+    last = (
+      lines ++ next.line ∷ [],
+      unread.bytes,
+      text ++ said,
+      came_of left_old left_new (lines ++ next.line ∷ []) unread (omega (arith, length_push lines next.line, few))
+          next.come,
+      inl brings,
+      Appends-trans taken_old taken_now taken_new text said written last,
+    )
+
 module _ (Played : List (List ℕ) → List ℕ → Standing → Type 0)
     (left_old left_new taken_old taken_now taken_new : Option (List ℕ)) (lines : List (List ℕ)) (text at : List ℕ)
     (requests : ℕ)
@@ -144,19 +163,6 @@ module _ (Played : List (List ℕ) → List ℕ → Standing → Type 0)
       (few : length lines < MOST_LINES) where
     all_few : length (lines ++ next.line ∷ []) ≤ MOST_LINES
     all_few = omega (arith, length_push lines next.line, few)
-
-    -- a line ended the play
-    pub ended : (end : PlayEnd) (said : List ℕ) → Played (lines ++ next.line ∷ []) (text ++ said) (Over end)
-        → Appends taken_now taken_new said
-        → HasEnded Played left_old left_new taken_old taken_new end
-    ended end said brings last = (
-      lines ++ next.line ∷ [],
-      unread.bytes,
-      text ++ said,
-      came_of left_old left_new (lines ++ next.line ∷ []) unread all_few next.come,
-      inl brings,
-      Appends-trans taken_old taken_now taken_new text said written last,
-    )
 
     -- the response to a line wasn't written whole
     pub broken : (Says : List ℕ → Standing → Type 0)

@@ -1,12 +1,12 @@
 -- The input and the output of a play.
 use Rattle.std.specs.Prelude.{◌≡◌, ◌≢◌, ◌↔◌, ℕ, ◌<◌, ◌≤◌, ◌⊎◌, List, [], ◌∷◌, ◌++◌, length, All}
-use Rattle.std.specs.Prelude.{Bool, true, Option, Some, Result, Err}
+use Rattle.std.specs.Prelude.{Bool, true, Option, Result, Err}
 use Rattle.std.specs.List.{flat_map}
 use Rattle.std.specs.Io.KnownBytes.{Appends, Consumes, IsAtEnd}
 use Rattle.board_text.specs.Streams.{GaveAll, AppendsPrefix}
 use Rattle.board_text.specs.LineForms.{with_line_feed}
 use Rattle.player.specs.Words.{IsLine, BeginsTooLong}
-use Rattle.player.specs.Transcript.{Game, Standing, Going, Over, Stops, IsPlayed}
+use Rattle.player.specs.Transcript.{Standing, Going, Over, Stops}
 use Rattle.player.specs.declared.end.PlayEnd.{PlayEnd}
 use Rattle.player.specs.declared.end.PlayFault.{PlayFault}
 use Rattle.player.specs.declared.end.PlayFault.TheVariants.{Read, Write, Memory, Limit}

@@ -1,9 +1,10 @@
 -- What a person at a terminal is told in a play: a greeting, before each line how many more
--- requests can be answered and what can be typed, and at the end whether the play could have gone
--- on.
-use Rattle.std.specs.Prelude.{◌≡◌, ℕ, ◌<◌, ◌-◌, ◌==◌, ◌↔◌, ◌⊎◌, if◌then◌else◌, List, [], ◌∷◌, ◌++◌}
-use Rattle.std.specs.Prelude.{AllPairs, Bool, Contains, IfErr, IfOk, Option, Result, codes, false}
-use Rattle.std.specs.Prelude.{replicate, true}
+-- requests are answered and what can be typed, after a line with a blank that it has one, and at
+-- the end whether the play could have gone on, or have ended before.
+use Rattle.std.specs.Prelude.{◌≡◌, ℕ, ◌<◌, ◌-◌, ◌==◌, ◌↔◌, ◌⊎◌, ◌||◌, if◌then◌else◌, List, []}
+use Rattle.std.specs.Prelude.{◌∷◌, ◌++◌, AllPairs, Bool, Contains, IfErr, IfOk, Option, Result}
+use Rattle.std.specs.Prelude.{codes, false, length, nat_lt, replicate, take, true}
+use Rattle.std.specs.List.{list_any}
 use Rattle.std.specs.Fmt.{decimal}
 use Rattle.board_text.specs.LineForms.{spaced_numbers, with_line_feed}
 use Rattle.board_text.specs.PlainBoard.{PlainBoard}
@@ -21,6 +22,7 @@ use Rattle.player.specs.declared.end.PlayEnd.{PlayEnd}
 use Rattle.player.specs.declared.end.PlayEnd.TheVariants.{Stuck, Stopped, NoStrategy}
 use Rattle.player.specs.declared.end.PlayFault.{PlayFault}
 use Rattle.player.specs.declared.end.PlayFault.TheVariants.{Read, Limit}
+use Rattle.player.specs.declared.prompts.TheConstants.{MOST_LISTED}
 
 -- words as the line that a person is shown
 abbrev pub shown_line : List ℕ → List ℕ
@@ -47,10 +49,22 @@ pebble_choices pebbles =
     if pebbles == 1 then codes "type 0, the only pebble, or quit"
     else codes "type a pebble, 0 to " ++ decimal (pebbles - 1) ++ codes ", or quit"
 
+-- how many labels there are, if they are more than are listed
+abbrev pub count_words : ℕ → List ℕ
+count_words count =
+    if nat_lt MOST_LISTED count
+    then codes ", the first " ++ decimal MOST_LISTED ++ codes " of " ++ decimal count
+    else []
+
+-- the labels, of which no more than the first are listed
+abbrev pub listed_labels : List ℕ → List ℕ
+listed_labels labels =
+    spaced_numbers (take MOST_LISTED labels) ++ count_words (length labels)
+
 -- the labels that the pebble can take
 abbrev pub label_choices : ℕ → List ℕ → List ℕ
 label_choices pebble labels = codes "labels that pebble " ++ decimal pebble ++ codes " can take:"
-    ++ spaced_numbers labels ++ codes "; type one, or quit"
+    ++ listed_labels labels ++ codes "; type one, or quit"
 
 -- the words for what can be typed at a configuration: a pebble, or a legal label for the pebble of
 -- the best request
@@ -67,15 +81,40 @@ HasValueIn (PersonAsks board) at value = HasValue board at value
 HasValueIn (PersonAnswers board) at value = HasValue board at value
 HasValueIn (PersonClimbs levels) at value = value ≡ Forever
 
--- how many more requests can be answered from a configuration of this value
-abbrev pub left_words : Value → List ℕ
-left_words (Finite number) = decimal number ++ codes " more can be answered; "
-left_words Forever = codes "requests can be answered for ever; "
+-- the requests that are answered at least from a configuration of this value, by best answers
+abbrev pub least_words : Value → List ℕ
+least_words (Finite number) =
+    codes "at least " ++ decimal number ++ codes " more will be answered, however you ask; "
+least_words Forever = codes "requests will be answered for ever, however you ask; "
 
--- the line told at a configuration: how many more requests can be answered, and what can be typed
+-- the requests that are answered at most from a configuration of this value, if the best are made
+abbrev pub most_words : Value → List ℕ
+most_words (Finite number) =
+    codes "at most " ++ decimal number ++ codes " more can be answered; "
+most_words Forever = codes "requests can be answered for ever; "
+
+-- how many more requests are answered from a configuration of this value: so many at least for a
+-- person who asks, and so many at most for one who answers
+abbrev pub left_words : Game → Value → List ℕ
+left_words (PersonAsks board) value = least_words value
+left_words (PersonAnswers board) value = most_words value
+left_words (PersonClimbs levels) value = least_words value
+
+-- the line told at a configuration: how many more requests are answered, and what can be typed
 abbrev pub IsPrompt : Game → List ℕ → List ℕ → Type 0
 IsPrompt game at told = (value : Value) × (choices : List ℕ) × HasValueIn game at value
-    × AreChoices game at choices × (told ≡ shown_line (left_words value ++ choices))
+    × AreChoices game at choices × (told ≡ shown_line (left_words game value ++ choices))
+
+-- a space or a tab is in the line
+abbrev pub has_blank : List ℕ → Bool
+has_blank line = list_any (λ byte. (byte == 32) || (byte == 9)) line
+
+abbrev pub blank_words : List ℕ
+blank_words = codes "a space or a tab is in the line: type the number alone"
+
+-- what is told after a line: that it has a blank, which no request and no answer has
+abbrev pub hint_after : List ℕ → List ℕ
+hint_after line = if has_blank line then shown_line blank_words else []
 
 -- how many requests could be answered from a start of this value
 abbrev pub start_words : Value → List ℕ
@@ -84,6 +123,16 @@ start_words (Finite number) =
 start_words Forever =
     codes "requests can be answered from the start for ever: the play could have gone on"
 
+-- so many requests, in words
+abbrev pub requests_words : ℕ → List ℕ
+requests_words number =
+    if number == 1 then codes "1 request" else decimal number ++ codes " requests"
+
+-- how many requests would have been answered if the best had been made
+abbrev pub better_words : ℕ → List ℕ
+better_words number =
+    codes "better requests would have ended the play after " ++ requests_words number
+
 -- ---- when they are told
 
 -- once the play stands here: the line there, unless it is over
@@ -91,13 +140,13 @@ abbrev pub IsToldAt : Game → Standing → List ℕ → Type 0
 IsToldAt game (Going at requests) told = IsPrompt game at told
 IsToldAt game (Over end) told = told ≡ []
 
--- the replies to these lines, and what is told wherever the play stands
+-- the replies to these lines, and what is told wherever the play stands and after each line
 abbrev pub AreToldResponses : Game → Standing → List (List ℕ) → List ℕ → List ℕ → Standing → Type 0
 AreToldResponses game from [] text told to = (text ≡ []) × IsToldAt game from told × (from ≡ to)
 AreToldResponses game from (line ∷ lines) text told to =
     (said more prompt later : List ℕ) × (next : Standing) × IsToldAt game from prompt
     × IsResponse game from line said next × AreToldResponses game next lines more later to
-    × (text ≡ said ++ more) × (told ≡ prompt ++ later)
+    × (text ≡ said ++ more) × (told ≡ prompt ++ (hint_after line ++ later))
 
 -- the replies from a standing on, and what is told: nothing if nobody is there to see it, or the
 -- play is over before a line is read; else the greeting, and what is told wherever the play stands
@@ -134,11 +183,19 @@ EndsBefore (Stuck requests) value = IsLess (Finite requests) value
 EndsBefore (Stopped requests) value = IsLess (Finite requests) value
 EndsBefore NoStrategy value = ⊥
 
+-- more requests were answered than the value has
+abbrev pub EndsAfter : PlayEnd → Value → Type 0
+EndsAfter (Stuck requests) value = IsLess value (Finite requests)
+EndsAfter (Stopped requests) value = IsLess value (Finite requests)
+EndsAfter NoStrategy value = ⊥
+
 -- that the play could have gone on, if fewer requests were answered than the value of its start
--- has; else nothing
+-- has; that better requests would have ended it, if more were answered; else nothing
 abbrev pub IsToldOfStart : Value → PlayEnd → List ℕ → Type 0
 IsToldOfStart value end told = (EndsBefore end value × (told ≡ shown_line (start_words value)))
-    ⊎ ((EndsBefore end value → ⊥) × (told ≡ []))
+    ⊎ ((number : ℕ) × (value ≡ Finite number) × EndsAfter end value
+    × (told ≡ shown_line (better_words number)))
+    ⊎ ((EndsBefore end value → ⊥) × (EndsAfter end value → ⊥) × (told ≡ []))
 
 -- what is told at the end of a play, if a person is there to see it
 abbrev pub IsToldLast : Bool → Game → PlayEnd → List ℕ → Type 0

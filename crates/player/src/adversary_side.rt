@@ -11,7 +11,7 @@ ghost use Rattle.player.specs.Inside.Steps.{AddsText};
 use crate::end::{PlayEnd, PlayFault};
 use crate::game::{Game, Opened, play};
 use crate::line_meaning::LineMeaning;
-use crate::prompts::{PEBBLES_GREETING, tell_pebble_choices};
+use crate::prompts::{PEBBLES_GREETING, tell_least, tell_pebble_choices};
 use crate::turns::Play;
 use crate::writing::{end_stopped, say_no_request, write_opening, write_reply, write_stuck};
 use board_text::{Board, Memory, Sink, Source, Through};
@@ -174,16 +174,12 @@ impl<M: Moves> Play for AdversarySide<'_, M> {
                 }
             }
             LineMeaning::Quit => end_stopped(text, self.requests),
-            LineMeaning::Other => say_no_request(text),
+            LineMeaning::Other { .. } => say_no_request(text),
         }
     }
 
     fn requests(&self) -> u32 {
         self.requests
-    }
-
-    fn value(&self) -> Value {
-        self.moves.value(self.configuration.as_slice())
     }
 
     fn start_value(&self) -> Value {
@@ -192,6 +188,10 @@ impl<M: Moves> Play for AdversarySide<'_, M> {
 
     fn greeting(&self) -> &'static str {
         PEBBLES_GREETING
+    }
+
+    fn tell_left<E: Sink>(&self, errors: &mut E) {
+        tell_least(errors, self.moves.value(self.configuration.as_slice()));
     }
 
     fn tell_choices<E: Sink>(&self, errors: &mut E) {

@@ -14,7 +14,7 @@ use crate::end::{PlayEnd, PlayFault};
 use crate::game::{Game, Opened, play};
 use crate::line_meaning::LineMeaning;
 use crate::nested_writing::{write_levels, write_nested_reply};
-use crate::prompts::{PEBBLES_GREETING, tell_pebble_choices};
+use crate::prompts::{PEBBLES_GREETING, tell_least, tell_pebble_choices};
 use crate::turns::Play;
 use crate::writing::{end_stopped, say_no_request};
 use board_text::{Memory, Sink, Source, Through};
@@ -169,16 +169,12 @@ impl Play for Climb {
                 }
             }
             LineMeaning::Quit => end_stopped(text, self.requests),
-            LineMeaning::Other => say_no_request(text),
+            LineMeaning::Other { .. } => say_no_request(text),
         }
     }
 
     fn requests(&self) -> u32 {
         self.requests
-    }
-
-    fn value(&self) -> Value {
-        Value::Forever
     }
 
     fn start_value(&self) -> Value {
@@ -187,6 +183,10 @@ impl Play for Climb {
 
     fn greeting(&self) -> &'static str {
         PEBBLES_GREETING
+    }
+
+    fn tell_left<E: Sink>(&self, errors: &mut E) {
+        tell_least(errors, Value::Forever);
     }
 
     fn tell_choices<E: Sink>(&self, errors: &mut E) {

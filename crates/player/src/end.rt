@@ -1,7 +1,8 @@
 //! How a play ends, and why one is broken off.
 
-ghost use Rattle.std.specs.Prelude.{◌≡◌, ◌↔◌, IsTrue};
-ghost use Rattle.player.specs.Prompts.{EndsBefore};
+ghost use Rattle.std.specs.Prelude.{◌≡◌, ◌↔◌, IsTrue, MatchOption};
+ghost use Rattle.player.specs.Prompts.{EndsAfter, EndsBefore};
+ghost use Rattle.positions.specs.declared.value.Value.TheVariants.{Finite};
 ghost use Rattle.player.specs.declared.end.PlayFault.TheVariants as faults;
 
 use positions::Value;
@@ -28,6 +29,18 @@ impl PlayEnd {
                 Value::Finite(requests) < value
             }
             PlayEnd::NoStrategy => false,
+        }
+    }
+
+    /// The number that the `value` is, if more requests were answered.
+    pub(crate) fn passed(self, value: Value) -> Option<u32>
+        ensures { MatchOption result (EndsAfter self value → ⊥)
+            (λ number. (value ≡ Finite number) × EndsAfter self value) }
+    {
+        match (self, value) {
+            (PlayEnd::Stuck { requests } | PlayEnd::Stopped { requests }, Value::Finite(number))
+                if number < requests => Some(number),
+            _ => None,
         }
     }
 }

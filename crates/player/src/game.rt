@@ -54,9 +54,10 @@ pub trait Game {
 /// written before the next line is read.
 ///
 /// If `shows` says so, the person is told on `errors`: a greeting, before each line how many more
-/// requests can be answered and what can be typed, and at the end that the play could have gone
-/// on, if fewer requests were answered than the value of the start has. If `errors` fails, or has
-/// failed before, nothing more is written there, and the play goes on.
+/// requests are answered and what can be typed, after a line with a space or a tab that it has one,
+/// and at the end that the play could have gone on, if fewer requests were answered than the value
+/// of the start has, or that better requests would have ended it, if more were. If `errors` fails,
+/// or has failed before, nothing more is written there, and the play goes on.
 pub fn play<G: Game, R: Source, W: Sink, E: Sink>(
     alloc: Global,
     game: &G,

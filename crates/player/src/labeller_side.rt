@@ -4,7 +4,6 @@ ghost use Rattle.std.specs.Prelude.{◌≡◌, ◌↔◌, ◌+◌, ◌<◌, ◌�
 ghost use Rattle.std.specs.Prelude.{IfErr, OnOk, string_bytes, true};
 ghost use Rattle.std.specs.Fmt.{decimal};
 ghost use Rattle.board_text.specs.Domination.{has_bit};
-ghost use Rattle.board_text.specs.LineForms.{spaced_numbers};
 ghost use Rattle.board_text.specs.PlainBoard.{IsBoard, IsConfiguration};
 ghost use Rattle.positions.specs.Value.{HasValue};
 ghost use Rattle.positions.specs.declared.value.Value.TheVariants.{Finite};
@@ -13,6 +12,7 @@ ghost use Rattle.player.specs.Laws.{KeepsToValue};
 ghost use Rattle.player.specs.Play.{HasEnded, BreaksOff, TellsBothStreams};
 ghost use Rattle.player.specs.Inside.PlayState.{HasAsked, IsRequestAt, IsStandingAfter, IsLegalAt};
 ghost use Rattle.player.specs.Inside.Prompts.{AreLegalAt};
+ghost use Rattle.player.specs.Prompts.{listed_labels};
 ghost use Rattle.console.specs.Showing.{HasNoControl, IsMore};
 ghost use Rattle.player.specs.Transcript.{Standing, IsPlayed, BeginsPlay, PersonAnswers};
 ghost use Rattle.player.specs.Transcript.{AsksAfterLine, no_answer_line};
@@ -22,7 +22,7 @@ ghost use Rattle.player.specs.Inside.Steps.{AddsText};
 use crate::end::{PlayEnd, PlayFault};
 use crate::game::{Game, Opened, play};
 use crate::line_meaning::LineMeaning;
-use crate::prompts::LABELS_GREETING;
+use crate::prompts::{LABELS_GREETING, tell_count, tell_label, tell_most};
 use crate::turns::Play;
 use crate::writing::{end_stopped, write_at, write_opening, write_stuck};
 use board_text::{Board, MAX_LABELS, Memory, Sink, Source, Through};
@@ -216,20 +216,22 @@ impl<'a, M: Moves> LabellerSide<'a, M> {
         )
     }
 
-    /// Writes the labels that are legal for the pebble that
-    /// is asked for, each with a space before it.
+    /// Writes the labels that are legal for the pebble that is asked for, each with a space before
+    /// it; of more than `MOST_LISTED` the first ones, and how many they are.
     fn tell_legal_labels<E: Sink>(&self, errors: &mut E)
         ensures { (labels : List ℕ) × AreLegalAt self.now labels
-            × IsMore E.contents E.has_failed errors.old errors.new (spaced_numbers labels)
-            × HasNoControl (spaced_numbers labels) }
+            × IsMore E.contents E.has_failed errors.old errors.new (listed_labels labels)
+            × HasNoControl (listed_labels labels) }
     {
         let legal = self.legal();
+        let mut count = 0;
         for label in 0..self.moves.board().labels() {
             if legal.contains(label) {
-                write_shown(errors, " ");
-                write_digits(errors, u64::from(label));
+                tell_label(errors, count, label);
+                count += 1;
             }
         }
+        tell_count(errors, count);
     }
 
     /// Puts the pebble that is asked for on the legal `label`, and makes the next request.
@@ -286,16 +288,12 @@ impl<M: Moves> Play for LabellerSide<'_, M> {
                 }
             }
             LineMeaning::Quit => end_stopped(text, self.requests),
-            LineMeaning::Other => say_no_answer(text),
+            LineMeaning::Other { .. } => say_no_answer(text),
         }
     }
 
     fn requests(&self) -> u32 {
         self.requests
-    }
-
-    fn value(&self) -> Value {
-        self.moves.value(self.configuration.as_slice())
     }
 
     fn start_value(&self) -> Value {
@@ -304,6 +302,10 @@ impl<M: Moves> Play for LabellerSide<'_, M> {
 
     fn greeting(&self) -> &'static str {
         LABELS_GREETING
+    }
+
+    fn tell_left<E: Sink>(&self, errors: &mut E) {
+        tell_most(errors, self.moves.value(self.configuration.as_slice()));
     }
 
     fn tell_choices<E: Sink>(&self, errors: &mut E) {

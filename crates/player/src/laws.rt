@@ -11,6 +11,7 @@ ghost use Rattle.player.specs.Transcript.{IsPlayed, IsTranscript};
 ghost use Rattle.player.specs.declared.end.PlayEnd.{PlayEnd as PlayEndData};
 
 use crate::lines::MOST_BYTES;
+use crate::prompts::MOST_LISTED;
 use crate::turns::MOST_LINES;
 
 /// Against a person who is the adversary the labeller's side is stuck only after as many answered
@@ -54,9 +55,11 @@ pub fn best_play_ends_by_the_value()
         → other ≡ number }
 {}
 
-/// The most lines that a play reads, 1,000,000, and the most bytes of a line before its line feed,
-/// 64. CONTRIBUTING.md lists what else says these numbers.
+/// The most lines that a play reads, 1,000,000, the most bytes of a line before its line feed, 64,
+/// and the most labels that a person is told one by one, 20. CONTRIBUTING.md lists what else says
+/// these numbers.
 pub fn limits()
     ensures lines { MOST_LINES ≡ 1000000 }
     ensures bytes { MOST_BYTES ≡ 64 }
+    ensures labels { MOST_LISTED ≡ 20 }
 {}

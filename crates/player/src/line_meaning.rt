@@ -3,6 +3,7 @@
 ghost use Rattle.std.specs.Prelude.{◌≡◌, ◌≢◌, ℕ, ◌<◌, ◌^◌, MatchOption};
 ghost use Rattle.std.specs.Fmt.{decimal};
 ghost use Rattle.player.specs.Inside.Words.{Spells};
+ghost use Rattle.player.specs.Prompts.{has_blank as has_blank_of};
 
 use board_text::line_reader::LineReader;
 
@@ -16,8 +17,8 @@ pub(crate) enum LineMeaning {
     Number(u32),
     /// The play shall end.
     Quit,
-    /// Anything else.
-    Other,
+    /// Anything else, which may have a space or a tab.
+    Other { has_blank: bool },
 }
 
 impl LineMeaning {
@@ -30,10 +31,20 @@ impl LineMeaning {
         }
         match whole_number(line) {
             Some(number) => LineMeaning::Number(number),
-            None => LineMeaning::Other,
+            None => LineMeaning::Other {
+                has_blank: has_blank(line),
+            },
         }
     }
 }
+
+/// Whether a space or a tab is in `line`.
+fn has_blank(line: &[u8]) -> bool
+    ensures { result ≡ has_blank_of line.now }
+{
+    line.iter().any(|byte| *byte == b' ' || *byte == b'\t')
+}
+
 /// The number that the whole of `line` spells, if it spells one below 2^32.
 fn whole_number(line: &[u8]) -> Option<u32>
     ensures { MatchOption result ((number : ℕ) → number < 2 ^ 32 → line.now ≢ decimal number)

@@ -8,8 +8,8 @@ ghost use Rattle.player.specs.Transcript.{Game, Standing, Going, AreResponses, s
 ghost use Rattle.player.specs.Inside.Transcript.{standing_of};
 ghost use Rattle.player.specs.Prompts.{AreChoices, BringsAndTells, HasValueIn, IsToldIn};
 ghost use Rattle.player.specs.Prompts.{IsToldLast};
-ghost use Rattle.player.specs.Prompts.{greeting_of, start_of};
-ghost use Rattle.console.specs.Showing.{IsMore, shown};
+ghost use Rattle.player.specs.Prompts.{greeting_of, left_words, start_of};
+ghost use Rattle.console.specs.Showing.{HasNoControl, IsMore, shown};
 ghost use Rattle.player.specs.Play.{HasEnded, BreaksOff, TellsBothStreams};
 ghost use Rattle.player.specs.Inside.Steps.{IsResponseToMeaning, AddsText, Writes, FailsToWrite};
 ghost use Rattle.player.specs.declared.end.PlayEnd.TheVariants.{Stopped};
@@ -18,7 +18,7 @@ ghost use Rattle.player.specs.declared.end.PlayFault.TheVariants.{Write};
 use crate::end::{PlayEnd, PlayFault};
 use crate::line_meaning::LineMeaning;
 use crate::lines::Lines;
-use crate::prompts::{greet, prompt, tell_last};
+use crate::prompts::{greet, prompt, tell_blank, tell_last};
 use crate::writing::write_stopped;
 use board_text::{Failed, Sink, Source, write_all};
 use positions::Value;
@@ -56,10 +56,6 @@ pub(crate) trait Play {
     fn requests(&self) -> u32
         ensures { result ≡ requests self.now };
 
-    /// The value of the configuration.
-    fn value(&self) -> Value
-        ensures { HasValueIn (game self.now) (at self.now) result };
-
     /// The value of the start.
     fn start_value(&self) -> Value
         ensures { HasValueIn (game self.now) (start_of (game self.now)) result };
@@ -67,6 +63,13 @@ pub(crate) trait Play {
     /// The words that greet the person.
     fn greeting(&self) -> &'static str
         ensures { result.now ≡ greeting_of (game self.now) };
+
+    /// Writes the words for how many more requests are answered.
+    fn tell_left<E: Sink>(&self, errors: &mut E)
+        ensures { (value : Value) × HasValueIn (game self.now) (at self.now) value
+            × IsMore E.contents E.has_failed errors.old errors.new
+            (left_words (game self.now) value)
+            × HasNoControl (left_words (game self.now) value) };
 
     /// Writes the words for what can be typed now.
     fn tell_choices<E: Sink>(&self, errors: &mut E)
@@ -78,8 +81,9 @@ pub(crate) trait Play {
 /// before the next line is read.
 ///
 /// If `shows` says that there is a person to see it, a greeting is written to `errors` at first,
-/// before each line how many more requests can be answered and what can be typed, and at the end of
-/// the play whether it could have gone on.
+/// before each line how many more requests are answered and what can be typed, after a line with a
+/// blank that it has one, and at the end of the play whether it could have gone on, or have ended
+/// before.
 pub(crate) fn play_on<P: Play, R: Source, W: Sink, E: Sink>(
     play: &mut P,
     text: &mut String,
@@ -118,7 +122,9 @@ pub(crate) fn play_on<P: Play, R: Source, W: Sink, E: Sink>(
             tell_last(play.start_value(), end, shows, errors);
             return Ok(end);
         };
-        if let Some(end) = answer_line(play, meaning, text, writer)? {
+        let end = answer_line(play, meaning, text, writer)?;
+        tell_blank(meaning, shows, errors);
+        if let Some(end) = end {
             tell_last(play.start_value(), end, shows, errors);
             return Ok(end);
         }

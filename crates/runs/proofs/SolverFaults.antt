@@ -1,4 +1,5 @@
--- The faults of a run that a solver of a board with few classes gives, and of a solved text.
+-- The faults of a run that a solver of a board with few classes gives, that of a document which
+-- isn't made, and of a solved text.
 use Rattle.std.proofs.Common.{◌≡◌, ◌<◌, ◌≤◌, ℕ, List, refl, sym, subst}
 use Rattle.board_text.specs.PlainBoard.{PlainBoard}
 use Rattle.classes.specs.Numbers.{class_count}
@@ -12,9 +13,13 @@ use Rattle.command_line.specs.declared.asked.BoardLimit.TheVariants.{Small}
 use Rattle.runs.specs.declared.fault.RunFault.{RunFault}
 use Rattle.runs.specs.declared.fault.RunFault.TheVariants.{Board, TooLarge, Proof, Memory, Worker, Read, Write, Limit}
 use Rattle.runs.specs.declared.fault.RunFault.TheVariants.{DocumentTooLarge, TooManyChains}
-use Rattle.runs.specs.Inside.Faults.{fault_of_solving}
+use Rattle.runs.specs.Inside.Faults.{fault_of_making, fault_of_solving}
+use Rattle.runs.specs.declared.checking.TheConstants.{MAX_PROOF_BYTES}
+use Rattle.strategies.specs.ClassDocument.{CannotBeMade}
+use Rattle.strategies.specs.declared.unmade.Unmade.{Unmade}
+use Rattle.strategies.specs.declared.unmade.Unmade.TheVariants as unmade
 use Rattle.runs.specs.Texts.{HasNoneWithin}
-use Rattle.runs.specs.Inside.SolveRun.{IsRefused}
+use Rattle.runs.specs.Inside.SolveRun.{IsRefused, IsUnshown}
 use Rattle.runs.specs.SolveRun.{CannotSolve}
 
 -- the graph by classes has a configuration for each class
@@ -32,6 +37,12 @@ refused_some workers board solve.TooLarge told is small several enough = absurd 
 refused_some workers board solve.Memory told is small several enough = subst (IsRefused Small workers board) (sym is) tt
 refused_some workers board solve.Worker told is small several enough =
     subst (IsRefused Small workers board) (sym is) (refl, several refl, enough_classes board (enough refl))
+
+-- why a document by classes wasn't made
+pub unshown_made : (board : PlainBoard) (fault : Unmade) (told : RunFault) → told ≡ fault_of_making fault
+    → CannotBeMade board MAX_PROOF_BYTES fault → IsUnshown board told
+unshown_made board unmade.Memory told is made = subst (IsUnshown board) (sym is) tt
+unshown_made board unmade.TooLong told is made = subst (IsUnshown board) (sym is) made
 
 -- a fault of one worker is one that several workers can give
 pub any_worker : (limit : BoardLimit) (workers : ℕ) (text : List ℕ) (fault : RunFault) → HasNoneWithin limit text fault

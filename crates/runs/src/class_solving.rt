@@ -100,7 +100,7 @@ fn class_solution(
         (flat_map (λ part. part.items) solved.parts.items)) }
     ensures fault { IfErr result (IsUnshown moves.now) }
 {
-    let made = document_by_classes_in_parts(rt, alloc, moves, parts as u32)?;
+    let made = document_by_classes_in_parts(rt, alloc, moves, MAX_PROOF_BYTES, parts as u32)?;
     let MadeDocument { value, proof } = made;
     let board = moves.board();
     let text = print_classes_in_parts(rt, alloc, board, &proof, parts as u32)?;

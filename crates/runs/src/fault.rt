@@ -3,7 +3,7 @@
 ghost use Rattle.std.specs.Prelude.{◌≡◌};
 ghost use Rattle.runs.specs.Faults.{fault_of_play};
 ghost use Rattle.runs.specs.Inside.Faults.{IsFaultOfBoard, IsFaultOfProof, fault_of_reading};
-ghost use Rattle.runs.specs.Inside.Faults.{fault_of_chains, fault_of_solving};
+ghost use Rattle.runs.specs.Inside.Faults.{fault_of_chains, fault_of_making, fault_of_solving};
 ghost use Rattle.runs.specs.declared.fault.RunFault.TheVariants as faults;
 
 use board_text::{BoardFault, BoardKind, Memory, ReadFault};
@@ -13,6 +13,7 @@ use positions::TooLarge;
 use proof_text::{ProofFault, ProofKind};
 use solver::SolveFault;
 use std::alloc::AllocError;
+use strategies::Unmade;
 
 /// Why a run ended without an answer.
 #[derive(Clone, Copy, Debug, PartialEq, Eq)]
@@ -118,6 +119,17 @@ impl From<SolveFault> for RunFault {
             SolveFault::TooLarge => RunFault::TooLarge,
             SolveFault::Memory => RunFault::Memory,
             SolveFault::Worker => RunFault::Worker,
+        }
+    }
+}
+
+impl From<Unmade> for RunFault {
+    ghost from_gives = { λ fault told. told ≡ fault_of_making fault };
+
+    fn from(fault: Unmade) -> RunFault {
+        match fault {
+            Unmade::Memory => RunFault::Memory,
+            Unmade::TooLong => RunFault::DocumentTooLarge,
         }
     }
 }

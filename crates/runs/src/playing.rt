@@ -75,7 +75,8 @@ pub struct Playing {
     /// Whether the person is told that a large board is solved, before it is.
     pub shows_size: bool,
     /// Whether the person is told a greeting before the first line is read, the value and the
-    /// choices before each line, and at the end that the play could have gone on.
+    /// choices before each line, after a line with a blank that it has one, and at the end that the
+    /// play could have gone on, or have ended before.
     pub prompts: bool,
 }
 
@@ -174,9 +175,10 @@ impl Playing {
 ///
 /// The reader and the writer must not have failed before.
 /// Each answer is written before the next line is read. If `shows` says so, the person is told on
-/// `errors`: a greeting, before each line that requests can be answered for ever and the pebbles
-/// that can be asked for, and at the end that the play could have gone on. If `errors` fails, or
-/// has failed before, nothing more is written there, and the play goes on.
+/// `errors`: a greeting, before each line that requests will be answered for ever and the pebbles
+/// that can be asked for, after a line with a space or a tab that it has one, and at the end that
+/// the play could have gone on. If `errors` fails, or has failed before, nothing more is written
+/// there, and the play goes on.
 pub fn run_climb<L: Source, W: Sink, E: Sink>(
     alloc: Global,
     levels: u8,

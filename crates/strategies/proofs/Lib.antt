@@ -49,6 +49,7 @@ pub mod ShownClassClaims
 pub mod FewValues
 pub mod ClassDocumentForm
 pub mod LongTexts
+pub mod LongDocuments
 pub mod OneClassList
 pub mod ReachedNumbers
 pub mod SpreadClasses

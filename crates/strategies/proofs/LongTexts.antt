@@ -53,11 +53,11 @@ long_lines line long (row ∷ rows) =
 
 -- ---- the sections
 
-long_section : {X : Type 0} (word : List ℕ) (asked : Bool) (line : X → List ℕ) (rows : List X) → asked ≡ true
-    → ((row : X) → 8 ≤ length (line row)) → 8 * length rows ≤ length (section_text word asked line rows)
-long_section word true line rows is long =
-    omega (arith, long_lines line long rows, length-append (number_line word (length rows)) (flat_map line rows))
-long_section word false line rows is long = absurd (true≢false (sym is))
+whole_section : {X : Type 0} (word : List ℕ) (asked : Bool) (line : X → List ℕ) (rows : List X) → asked ≡ true
+    → length (flat_map line rows) ≤ length (section_text word asked line rows)
+whole_section word true line rows is =
+    omega (arith, length-append (number_line word (length rows)) (flat_map line rows))
+whole_section word false line rows is = absurd (true≢false (sym is))
 
 -- parts of a text are no longer than the text
 within : (head first second end : List ℕ)
@@ -81,24 +81,33 @@ module _ (board : PlainBoard) (proof : PlainProof) (is : IsClassDocumentOf board
   sections_within : length labeller_text + length adversary_text ≤ length (class_text board proof)
   sections_within = within (first_two_lines class_version_line proof.claim) labeller_text adversary_text end_line
 
-  pub labeller_long : 8 * length proof.labeller ≤ length (class_text board proof)
-  labeller_long = omega (
+  -- the lines of rows are parts of the text
+  pub labeller_section : length (flat_map (answer_line board) proof.labeller) ≤ length (class_text board proof)
+  labeller_section = omega (
     arith,
     sections_within,
-    long_section (codes "labeller") (asks_labeller proof.claim) (answer_line board) proof.labeller
-        (labeller_asked board proof is) (answers_long board),
+    whole_section (codes "labeller") (asks_labeller proof.claim) (answer_line board) proof.labeller
+        (labeller_asked board proof is),
   )
 
-  pub adversary_long : 8 * length proof.adversary ≤ length (class_text board proof)
-  adversary_long = elim (adversary_asked board proof is) [
+  pub adversary_section : length (flat_map (class_request_line board) proof.adversary)
+      ≤ length (class_text board proof)
+  adversary_section = elim (adversary_asked board proof is) [
     | inl asked ↦ omega (
       arith,
       sections_within,
-      long_section (codes "adversary") (asks_adversary proof.claim) (class_request_line board) proof.adversary asked
-          (requests_long board),
+      whole_section (codes "adversary") (asks_adversary proof.claim) (class_request_line board) proof.adversary asked,
     )
-    | inr none ↦ omega (arith, ap length none)
+    | inr none ↦ rw none (omega arith)
   ]
+
+  pub labeller_long : 8 * length proof.labeller ≤ length (class_text board proof)
+  labeller_long =
+      omega (arith, labeller_section, long_lines (answer_line board) (answers_long board) proof.labeller)
+
+  pub adversary_long : 8 * length proof.adversary ≤ length (class_text board proof)
+  adversary_long =
+      omega (arith, adversary_section, long_lines (class_request_line board) (requests_long board) proof.adversary)
 
   -- a text of at most eight bytes for each of the most rows
   pub short_text_fits : ways (board.pebbles - 1) (places board) ≤ MOST_TURNS

@@ -1,28 +1,34 @@
 //! The rows of a section, in the order of their classes, made one after the other or in parts.
 
-ghost use Rattle.std.specs.Prelude.{◌≤◌, All, IfOk, flat_map};
+ghost use Rattle.std.specs.Prelude.{◌≤◌, All, IfErr, IfOk, flat_map};
 ghost use Rattle.strategies.specs.Inside.ClassSide.{AreRowsAtClasses, AreClassSection};
-ghost use Rattle.strategies.specs.Inside.ClassSide.{MayStandAtClass};
+ghost use Rattle.strategies.specs.Inside.ClassSide.{HasNoSection, MayStandAtClass};
 
 use crate::class_sections::ClassSectionRow;
 use crate::moves::Moves;
+use crate::unmade::Unmade;
 use board_text::Memory;
 use positions::Value;
 use rayon::prelude::*;
 use std::alloc::Global;
 use std::thread::Threads;
 
-/// One side's rows of the document of a board whose start has the value `start`.
+/// One side's rows of the document of a board whose start has the value `start`, if they are at
+/// most `most`.
 pub(crate) fn section<R: ClassSectionRow, M: Moves>(
     alloc: Global,
     moves: &M,
     start: Value,
-) -> Result<Vec<R>, Memory>
-    ensures { IfOk result (λ rows.
+    most: usize,
+) -> Result<Vec<R>, Unmade>
+    ensures ok { IfOk result (λ rows.
         AreClassSection (M.board moves.now) (R.side (M.board moves.now) start) rows.items) }
+    ensures fault { IfErr result
+        (HasNoSection (M.board moves.now) (R.side (M.board moves.now) start) most) }
 {
-    let numbers = R::reached(alloc, moves)?.in_order(alloc)?;
-    rows_at(alloc, moves, start, &numbers)
+    let numbers = R::reached(alloc, moves, most)?.in_order(alloc)?;
+    let rows = rows_at(alloc, moves, start, &numbers)?;
+    Ok(rows)
 }
 
 /// The same rows, made in at most `parts` parts. Threads make them where each has a thousand rows
@@ -32,13 +38,16 @@ pub(crate) fn section_in_parts<R: ClassSectionRow + Send + Sync, M: Moves + Sync
     alloc: Global,
     moves: &M,
     start: Value,
+    most: usize,
     parts: u32,
-) -> Result<Vec<R>, Memory>
+) -> Result<Vec<R>, Unmade>
     requires parts { 1 ≤ parts }
-    ensures { IfOk result (λ rows.
+    ensures ok { IfOk result (λ rows.
         AreClassSection (M.board moves.now) (R.side (M.board moves.now) start) rows.items) }
+    ensures fault { IfErr result
+        (HasNoSection (M.board moves.now) (R.side (M.board moves.now) start) most) }
 {
-    let numbers = R::reached(alloc, moves)?.in_order(alloc)?;
+    let numbers = R::reached(alloc, moves, most)?.in_order(alloc)?;
     let mut rows = Vec::with_capacity(alloc, numbers.len())?;
     for part in &rows_in_parts::<R, M>(rt, alloc, moves, start, &numbers, parts)? {
         rows.extend_from_slice(part)?;

@@ -1,19 +1,20 @@
 //! The sections of a document by classes: a row for each class that was reached.
 
-ghost use Rattle.std.specs.Prelude.{◌≡◌, IfOk};
+ghost use Rattle.std.specs.Prelude.{◌≡◌, IfErr, IfOk};
 ghost use Rattle.board_text.specs.PlainBoard.{PlainBoard};
 ghost use Rattle.positions.specs.declared.value.Value.{Value as ValueData};
 ghost use Rattle.strategies.specs.Document.{turns_of};
 ghost use Rattle.strategies.specs.Inside.Side.{Side};
 ghost use Rattle.strategies.specs.Inside.ClassSide.{AreClassesReached, IsClassRowAt};
-ghost use Rattle.strategies.specs.Inside.ClassSide.{MayStandAtClass};
+ghost use Rattle.strategies.specs.Inside.ClassSide.{HasNoSection, MayStandAtClass};
 ghost use Rattle.strategies.specs.Inside.ClassSide.{class_adversary_side};
 ghost use Rattle.strategies.specs.Inside.ClassSide.{class_labeller_side};
 
 use crate::class_steps::{add_answers, add_results};
 use crate::moves::Moves;
 use crate::reached_classes::ReachedClasses;
-use board_text::{MAX_PEBBLES, Memory};
+use crate::unmade::Unmade;
+use board_text::MAX_PEBBLES;
 use positions::{Turns, Value};
 use proof_text::{AdversaryClassRow, LabellerClassRow, class_order, places_at};
 use std::alloc::Global;
@@ -22,10 +23,12 @@ use std::alloc::Global;
 pub(crate) trait ClassSectionRow: Copy {
     ghost side: { PlainBoard → ValueData → Side Self };
 
-    /// The classes that a row may stand at.
-    fn reached<M: Moves>(alloc: Global, moves: &M) -> Result<ReachedClasses, Memory>
-        ensures { IfOk result (λ reached. (start : ValueData)
-            → AreClassesReached (M.board moves.now) (side (M.board moves.now) start) reached) };
+    /// The classes that a row may stand at, if they are at most `most`.
+    fn reached<M: Moves>(alloc: Global, moves: &M, most: usize) -> Result<ReachedClasses, Unmade>
+        ensures ok { IfOk result (λ reached. (start : ValueData)
+            → AreClassesReached (M.board moves.now) (side (M.board moves.now) start) reached) }
+        ensures fault { IfErr result (λ fault. (start : ValueData)
+            → HasNoSection (M.board moves.now) (side (M.board moves.now) start) most fault) };
 
     /// The row of the reached class of `number`, if it has one. The start has the value `start`.
     fn at<M: Moves>(moves: &M, start: Value, number: u64) -> Option<Self>
@@ -38,7 +41,7 @@ impl ClassSectionRow for LabellerClassRow {
 
     /// The classes of value 1 or more that best answers reach from the start's class, through such
     /// classes only.
-    fn reached<M: Moves>(alloc: Global, moves: &M) -> Result<ReachedClasses, Memory> {
+    fn reached<M: Moves>(alloc: Global, moves: &M, most: usize) -> Result<ReachedClasses, Unmade> {
         let mut reached = ReachedClasses::new(alloc);
         let mut expanded = ReachedClasses::new(alloc);
         let board = moves.board();
@@ -47,6 +50,9 @@ impl ClassSectionRow for LabellerClassRow {
         }
         let mut index = 0;
         while let Some(number) = reached.at(index) {
+            if reached.len() > most {
+                return Err(Unmade::TooLong);
+            }
             add_answers(moves, number, &mut reached, &mut expanded)?;
             index += 1;
         }
@@ -73,13 +79,16 @@ impl ClassSectionRow for AdversaryClassRow {
     ghost side = { class_adversary_side };
 
     /// The classes that legal answers to best requests lead to from the start's class.
-    fn reached<M: Moves>(alloc: Global, moves: &M) -> Result<ReachedClasses, Memory> {
+    fn reached<M: Moves>(alloc: Global, moves: &M, most: usize) -> Result<ReachedClasses, Unmade> {
         let mut reached = ReachedClasses::new(alloc);
         let mut expanded = ReachedClasses::new(alloc);
         let board = moves.board();
         reached.add(class_order(board, board.start()))?;
         let mut index = 0;
         while let Some(number) = reached.at(index) {
+            if reached.len() > most {
+                return Err(Unmade::TooLong);
+            }
             add_results(moves, number, &mut reached, &mut expanded)?;
             index += 1;
         }

@@ -29,6 +29,7 @@ mod reached_ranks;
 mod rows;
 mod sections;
 mod text;
+mod unmade;
 mod walk;
 
 pub use best_moves::{BestMoves, best_answer, best_request};
@@ -51,3 +52,4 @@ pub use laws_of_documents::{
 pub use moves::Moves;
 pub use numbered_moves::NumberedMoves;
 pub use text::{DocumentText, document_text, document_text_in_parts};
+pub use unmade::Unmade;

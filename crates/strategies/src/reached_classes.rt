@@ -1,6 +1,7 @@
 //! A set of numbers of classes that keeps the order in which they were reached.
 
-ghost use Rattle.std.specs.Prelude.{◌≡◌, ◌↔◌, ◌≢◌, [], AllPairs, Contains, IfOk, IsTrue, slice_get};
+ghost use Rattle.std.specs.Prelude.{◌≡◌, ◌↔◌, ◌≢◌, [], AllPairs, Contains, IfOk, IsTrue, length};
+ghost use Rattle.std.specs.Prelude.{slice_get};
 ghost use Rattle.strategies.specs.Inside.ReachedRanks.{AreInOrder, IsWith};
 
 use board_text::Memory;
@@ -60,6 +61,13 @@ impl ReachedClasses {
         ordered.extend_from_slice(numbers)?;
         ordered.sort_unstable();
         Ok(ordered)
+    }
+
+    /// How many numbers were reached.
+    pub(crate) fn len(&self) -> usize
+        ensures { result ≡ length self.now }
+    {
+        self.numbers.len()
     }
 
     /// The number that was reached after `index` others, if there is one.

@@ -11,8 +11,10 @@ use Rattle.proof_text.specs.declared.fault.ProofKind.TheVariants as proof_kinds
 use Rattle.solver.specs.declared.fault.SolveFault.{SolveFault}
 use Rattle.solver.specs.declared.fault.SolveFault.TheVariants as solve_faults
 use Rattle.runs.specs.declared.fault.RunFault.{RunFault}
+use Rattle.strategies.specs.declared.unmade.Unmade.{Unmade}
+use Rattle.strategies.specs.declared.unmade.Unmade.TheVariants as unmade
 use Rattle.runs.specs.declared.fault.RunFault.TheVariants.{Board, TooLarge, Proof, Memory, Worker}
-use Rattle.runs.specs.declared.fault.RunFault.TheVariants.{TooManyChains, Read, Limit}
+use Rattle.runs.specs.declared.fault.RunFault.TheVariants.{DocumentTooLarge, TooManyChains, Read, Limit}
 
 -- of a text that wasn't read to its end
 abbrev pub fault_of_reading : ReadFault → RunFault
@@ -42,3 +44,8 @@ fault_of_solving solve_faults.Worker = Worker
 abbrev pub fault_of_chains : ChainFault → RunFault
 fault_of_chains chain_faults.TooMany = TooManyChains
 fault_of_chains chain_faults.Memory = Memory
+
+-- of a document by classes that wasn't made
+abbrev pub fault_of_making : Unmade → RunFault
+fault_of_making unmade.Memory = Memory
+fault_of_making unmade.TooLong = DocumentTooLarge

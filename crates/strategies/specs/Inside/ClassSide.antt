@@ -1,5 +1,6 @@
 -- The sides of a document by classes: the rows of a side's section, and their classes.
-use Rattle.std.specs.Prelude.{◌≡◌, ℕ, List, [], ◌∷◌, map, Option, Some, None, All}
+use Rattle.std.specs.Prelude.{◌≡◌, ◌≢◌, ℕ, ◌<◌, List, [], ◌∷◌, map, Option, Some, None, All}
+use Rattle.std.specs.Prelude.{AllPairs, length}
 use Rattle.std.specs.List.{cons_option}
 use Rattle.board_text.specs.PlainBoard.{PlainBoard, IsConfiguration}
 use Rattle.positions.specs.declared.value.Value.{Value}
@@ -16,6 +17,8 @@ use Rattle.strategies.specs.Inside.ReachedClasses.{AreClassNumbersOf}
 use Rattle.strategies.specs.Inside.ReachedClasses.{IsClassReachedByAnswers}
 use Rattle.strategies.specs.Inside.ReachedClasses.{IsClassReachedByRequests}
 use Rattle.positions.specs.Table.{AnswerRow, RequestRow}
+use Rattle.strategies.specs.declared.unmade.Unmade.{Unmade}
+use Rattle.strategies.specs.declared.unmade.Unmade.TheVariants.{Memory, TooLong}
 
 -- the labeller's rows of a document of a start with the value
 abbrev pub class_labeller_side : PlainBoard → Value → Side LabellerClassRow
@@ -66,6 +69,17 @@ IsClassRowAt board side number None =
 -- a row of the side may stand at the class of the number
 abbrev pub MayStandAtClass : {R : Type 0} → PlainBoard → Side R → ℕ → Type 0
 MayStandAtClass board side number = IsClassNumber board number × side.IsReached number
+
+-- more classes than so many, at which a row of the side may stand
+abbrev pub AreMoreReached : {R : Type 0} → PlainBoard → Side R → ℕ → Type 0
+AreMoreReached board side most = (numbers : List ℕ)
+    × AllPairs (λ first second. first ≢ second) numbers
+    × All (MayStandAtClass board side) numbers × (most < length numbers)
+
+-- why a section of at most so many rows isn't made: it has more, or out of memory
+abbrev pub HasNoSection : {R : Type 0} → PlainBoard → Side R → ℕ → Unmade → Type 0
+HasNoSection board side most TooLong = AreMoreReached board side most
+HasNoSection board side most Memory = Unit {0}
 
 -- the rows at the classes of these numbers, in their order
 abbrev pub AreRowsAtClasses : {R : Type 0} → PlainBoard → Side R → List ℕ → List R → Type 0

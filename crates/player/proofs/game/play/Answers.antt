@@ -1,4 +1,4 @@
-use Rattle.std.proofs.Common.{[], ◌++◌, ap, ◌∙◌, refl, subst}
+use Rattle.std.proofs.Common.{[], ◌++◌, ap, ◌∙◌, subst}
 use Rattle.std.proofs.lemmas.Result.{IfOk-weaker, IfErr-weaker, err_from_is_err_and}
 use Rattle.std.specs.Io.KnownBytes.{Appends}
 use Rattle.board_text.specs.Streams.{AppendsPrefix}

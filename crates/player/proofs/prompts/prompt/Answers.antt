@@ -21,15 +21,15 @@ returns g c =
     let failed = g.E.Sink.has_failed in
     let game = g.P.Play.game c.args.play.now in
     let at = g.P.Play.at c.args.play.now in
-    let left = left_words c.value.result in
+    let told = c.tell_left.ensures in
+    let left = left_words game told.0 in
     let choices = c.tell_choices.ensures in
     let words = left ++ choices.0 in
     let e0 = c.args.errors.now in
     let e2 = c.tell_choices.new.errors in (
       shown_line words,
       if_there (λ b. IsToldHere b game at (shown_line words)) c.args.shows true c.if-not-shows.false
-          (c.value.result, choices.0, c.value.ensures, choices.1, refl),
+          (told.0, choices.0, told.1, choices.1, refl),
       then_more known failed e0 e2 c.write_more.new.writer (shown words) (with_line_feed [])
-          (then_shown known failed e0 c.tell_left.new.errors e2 left choices.0 c.tell_left.ensures.plain
-          c.tell_left.ensures.words choices.2) c.write_more.ensures,
+          (then_shown known failed e0 c.tell_left.new.errors e2 left choices.0 told.3 told.2 choices.2) c.write_more.ensures,
     )

@@ -3,11 +3,12 @@ use Rattle.std.proofs.lemmas.List.{length_push}
 use Rattle.std.proofs.lemmas.Result.{err_from_is_err_and}
 use Rattle.std.specs.Prelude.{Err, Ok}
 use Rattle.board_text.proofs.Cited.{Appends-trans}
-use Rattle.player.specs.Inside.Prompts.{IsToldHere, greeting_if}
+use Rattle.player.specs.Inside.Prompts.{IsToldHere, greeting_if, hint_there}
 use Rattle.player.specs.Inside.Steps.{IsResponseToMeaning}
 use Rattle.player.specs.Prompts.{BringsAndTells, NearlyTells}
 use Rattle.player.specs.Transcript.{AreResponses, Going}
 use Rattle.console.proofs.Cited.{Appends-none, then_more}
+use Rattle.player.proofs.HintedLines.{hint_is}
 use Rattle.player.proofs.ReadLines.{none_yet, line_came, all_came, came_of}
 use Rattle.player.proofs.ToldPlays.{begins_told, ends_told, goes_on_told, last_told, near, nearly_told, unread_told}
 use Rattle.player.proofs.WrittenPlay.{brings_more, no_line, stopped, not_stopped, ended, broken}
@@ -78,14 +79,14 @@ returns-in_err-end-2-clause-fault g c =
     (λ said to says. brings_more _ _ i.said next.line i.text said _ to i.brought (says next.line next.spells))
     c.in_err-end-2.field-0.0 fails)
 
-pub returns-in-Some-2-clause-ok : goal.returns-in-Some-2-clause-ok
-returns-in-Some-2-clause-ok g c =
+pub returns-in-Some-end-clause-ok : goal.returns-in-Some-end-clause-ok
+returns-in-Some-end-clause-ok g c =
     let i = c.loop.invariant in
     let next = line_came _ _ _ i.said _ _ _ i.come (rw c.in-Some.is at c.in_ok-meaning.ensures.line) in
-    let wrote = rw (i.same, c.in-Some-2.is) at c.in_ok-end-2.ensures.written in
+    let wrote = rw (i.same, c.in-Some-end.is) at c.in_ok-end-2.ensures.written in
     ended (AreResponses (g.P.Play.game c.args.play.now) (Going (g.P.Play.at c.args.play.now) 0)) _ _ _ _ _ i.said
-    i.text _ _ i.brought i.written _ _ next (omega (arith, i.few, c.loop-test.true))
-    c.in-Some-2.end wrote.0
+    i.text _ _ i.written next (omega (arith, i.few, c.loop-test.true))
+    c.in-Some-end.end wrote.0
     (brings_more _ _ i.said next.line i.text wrote.0 _ _ i.brought (wrote.2 next.line next.spells)) wrote.1
 
 pub loop-preserved : goal.loop-preserved
@@ -93,9 +94,11 @@ loop-preserved g c =
     let i = c.loop.invariant in
     let game = g.P.Play.game c.args.play.now in
     let next = line_came _ _ _ i.said _ _ _ i.come (rw c.in-Some.is at c.in_ok-meaning.ensures.line) in
-    let wrote = rw (i.same, c.in_default-2.is) at c.in_ok-end-2.ensures.written in
+    let wrote = rw (i.same, c.in_default-end.is) at c.in_ok-end-2.ensures.written in
     let replies = wrote.2 next.line next.spells in
     let prompt = c.prompt-in-loop.ensures in
+    let hint = hint_there c.args.shows next.line in
+    let blank = rw (hint_is c.args.shows c.in-Some.meaning next.line next.spells) at c.tell_blank.ensures in
     let same = c.in_ok-end-2.ensures.game ∙ i.same in
     record {
       said = i.said ++ next.line ∷ [];
@@ -110,12 +113,13 @@ loop-preserved g c =
       reader = c.in_ok-meaning.ensures.unfailed;
       ended = c.in_ok-meaning.ensures.ended;
       writer = c.in_ok-end-2.ensures.unfailed;
-      told = i.told ++ prompt.0;
+      told = i.told ++ (hint ++ prompt.0);
       tells = goes_on_told game _ 0 c.args.shows i.told prompt.0 i.said next.line i.text wrote.0 _ _ _ _ i.tells replies
           (subst (λ h. IsToldHere c.args.shows h (g.P.Play.at c.answer_line.new.play) prompt.0) same prompt.1);
       more = then_more g.E.Sink.contents g.E.Sink.has_failed c.args.errors.now c.loop.errors c.prompt-in-loop.new.errors
-          i.told
-          prompt.0 i.more prompt.2;
+          i.told (hint ++ prompt.0) i.more
+          (then_more g.E.Sink.contents g.E.Sink.has_failed c.loop.errors c.tell_blank.new.errors
+          c.prompt-in-loop.new.errors hint prompt.0 blank prompt.2);
     }
 
 pub returns-clause-fault : goal.returns-clause-fault
@@ -221,32 +225,35 @@ returns-in_err-end-2-clause-told g c =
       i.more,
     )
 
-pub returns-in-Some-2-clause-told : goal.returns-in-Some-2-clause-told
-returns-in-Some-2-clause-told g c =
+pub returns-in-Some-end-clause-told : goal.returns-in-Some-end-clause-told
+returns-in-Some-end-clause-told g c =
     let i = c.loop.invariant in
     let next = line_came _ _ _ i.said _ _ _ i.come (rw c.in-Some.is at c.in_ok-meaning.ensures.line) in
-    let wrote = rw (i.same, c.in-Some-2.is) at c.in_ok-end-2.ensures.written in
+    let wrote = rw (i.same, c.in-Some-end.is) at c.in_ok-end-2.ensures.written in
     let game = g.P.Play.game c.args.play.now in
     let Tells = BringsAndTells c.args.shows game (Going (g.P.Play.at c.args.play.now) 0) in
-    let last = c.tell_last-in-Some-2.ensures in
-    let value = rw (c.in_ok-end-2.ensures.game, i.same) at c.start_value-in-Some-2.ensures in (
-      i.told ++ last.0,
+    let last = c.tell_last-in-Some-end.ensures in
+    let value = rw (c.in_ok-end-2.ensures.game, i.same) at c.start_value-in-Some-end.ensures in
+    let hint = hint_there c.args.shows next.line in
+    let blank = rw (hint_is c.args.shows c.in-Some.meaning next.line next.spells) at c.tell_blank.ensures in (
+      (i.told ++ hint) ++ last.0,
       record {
         ok = (
-          i.told,
+          i.told ++ hint,
           last.0,
-          ended (Tells i.told) _ _ _ _ _ i.said i.text _ _ i.tells i.written _ _ next
-              (omega (arith, i.few, c.loop-test.true)) c.in-Some-2.end wrote.0
+          ended (Tells (i.told ++ hint)) _ _ _ _ _ i.said i.text _ _ i.written next
+              (omega (arith, i.few, c.loop-test.true)) c.in-Some-end.end wrote.0
               (ends_told game _ 0 c.args.shows i.told i.said next.line i.text wrote.0 _ _ _ i.tells
               (wrote.2 next.line next.spells)) wrote.1,
-          last_told c.args.shows game c.start_value-in-Some-2.result c.in-Some-2.end last.0 value last.1,
+          last_told c.args.shows game c.start_value-in-Some-end.result c.in-Some-end.end last.0 value last.1,
           refl,
         );
         fault = tt;
       },
-      then_more g.E.Sink.contents g.E.Sink.has_failed c.args.errors.now c.loop.errors c.tell_last-in-Some-2.new.errors
-          i.told
-          last.0 i.more last.2,
+      then_more g.E.Sink.contents g.E.Sink.has_failed c.args.errors.now c.tell_blank.new.errors
+          c.tell_last-in-Some-end.new.errors (i.told ++ hint) last.0
+          (then_more g.E.Sink.contents g.E.Sink.has_failed c.args.errors.now c.loop.errors c.tell_blank.new.errors
+          i.told hint i.more blank) last.2,
     )
 
 pub returns-clause-told : goal.returns-clause-told

@@ -1,4 +1,4 @@
-use Rattle.std.proofs.lemmas.Result.{IfOk-weaker}
+use Rattle.std.proofs.lemmas.Result.{err_from_is_err_and}
 use Rattle.strategies.proofs.RowsAtClasses.{may_stand, section_is}
 use Rattle.strategies.proofs.class_rows.section.Goals as goal
 
@@ -7,12 +7,16 @@ rows_at-requires g c =
     let board = g.M.Moves.board c.args.moves.now in
     let side = g.R.ClassSectionRow.side board c.args.start in
     rw c.deref.ensures.value
-    (may_stand board side _ _ (c.in_ok-reached.ensures c.args.start) c.in_ok-numbers.ensures)
+    (may_stand board side _ _ (c.in_ok-reached.ensures.ok c.args.start) c.in_ok-numbers.ensures)
 
-pub returns : goal.returns
-returns g c =
+pub returns-clause-ok : goal.returns-clause-ok
+returns-clause-ok g c =
     let board = g.M.Moves.board c.args.moves.now in
     let side = g.R.ClassSectionRow.side board c.args.start in
-    IfOk-weaker c.rows_at.result _ _ (λ rows are. section_is board side _ _ rows.items
-    (c.in_ok-reached.ensures c.args.start) c.in_ok-numbers.ensures (rw c.deref.ensures.value at are))
-    c.rows_at.ensures
+    section_is board side _ _ c.in_ok-rows.rows.items (c.in_ok-reached.ensures.ok c.args.start)
+    c.in_ok-numbers.ensures (rw c.deref.ensures.value at c.in_ok-rows.ensures)
+
+pub returns-in_err-reached-clause-fault : goal.returns-in_err-reached-clause-fault
+returns-in_err-reached-clause-fault g c =
+    let p = err_from_is_err_and c.from_residual.result c.from_residual.ensures.1 in
+    rw (p.1, p.2) (c.in_err-reached.ensures.fault c.args.start)

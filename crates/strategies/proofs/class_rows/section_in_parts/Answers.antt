@@ -1,6 +1,7 @@
 use Rattle.std.proofs.Common.{◌≡◌, ◌≤◌, ◌∙◌, length, take, ap, sym, subst}
 use Rattle.std.specs.List.{flat_map}
 use Rattle.std.proofs.lemmas.List.{take_all}
+use Rattle.std.proofs.lemmas.Result.{err_from_is_err_and}
 use Rattle.strategies.specs.Inside.ClassSide.{AreRowsAtClasses}
 use Rattle.strategies.proofs.RowsAtClasses.{may_stand, section_is}
 use Rattle.strategies.proofs.class_rows.section_in_parts.Goals as goal
@@ -10,10 +11,10 @@ rows_in_parts-requires-clause-numbers g c = λ κs lives.
     let board = g.M.Moves.board c.args.moves.now in
     let side = g.R.ClassSectionRow.side board c.args.start in
     rw c.deref.ensures.value
-    (may_stand board side _ _ (c.in_ok-reached.ensures c.args.start) c.in_ok-numbers.ensures)
+    (may_stand board side _ _ (c.in_ok-reached.ensures.ok c.args.start) c.in_ok-numbers.ensures)
 
-pub returns : goal.returns
-returns g c =
+pub returns-clause-ok : goal.returns-clause-ok
+returns-clause-ok g c =
     let board = g.M.Moves.board c.args.moves.now in
     let side = g.R.ClassSectionRow.side board c.args.start in
     let made = rw c.deref.ensures.value at c.in_ok-rows_in_parts.ensures in
@@ -22,6 +23,11 @@ returns g c =
     take_all c.loop-part.part-index c.deref-part-items.result.now past ∙ c.deref-part-items.ensures.value in
     let rows : c.loop-part.rows.items ≡ flat_map (λ part. part.items) c.in_ok-rows_in_parts.field-0.items =
     c.loop-part.invariant ∙ ap (flat_map (λ part. part.items)) all in
-    section_is board side _ _ c.loop-part.rows.items (c.in_ok-reached.ensures c.args.start)
+    section_is board side _ _ c.loop-part.rows.items (c.in_ok-reached.ensures.ok c.args.start)
     c.in_ok-numbers.ensures
     (subst (AreRowsAtClasses board side c.in_ok-numbers.numbers.items) (sym rows) made)
+
+pub returns-in_err-reached-clause-fault : goal.returns-in_err-reached-clause-fault
+returns-in_err-reached-clause-fault g c =
+    let p = err_from_is_err_and c.from_residual.result c.from_residual.ensures.1 in
+    rw (p.1, p.2) (c.in_err-reached.ensures.fault c.args.start)

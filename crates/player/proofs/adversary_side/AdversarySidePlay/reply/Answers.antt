@@ -31,4 +31,4 @@ returns-in-Other-clause-said g c =
     (λ end said. IsResponseToMeaning (PersonAsks seat.board) (Going seat.at seat.requests) c.args.meaning said
     (standing_of end seat.at seat.requests)) c.say_no_request-in-Other.ensures
     (rw c.in-Other.is (no_number seat.board.pebbles (Replies seat.board seat.at seat.requests) seat.at seat.requests
-    (omega (arith, c.pebbles.ensures.is_board.pebbles.1, ap (λ b. b.pebbles) of_seat))))
+    c.in-Other.has_blank (omega (arith, c.pebbles.ensures.is_board.pebbles.1, ap (λ b. b.pebbles) of_seat))))

@@ -1,7 +1,6 @@
 use Rattle.std.proofs.Common.{codes, refl, subst, ◌++◌}
 use Rattle.std.specs.Fmt.{decimal}
-use Rattle.board_text.specs.LineForms.{spaced_numbers}
-use Rattle.player.specs.Prompts.{label_choices}
+use Rattle.player.specs.Prompts.{label_choices, listed_labels}
 use Rattle.console.specs.Showing.{IsMore, shown}
 use Rattle.player.proofs.ChoiceLines.{are_choices, five}
 use Rattle.console.proofs.Cited.{then_shown}
@@ -14,7 +13,7 @@ returns g c =
     let failed = g.E.Sink.has_failed in
     let asked = c.self.inside.asked in
     let listed = c.tell_legal_labels.ensures in
-    let labels = spaced_numbers listed.0 in
+    let labels = listed_labels listed.0 in
     let first = codes "labels that pebble " in
     let end = codes "; type one, or quit" in
     let take = codes " can take:" in

@@ -1,4 +1,5 @@
-use Rattle.std.proofs.Common.{◌≡◌, refl, sym, arith}
+use Rattle.std.proofs.Common.{◌≡◌, get_or, refl, sym, arith}
+use Rattle.std.proofs.lemmas.List.Elements.{Contains-get_or}
 use Rattle.board_text.specs.PlainBoard.{IsConfiguration}
 use Rattle.strategies.proofs.AddedRanks.{added_one}
 use Rattle.strategies.specs.Inside.ReachedClasses.{number_of_class_at}
@@ -58,12 +59,21 @@ loop-number-preserved g c =
       expanded = c.in_ok-add_results.ensures.expanded;
     }
 
-pub returns : goal.returns
-returns g c = λ start.
-    let is = is_start g (goal.at.returns g c).After-start in
+pub returns-clause-ok : goal.returns-clause-ok
+returns-clause-ok g c = λ start.
+    let is = is_start g (goal.at.returns-clause-ok g c).After-start in
     record {
       each = spread_ends (g.M.Moves.board c.args.moves.now) _ _ _ is (request_moves
           (g.M.Moves.board c.args.moves.now)) c.loop-number.index _
           c.loop-number.invariant.spread (sym c.in_default.ensures.number);
       rows = adversarys (g.M.Moves.board c.args.moves.now) start is;
     }
+
+pub returns-then-len-most-clause-fault : goal.returns-then-len-most-clause-fault
+returns-then-len-most-clause-fault g c = λ start.
+    let numbers = c.loop-number.reached in (
+      numbers,
+      c.in-Some.ensures.once,
+      λ k d inside. c.loop-number.invariant.spread.on.sound (get_or numbers k d) (Contains-get_or numbers k d inside),
+      omega (arith, c.if-len-most.true, c.len.ensures),
+    )
