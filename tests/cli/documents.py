@@ -36,10 +36,11 @@ CLAIMS = {
     'product-of-pair-and-cycle': 'value 3',
     'product-of-four-cycle-and-cycle': 'forever',
     'product-of-cycle-and-residues-modulo-seven': 'forever',
+    'double-cover-of-residues-modulo-seven': 'forever',
 }
 # stored boards that only `solve --large` takes, which last for ever, and those that are too large to be solved by configurations
-LARGE = ('residues-modulo-forty-seven', 'product-of-residues-modulo-seven-twice')
-BEYOND = (*LARGE, 'product-of-residues-modulo-seven-and-nineteen')
+LARGE = ('residues-modulo-forty-seven', 'product-of-residues-modulo-seven-twice', 'double-cover-of-residues-modulo-nineteen')
+BEYOND = (*LARGE, 'product-of-residues-modulo-seven-and-nineteen', 'double-cover-of-residues-modulo-forty-seven')
 # stored boards that are products, each with its outer and its inner factor
 PRODUCTS = {
     'nested-of-level-three': ('three-cycle', 'three-cycle'),

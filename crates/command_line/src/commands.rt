@@ -17,8 +17,8 @@ use std::alloc::{AllocError, Global};
 /// The program's version, and the first lines of the texts that it reads and writes. `clap` takes
 /// the option from it, and `words` shows it.
 pub(crate) const VERSION: &str =
-    "pebbles 1.1.0\nreads `board 1`, `board 2`, `proof 1` and `proof 2`, writes these, `report 1` and \
-    `chains 1`\n";
+    "pebbles 1.1.0\nreads `board 1`, `board 2`, `proof 1` and `proof 2`, \
+    writes these, `report 1` and `chains 1`\n";
 
 /// The name of the program.
 const NAME: &str = "pebbles";

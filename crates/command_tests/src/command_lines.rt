@@ -184,6 +184,41 @@ fn reports(rt: HostRuntime) {
 }
 
 #[test]
+fn chains(rt: HostRuntime) {
+    for (words, workers, most, board) in [
+        (["pebbles", "chains", "a"].as_slice(), 1, 8, "a"),
+        (
+            ["pebbles", "chains", "--most", "3", "a"].as_slice(),
+            1,
+            3,
+            "a",
+        ),
+        (
+            ["pebbles", "chains", "b", "--most=8", "--workers", "16"].as_slice(),
+            16,
+            8,
+            "b",
+        ),
+    ] {
+        let wanted = Job::Chains {
+            workers,
+            most,
+            board,
+        };
+        assert_asks(&rt, rt.alloc(), words, wanted);
+    }
+    for words in [
+        ["pebbles", "chains"].as_slice(),
+        ["pebbles", "chains", "--most", "0", "a"].as_slice(),
+        ["pebbles", "chains", "--most", "9", "a"].as_slice(),
+        ["pebbles", "chains", "--large", "a"].as_slice(),
+        ["pebbles", "report", "--most", "3", "a"].as_slice(),
+    ] {
+        assert_usage(&rt, rt.alloc(), words);
+    }
+}
+
+#[test]
 fn plays(rt: HostRuntime) {
     for (words, side, limit) in [
         (

@@ -1,4 +1,4 @@
--- Where short chains are dominated, each label that dominates the others' labels is a right answer, and labels are many.
+-- If short chains are dominated, each label that dominates the others' labels is a right answer, and labels are many.
 use Rattle.std.proofs.Common.{◌≡◌, ◌≢◌, ℕ, Bool, true, suc, ◌-◌, ◌^◌, ◌<◌, ◌≤◌, List, ◌∷◌, length, get_or, replicate}
 use Rattle.std.proofs.Common.{All, Contains, sym, ◌∙◌, refl, subst, arith, inl, inr}
 use Rattle.std.specs.List.{filter, remove}

@@ -1,6 +1,7 @@
 -- Above each label of the double cover of a circle are the numbers of the circle, with other names.
-use Rattle.std.proofs.Common.{◌≡◌, ◌≢◌, ◌↔◌, ℕ, zero, suc, ◌+◌, ◌-◌, ◌*◌, ◌/◌, ◌%◌, ◌<◌, ◌⊎◌, Bool, true, false, List, []}
-use Rattle.std.proofs.Common.{Contains, not, refl, sym, ◌∙◌, ap, subst, arith, inl, inr, mod-lt}
+use Rattle.std.proofs.Common.{◌≡◌, ◌≢◌, ◌↔◌, ℕ, zero, suc, ◌+◌, ◌-◌, ◌*◌, ◌/◌, ◌%◌, ◌<◌, ◌⊎◌, Bool, true, false, List}
+use Rattle.std.proofs.Common.{[]}
+use Rattle.std.proofs.Common.{not, refl, sym, ◌∙◌, ap, subst, arith, inl, inr, mod-lt}
 use Rattle.std.specs.Prelude.{cond, eqb}
 use Rattle.std.proofs.lemmas.Bool.{both_ways, cases_eq, cases_lt, eq-eqb, eqb-true, ne_eqb}
 use Rattle.board_text.specs.PlainBoard.{PlainBoard, ArePairs, Dominates}
@@ -314,13 +315,15 @@ module _ (count : ℕ) (steps : List ℕ) (turn : ℕ → ℕ) (turned : IsTurne
         let one = turned_one (from first) some (from_low first) in
         let gives : not (sq (from first)) ≡ sq (distance (turn (from first)) 0)
         = sym one.other ∙ ap sq (sym (turned.from_none (turn (from first)) one.low)) in
-        subst (λ n. Wins count steps first second ↔ (sq (distance n (to second)) ≡ true)) (sym (to_turned first first_low))
+        subst (λ n. Wins count steps first second ↔ (sq (distance n (to second)) ≡ true)) (sym
+        (to_turned first first_low))
         (subst (λ n. Wins count steps first second ↔ (sq (distance (turn (from first)) n) ≡ true))
         (sym (to_more second is))
         (subst (λ b. Wins count steps first second ↔ (b ≡ true)) gives
         (more_second first second (sq (from first)) refl is there first_low here)))
     names_beat first second (inr (first_low, some, here)) (inr (second_low, some_second, there)) =
-        subst (λ n. Wins count steps first second ↔ (sq (distance n (to second)) ≡ true)) (sym (to_turned first first_low))
+        subst (λ n. Wins count steps first second ↔ (sq (distance n (to second)) ≡ true)) (sym
+        (to_turned first first_low))
         (subst (λ n. Wins count steps first second ↔ (sq (distance (turn (from first)) n) ≡ true))
         (sym (to_turned second second_low))
         (by_distances first second (sq (from first)) (sq (from second)) refl refl first_low second_low here there
@@ -436,7 +439,8 @@ module _ (count : ℕ) (steps : List ℕ) (turn : ℕ → ℕ) (turned : IsTurne
       record {
         there = λ other other_low beats.
             subst (λ n. to label point_low other < n) (sym circle.labels_are)
-            (to_low label point_low other (over label point_low other ((cover.beats other label other_low low).0 beats)));
+            (to_low label point_low other (over label point_low other
+            ((cover.beats other label other_low low).0 beats)));
         again = λ name name_low.
             let its = again label point_low name (subst (λ n. name < n) circle.labels_are name_low) in
             let fits : back label point_low name < board.labels

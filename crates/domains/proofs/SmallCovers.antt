@@ -1,5 +1,5 @@
 -- The squares modulo 7, 19 and 47 have a map as double covers need: t goes to -1 / t, found by a search.
-use Rattle.std.proofs.Common.{◌≡◌, ℕ, suc, ◌+◌, ◌*◌, ◌<◌, ◌^◌, List, [], ◌∷◌, get_or, refl, sym, subst, arith}
+use Rattle.std.proofs.Common.{ℕ, suc, ◌+◌, ◌*◌, ◌<◌, ◌^◌, List, [], ◌∷◌, get_or, refl, sym, subst, arith}
 use Rattle.board_text.specs.PlainBoard.{PlainBoard, IsAntisymmetric}
 use Rattle.domains.specs.Carried.{CarriesExactly, SomeCarries}
 use Rattle.chains.specs.Chains.{AreChainsDominated}
@@ -192,7 +192,8 @@ pub ninety_six_exactly : (board : PlainBoard) → IsAntisymmetric board
 ninety_six_exactly board antisymmetric cover =
     cover_exactly 47
     (1 ∷ 2 ∷ 3 ∷ 4 ∷ 6 ∷ 7 ∷ 8 ∷ 9 ∷ 12 ∷ 14 ∷ 16 ∷ 17 ∷ 18 ∷ 21 ∷ 24 ∷ 25 ∷ 27 ∷ 28 ∷ 32 ∷ 34 ∷ 36 ∷ 37 ∷ 42 ∷ [])
-    (λ t. get_or forty_seven_turns t 0) forty_seven_turned 4 forty_seven_one_way forty_seven_dominated board (omega arith)
+    (λ t. get_or forty_seven_turns t 0) forty_seven_turned 4 forty_seven_one_way forty_seven_dominated board
+    (omega arith)
     antisymmetric cover
 
 pub ninety_six_carry : SomeCarries 96 6

@@ -9,8 +9,9 @@ IsPointAhead count steps x y =
     ((x ≡ count) × (y < count))
     ⊎ ((x < count) × (y < count) × Contains steps ((x + count - y) % count))
 
--- Each point has a label on either of two sides: twice the point, and one more. Of two labels on one
--- side that one beats the other whose point is ahead, and on different sides the other way round.
+-- Each point has a label on either of two sides: twice the point, and one more. Of two labels on
+-- one side that one beats the other whose point is ahead, and on different sides the other way
+-- round.
 pub record IsDoubleCover (count : ℕ) (steps : List ℕ) (board : PlainBoard) : Type 0 where
   pub labels_are : board.labels ≡ 2 * (count + 1)
   pub beats : (x y : ℕ) → x < board.labels → y < board.labels → Dominates board x y

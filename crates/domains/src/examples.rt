@@ -117,6 +117,12 @@ const APART_ON_SEVEN_TWICE: &str = "board 1\nlabels 14\npebbles 3\nstart 0 7 0\n
     beats 10 13\nbeats 11 7\nbeats 11 9\nbeats 11 10\nbeats 12 8\nbeats 12 10\nbeats 12 11\n\
     beats 13 9\nbeats 13 11\nbeats 13 12\nend\n";
 
+/// The double cover of the three-cycle: two labels for each of its labels and for one point more.
+const COVER_OF_CYCLE: &str = "board 1\nlabels 8\npebbles 3\nstart 0 0 0\n\
+    beats 0 3\nbeats 0 4\nbeats 0 7\nbeats 1 2\nbeats 1 5\nbeats 1 6\nbeats 2 0\nbeats 2 5\n\
+    beats 2 7\nbeats 3 1\nbeats 3 4\nbeats 3 6\nbeats 4 1\nbeats 4 2\nbeats 4 7\nbeats 5 0\n\
+    beats 5 3\nbeats 5 6\nbeats 6 0\nbeats 6 2\nbeats 6 4\nbeats 7 1\nbeats 7 3\nbeats 7 5\nend\n";
+
 /// Asserts that the start of the board with this text has the value.
 fn assert_value(rt: &impl Abort, alloc: Global, text: &str, value: Value) {
     let board = parse(alloc, text.as_bytes()).or_else(|_| parse(alloc, text.as_bytes()));
@@ -200,4 +206,5 @@ fn products(rt: HostRuntime) {
 fn dominated_chains(rt: HostRuntime) {
     assert_value(&rt, rt.alloc(), SEVEN_TWICE, Value::Forever);
     assert_value(&rt, rt.alloc(), APART_ON_SEVEN_TWICE, Value::Finite(0));
+    assert_value(&rt, rt.alloc(), COVER_OF_CYCLE, Value::Forever);
 }

@@ -49,8 +49,8 @@ pub(crate) fn usage_hint(words: &[&str]) -> &'static str {
             return "only `play` has `--side`; ";
         }
         if is_unknown_option(word) {
-            return "the only options are `--workers` of `solve`, `report` and `chains`, `--most` of \
-                `chains`, `--side` of `play`, `--large` of `solve`, `report` and `play`, \
+            return "the only options are `--workers` of `solve`, `report` and `chains`, `--most` \
+                of `chains`, `--side` of `play`, `--large` of `solve`, `report` and `play`, \
                 `--explain`, `--help` and `--version`; a path that begins with `-` comes after \
                 `--`; ";
         }

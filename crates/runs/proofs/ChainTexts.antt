@@ -1,12 +1,13 @@
 -- The text of a board's chains, line by line, and that a board's text has one of them or one fault.
-use Rattle.std.proofs.Common.{◌≡◌, ℕ, suc, ◌+◌, ◌<◌, ◌≤◌, List, [], ◌∷◌, ◌++◌, ◌⊎◌, Option, length, slice_index, take, refl, sym}
+use Rattle.std.proofs.Common.{◌≡◌, ℕ, suc, ◌+◌, ◌<◌, List, [], ◌∷◌, ◌++◌, ◌⊎◌, Option, length, slice_index, take}
+use Rattle.std.proofs.Common.{refl, sym}
 use Rattle.std.proofs.Common.{◌∙◌, ap, subst, arith, inl, inr, length-take-le, codes}
 use Rattle.std.proofs.lemmas.List.{append_assoc, append-nil}
 use Rattle.std.proofs.Math.Seq.{take-suc}
 use Rattle.board_text.specs.LineForms.{with_line_feed}
 use Rattle.board_text.specs.PlainBoard.{PlainBoard}
 use Rattle.board_text.proofs.Cited.{one_board}
-use Rattle.chains.specs.ChainCounts.{AreChainCounts, HasTooManyChains}
+use Rattle.chains.specs.ChainCounts.{HasTooManyChains}
 use Rattle.chains.proofs.Cited.{counts_or_many, one_answer}
 use Rattle.runs.specs.ChainText.{AreChainsOf, CannotCountChains, HasNoChains, SaysChains, chains_text, last_lines}
 use Rattle.runs.specs.ChainText.{length_line, length_lines}

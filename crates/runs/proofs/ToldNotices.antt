@@ -16,7 +16,8 @@ use Rattle.command_line.specs.declared.asked.BoardLimit.{BoardLimit}
 use Rattle.command_line.specs.declared.asked.BoardLimit.TheVariants.{Small}
 use Rattle.positions.specs.declared.value.Value.{Value}
 use Rattle.runs.specs.declared.fault.RunFault.{RunFault}
-use Rattle.runs.specs.declared.fault.RunFault.TheVariants.{Board, DocumentTooLarge, TooManyChains, Limit, Memory, Proof, Read}
+use Rattle.runs.specs.declared.fault.RunFault.TheVariants.{Board, DocumentTooLarge, TooManyChains, Limit, Memory, Proof}
+use Rattle.runs.specs.declared.fault.RunFault.TheVariants.{Read}
 use Rattle.runs.specs.declared.fault.RunFault.TheVariants.{TooLarge, Worker, Write}
 use Rattle.runs.specs.declared.reading.TheConstants.{MAX_BOARD_BYTES}
 

@@ -1,5 +1,5 @@
--- The chains of a board: how many there are of each length, the first that no label dominates, and the
--- number of processes that last by any label that dominates.
+-- The chains of a board: how many there are of each length, the first that no label dominates, and
+-- the number of processes that last by any label that dominates.
 use Rattle.std.specs.Prelude.{◌≡◌, ℕ, suc, List, [], ◌∷◌, ◌++◌, length, Option, Some, None, codes}
 use Rattle.std.specs.Fmt.{decimal}
 use Rattle.board_text.specs.LineForms.{with_line_feed}

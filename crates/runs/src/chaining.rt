@@ -108,8 +108,8 @@ fn write_length(text: &mut String, size: u64, count: u64) -> Result<(), AllocErr
     write!(text, "length {size}: {count}\n")
 }
 
-/// Writes the first chain that no label dominates, if there is one, and the number of processes that
-/// last for ever by any label that dominates the others' labels.
+/// Writes the first chain that no label dominates, if there is one, and the number of processes
+/// that last for ever by any label that dominates the others' labels.
 fn write_last(text: &mut String, labels: u16, found: &ChainCounts) -> Result<(), AllocError>
     requires { length found.now.counts.items ≤ MAX_LENGTH }
     ensures { OnOk result (string_bytes text.new ≡ string_bytes text.old

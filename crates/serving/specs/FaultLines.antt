@@ -8,7 +8,8 @@ use Rattle.proof_text.specs.declared.fault.ProofKind.{ProofKind}
 use Rattle.proof_text.specs.declared.fault.ProofKind.TheVariants as proof_kinds
 use Rattle.runs.specs.declared.fault.RunFault.{RunFault}
 use Rattle.runs.specs.declared.fault.RunFault.TheVariants.{Board, TooLarge, Proof, Memory, Worker}
-use Rattle.runs.specs.declared.fault.RunFault.TheVariants.{DocumentTooLarge, TooManyChains, Read, Write, Limit}
+use Rattle.runs.specs.declared.fault.RunFault.TheVariants.{DocumentTooLarge, TooManyChains, Read}
+use Rattle.runs.specs.declared.fault.RunFault.TheVariants.{Write, Limit}
 
 -- the name of a kind of fault of a board
 abbrev pub name_of_board_kind : BoardKind → List ℕ

@@ -1,7 +1,8 @@
 -- Jobs: from the files and standard input to standard output.
 use Rattle.std.specs.Prelude.{◌≡◌, ◌≢◌, ℕ, ◌⊎◌, ◌↔◌, List}
 use Rattle.command_line.specs.declared.asked.Job.{Job}
-use Rattle.command_line.specs.declared.asked.Job.TheVariants.{Joined, Check, Nested, Solve, Report, Chains}
+use Rattle.command_line.specs.declared.asked.Job.TheVariants.{Joined, Check, Nested, Solve, Report}
+use Rattle.command_line.specs.declared.asked.Job.TheVariants.{Chains}
 use Rattle.command_line.specs.declared.asked.Job.TheVariants.{Play, Climb}
 use Rattle.player.specs.Transcript.{PersonClimbs}
 use Rattle.positions.specs.declared.side.Side.{Side}

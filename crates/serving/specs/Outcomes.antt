@@ -2,7 +2,8 @@
 use Rattle.std.specs.Prelude.{◌≡◌, ℕ, Result, Ok, Err, MatchResult}
 use Rattle.runs.specs.declared.fault.RunFault.{RunFault}
 use Rattle.runs.specs.declared.fault.RunFault.TheVariants.{Board, TooLarge, Proof, Memory, Worker}
-use Rattle.runs.specs.declared.fault.RunFault.TheVariants.{DocumentTooLarge, TooManyChains, Read, Write, Limit}
+use Rattle.runs.specs.declared.fault.RunFault.TheVariants.{DocumentTooLarge, TooManyChains, Read}
+use Rattle.runs.specs.declared.fault.RunFault.TheVariants.{Write, Limit}
 use Rattle.serving.specs.declared.outcome.Outcome.{Outcome}
 use Rattle.serving.specs.declared.outcome.Outcome.TheVariants.{Done, Refused, Broken}
 use Rattle.runs.specs.declared.verdicts.Verdict.{Verdict}

@@ -2,7 +2,8 @@
 use Rattle.std.specs.Prelude.{◌≡◌, ℕ, ◌⊎◌, ◌&&◌, ◌++◌, if◌then◌else◌, Bool, List, [], Result}
 use Rattle.std.specs.Prelude.{codes}
 use Rattle.command_line.specs.declared.asked.Job.{Job}
-use Rattle.command_line.specs.declared.asked.Job.TheVariants.{Joined, Check, Nested, Solve, Report, Chains}
+use Rattle.command_line.specs.declared.asked.Job.TheVariants.{Joined, Check, Nested, Solve, Report}
+use Rattle.command_line.specs.declared.asked.Job.TheVariants.{Chains}
 use Rattle.command_line.specs.declared.asked.Job.TheVariants.{Play, Climb}
 use Rattle.console.specs.declared.streams.Terminals.{Terminals}
 use Rattle.player.specs.Prompts.{ArePrompts, shown_line}

@@ -10,7 +10,8 @@ returns-in_err-chains-clause-fault g c =
     let p = err_from_is_err_and c.from_residual-in_err-chains.result c.from_residual-in_err-chains.ensures.1 in
     let read = bytes_of g.R.Source.remaining c.args.reader.now c.read_text.new.reader in
     let written = bytes_of g.W.Sink.contents c.args.writer.now c.args.writer.now in
-    rw (p.1, p.2) (nothing_to_write (SaysChains c.args.most) (CannotCountChains c.args.most) MAX_BOARD_BYTES read written
+    rw (p.1, p.2) (nothing_to_write (SaysChains c.args.most) (CannotCountChains c.args.most) MAX_BOARD_BYTES read
+    written
     c.in_ok-text.text.items c.in_ok-text.ensures.ok c.in_err-chains.field-0.0
     (rw c.as_slice.ensures.value at c.in_err-chains.ensures.fault))
 
