@@ -11,7 +11,7 @@ use Rattle.board_text.specs.LineForms.{spaced_numbers}
 use Rattle.console.specs.Showing.{HasNoControl, IsMore, shown}
 use Rattle.console.proofs.Cited.{then_more}
 use Rattle.console.proofs.Cited.{plain_both}
-use Rattle.player.specs.Inside.Prompts.{label_words}
+use Rattle.player.specs.Inside.Prompts.{listed_label_words}
 use Rattle.player.specs.declared.prompts.TheConstants.{MOST_LISTED}
 
 low_or_last : (bound x : ℕ) → x < bound + 1 → (x < bound) ⊎ (bound ≡ x)
@@ -85,7 +85,7 @@ abbrev listed : List ℕ → List ℕ
 listed xs = spaced_numbers (take MOST_LISTED xs)
 
 -- one more label
-listed_more : (xs : List ℕ) (x : ℕ) → listed xs ++ label_words (length xs) x ≡ listed (xs ++ x ∷ [])
+listed_more : (xs : List ℕ) (x : ℕ) → listed xs ++ listed_label_words (length xs) x ≡ listed (xs ++ x ∷ [])
 listed_more xs x = elim (cases_lt (length xs) MOST_LISTED) [
   | inl low ↦
       let within : length (xs ++ x ∷ []) ≤ MOST_LISTED = omega (arith, length_push xs x, low) in
@@ -100,16 +100,16 @@ listed_more xs x = elim (cases_lt (length xs) MOST_LISTED) [
 
 pub told_listed : {W : Type 0} (known : W → Option (List ℕ)) (failed : W → Bool) (a b c : W) (xs : List ℕ)
     (count x : ℕ) → length xs ≡ count → IsMore known failed a b (listed xs)
-    → IsMore known failed b c (label_words count x) → IsMore known failed a c (listed (xs ++ x ∷ []))
+    → IsMore known failed b c (listed_label_words count x) → IsMore known failed a c (listed (xs ++ x ∷ []))
 told_listed known failed a b c xs count x is before label =
     subst (IsMore known failed a c) (listed_more xs x)
-    (then_more known failed a b c (listed xs) (label_words (length xs) x) before
-    (subst (λ n. IsMore known failed b c (label_words n x)) (sym is) label))
+    (then_more known failed a b c (listed xs) (listed_label_words (length xs) x) before
+    (subst (λ n. IsMore known failed b c (listed_label_words n x)) (sym is) label))
 
 pub plain_listed : (xs : List ℕ) (count x : ℕ) → length xs ≡ count → HasNoControl (listed xs)
-    → HasNoControl (label_words count x) → HasNoControl (listed (xs ++ x ∷ []))
+    → HasNoControl (listed_label_words count x) → HasNoControl (listed (xs ++ x ∷ []))
 unfolding shown
 plain_listed xs count x is before label =
     subst HasNoControl (listed_more xs x)
-    (plain_both (listed xs) (label_words (length xs) x) before
-    (subst (λ n. HasNoControl (label_words n x)) (sym is) label))
+    (plain_both (listed xs) (listed_label_words (length xs) x) before
+    (subst (λ n. HasNoControl (listed_label_words n x)) (sym is) label))

@@ -4,7 +4,7 @@
 
 ghost use Rattle.std.specs.Prelude.{◌≤◌, ℕ, List};
 ghost use Rattle.player.specs.Inside.Prompts.{IsToldHere, IsToldAtEnd, greeting_if, hint_if};
-ghost use Rattle.player.specs.Inside.Prompts.{label_words};
+ghost use Rattle.player.specs.Inside.Prompts.{listed_label_words};
 ghost use Rattle.player.specs.Prompts.{better_words, count_words, least_words, most_words};
 ghost use Rattle.player.specs.Prompts.{pebble_choices, requests_words, start_words};
 ghost use Rattle.console.specs.Showing.{HasNoControl, IsMore, shown};
@@ -166,8 +166,8 @@ fn tell_requests<E: Sink>(errors: &mut E, number: u32)
 /// Writes the `label` after a space, if fewer than `MOST_LISTED` labels, `count`, come before it.
 pub(crate) fn tell_label<E: Sink>(errors: &mut E, count: u16, label: u16)
     ensures words { IsMore E.contents E.has_failed errors.old errors.new
-        (label_words count label) }
-    ensures plain { HasNoControl (label_words count label) }
+        (listed_label_words count label) }
+    ensures plain { HasNoControl (listed_label_words count label) }
 {
     if count < MOST_LISTED {
         write_more(errors, " ");

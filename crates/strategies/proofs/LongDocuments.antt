@@ -1,6 +1,6 @@
 -- More classes than have room in so many bytes make the document of a board longer.
-use Rattle.std.proofs.Common.{◌≡◌, ◌≢◌, ◌==◌, ℕ, ◌+◌, ◌*◌, ◌^◌, ◌<◌, ◌≤◌, Bool, List, [], ◌∷◌, ◌++◌, length, map, get_or}
-use Rattle.std.proofs.Common.{codes, suc, refl, sym, ap, ◌∙◌, subst, inl, inr, arith}
+use Rattle.std.proofs.Common.{◌≡◌, ◌≢◌, ◌==◌, ℕ, ◌+◌, ◌*◌, ◌^◌, ◌<◌, ◌≤◌, List, [], ◌∷◌, ◌++◌, length, map}
+use Rattle.std.proofs.Common.{get_or, codes, suc, refl, ap, ◌∙◌, subst, inl, inr, arith}
 use Rattle.std.proofs.Math.ListN.{get_or-map}
 use Rattle.std.proofs.Math.Nat.{mul-le-mul_right}
 use Rattle.std.specs.Cmp.{nat_eq_equiv}
@@ -24,8 +24,8 @@ use Rattle.positions.specs.Table.{AnswerRow, RequestRow}
 use Rattle.positions.specs.Value.{HasValue}
 use Rattle.positions.proofs.Cited.{moved_is_configuration, same_value}
 use Rattle.proof_text.specs.Arranged.{arranged, order_number}
-use Rattle.proof_text.specs.Proof.{PlainProof, asks_adversary, asks_labeller}
-use Rattle.proof_text.specs.ProofText.{answer_line, class_request_line, class_text, turns_text}
+use Rattle.proof_text.specs.Proof.{PlainProof}
+use Rattle.proof_text.specs.ProofText.{answer_line, class_request_line, turns_text}
 use Rattle.proof_text.proofs.Cited.{arranged_is}
 use Rattle.strategies.specs.ClassDocument.{CannotBeMade, HasLongText, IsAdversaryClassRow, IsClassDocumentOf}
 use Rattle.strategies.specs.ClassDocument.{IsLabellerClassRow, LeadsByClasses}
@@ -35,7 +35,6 @@ use Rattle.strategies.specs.declared.unmade.Unmade.TheVariants.{Memory, TooLong}
 use Rattle.strategies.specs.Inside.ClassSide.{AreMoreReached, HasNoSection, class_adversary_side, class_labeller_side}
 use Rattle.strategies.specs.Inside.ReachedClasses.{class_numbered, IsClassNumber, IsClassReachedByAnswers}
 use Rattle.strategies.specs.Inside.ReachedClasses.{IsClassReachedByRequests}
-use Rattle.strategies.proofs.ClassDocumentForm.{adversary_asked, labeller_asked}
 use Rattle.strategies.proofs.ClassMoves.{answer_row_for, request_row_for}
 use Rattle.strategies.proofs.LikePebbles.{arranged-value}
 use Rattle.strategies.proofs.LongTexts.{adversary_section, labeller_section}
@@ -231,7 +230,8 @@ module _ (board : PlainBoard) (is_board : IsBoard board) where
       ) in
       let size : ℕ = 13 + 2 * board.pebbles in
       let lines = lines_long size (class_request_line board) proof.adversary
-      (λ k d inside. requests_long is.value (get_or proof.adversary k d) ((is.adversary.each (get_or proof.adversary k d)).0
+      (λ k d inside. requests_long is.value (get_or proof.adversary k d)
+      ((is.adversary.each (get_or proof.adversary k d)).0
       (Contains-get_or proof.adversary k d inside)).1) in
       let wide : (most + 1) * size ≤ length proof.adversary * size = mul-le-mul_right size some in
       let within = adversary_section board proof is in

@@ -39,8 +39,8 @@ IsToldAtEnd true value end told = IsToldOfStart value end told
 IsToldAtEnd false value end told = told ≡ []
 
 -- a label after so many others: a space and its number, if it is one of those that are listed
-abbrev pub label_words : ℕ → ℕ → List ℕ
-label_words count label = if nat_lt count MOST_LISTED then 32 ∷ decimal label else []
+abbrev pub listed_label_words : ℕ → ℕ → List ℕ
+listed_label_words count label = if nat_lt count MOST_LISTED then 32 ∷ decimal label else []
 
 -- the labels that are legal for the pebble of the best request, in ascending order
 abbrev pub AreLegalAt : PlayState → List ℕ → Type 0

@@ -31,5 +31,6 @@ returns g c =
       if_there (λ b. IsToldHere b game at (shown_line words)) c.args.shows true c.if-not-shows.false
           (told.0, choices.0, told.1, choices.1, refl),
       then_more known failed e0 e2 c.write_more.new.writer (shown words) (with_line_feed [])
-          (then_shown known failed e0 c.tell_left.new.errors e2 left choices.0 told.3 told.2 choices.2) c.write_more.ensures,
+          (then_shown known failed e0 c.tell_left.new.errors e2 left choices.0 told.3 told.2 choices.2)
+          c.write_more.ensures,
     )

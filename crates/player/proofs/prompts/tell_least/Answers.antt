@@ -11,7 +11,8 @@ returns-in-Finite-clause-words g c =
     let first = codes "at least " in
     let last = codes " more will be answered, however you ask; " in
     let digits = rw c.from.ensures at c.write_digits.ensures.digits in
-    rw c.in-Finite.is (then_more known failed c.args.errors.now c.write_digits.new.errors c.write_more-in-Finite.new.writer
+    rw c.in-Finite.is (then_more known failed c.args.errors.now c.write_digits.new.errors
+    c.write_more-in-Finite.new.writer
     (first ++ decimal c.in-Finite.number) last
     (then_more known failed c.args.errors.now c.write_more.new.writer c.write_digits.new.errors first
     (decimal c.in-Finite.number) c.write_more.ensures digits) c.write_more-in-Finite.ensures)

@@ -17,7 +17,8 @@ returns-in_err-labeller-clause-fault g c =
     let is_board : IsBoard listed = subst IsBoard c.board.ensures c.pebbles-pebbles.ensures.is_board in
     let pebbles : c.pebbles-pebbles.result ≡ listed.pebbles =
     c.pebbles-pebbles.ensures.value ∙ ap (λ b. b.pebbles) c.board.ensures in
-    let room = subst (λ p. c.args.bytes < (c.labeller_room-most.result + 1) * (13 + 4 * p)) pebbles c.labeller_room-most.ensures in
+    let room = subst (λ p. c.args.bytes < (c.labeller_room-most.result + 1) * (13 + 4 * p)) pebbles
+    c.labeller_room-most.ensures in
     let fault = c.in_err-labeller.field-0.0 in
     let made = labeller_unmade listed is_board c.value-value.result c.args.bytes c.labeller_room-most.result room fault
     c.in_err-labeller.ensures.fault in
@@ -32,7 +33,8 @@ returns-in_err-adversary-in-Finite-clause-fault g c =
     let is_board : IsBoard listed = subst IsBoard c.board.ensures c.pebbles-pebbles.ensures.is_board in
     let pebbles : c.pebbles-pebbles.result ≡ listed.pebbles =
     c.pebbles-pebbles.ensures.value ∙ ap (λ b. b.pebbles) c.board.ensures in
-    let room = subst (λ p. c.args.bytes < (c.adversary_room-most.result + 1) * (13 + 2 * p)) pebbles c.adversary_room-most.ensures in
+    let room = subst (λ p. c.args.bytes < (c.adversary_room-most.result + 1) * (13 + 2 * p)) pebbles
+    c.adversary_room-most.ensures in
     let has_value = subst (HasValue listed c.start.result.now) c.in-Finite.is c.value-value.ensures in
     let has : HasValue listed listed.start (Finite number) = subst (λ s. HasValue listed s (Finite number))
     (c.start.ensures.value ∙ ap (λ b. b.start) c.board-2.ensures) has_value in

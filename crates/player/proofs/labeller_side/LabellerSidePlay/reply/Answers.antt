@@ -77,4 +77,5 @@ returns-in-Other-clause-said g c =
     says_line c.say_no_answer-in-Other.result _ _ no_answer_line None
     (λ end said. IsResponseToMeaning (PersonAnswers seat.board) (Going seat.at seat.requests) c.args.meaning said
     (standing_of end seat.at seat.requests)) c.say_no_answer-in-Other.ensures
-    (rw c.in-Other.is (no_label seat c.in-Other.has_blank (subst (λ b. b.labels ≤ MAX_LABELS) of_seat c.labels.ensures.is_board.labels.1)))
+    (rw c.in-Other.is (no_label seat c.in-Other.has_blank
+    (subst (λ b. b.labels ≤ MAX_LABELS) of_seat c.labels.ensures.is_board.labels.1)))
