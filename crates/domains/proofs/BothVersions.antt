@@ -14,8 +14,10 @@ use Rattle.domains.proofs.ShownDocuments.{claims_of_documents, documents_for}
 
 pub both_versions : (board : PlainBoard) (claim : Claim) → IsConfiguration board board.start
     → configurations board ≤ MAX_CONFIGURATIONS
-    → ((proof : PlainProof) × IsProof board proof × BreaksNoRule configuration_positions board proof × (proof.claim ≡ claim))
-    ↔ ((proof : PlainProof) × IsClassProof board proof × BreaksNoRule (class_positions board.labels) board proof × (proof.claim ≡ claim))
+    → ((proof : PlainProof) × IsProof board proof
+    × BreaksNoRule configuration_positions board proof × (proof.claim ≡ claim))
+    ↔ ((proof : PlainProof) × IsClassProof board proof
+    × BreaksNoRule (class_positions board.labels) board proof × (proof.claim ≡ claim))
 both_versions board claim is few =
     let by_class = claims_shown board claim is (few-of-small board few) in (
       λ shown. (by_class (subst IsClaim shown.3 shown.1.claim)).0 (claims_of_documents board is few claim shown),

@@ -167,11 +167,13 @@ module _ (board : PlainBoard) (proof : PlainProof) (turns : ℕ) (is : IsProof b
   are_rows : AreRows (answers_by_configurations board claims.Forever) proof.labeller
   are_rows = subst (λ (c : Claim). AreRows (answers_by_configurations board c) proof.labeller) claim is.labeller
 
-  meets : (row : AnswerRow) → Contains proof.labeller row → MeetsRequests configuration_positions board rows (for_turns turns row)
+  meets : (row : AnswerRow) → Contains proof.labeller row
+      → MeetsRequests configuration_positions board rows (for_turns turns row)
   meets row among pebble below =
       let is_row = All-contains (IsAnswerRow board claims.Forever) proof.labeller row are_rows.each among in
-      let met = All-contains (MeetsRequests configuration_positions board proof.labeller) proof.labeller row rules.labeller among pebble below
-      in
+      let met =
+      All-contains (MeetsRequests configuration_positions board proof.labeller) proof.labeller row rules.labeller among
+      pebble below in
       let after : Serves proof.labeller (moved row.at pebble met.label) Always
       = subst (λ (t : Turns). Serves proof.labeller (moved row.at pebble met.label) (one_less t))
       (always_wanted row.turns is_row.turns) met.serves in
@@ -217,7 +219,8 @@ module _ (board : PlainBoard) (proof : PlainProof) (turns : ℕ) (is : IsProof b
           start_serves = λ wanted. listed_for board.start turns (omega arith) (serves tt);
           start_below = tt;
           labeller = All-map (MeetsRequests configuration_positions board rows) (for_turns turns) proof.labeller
-              (each_of (λ row. MeetsRequests configuration_positions board rows (for_turns turns row)) proof.labeller meets);
+              (each_of
+              (λ row. MeetsRequests configuration_positions board rows (for_turns turns row)) proof.labeller meets);
           adversary = All-nil (MeetsAnswers configuration_positions board []);
         },
         refl,

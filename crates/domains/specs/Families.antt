@@ -3,8 +3,8 @@ use Rattle.std.specs.Prelude.{◌≡◌, ℕ, ◌<◌, List, ◌∷◌, length, 
 use Rattle.std.specs.List.{remove}
 use Rattle.board_text.specs.PlainBoard.{PlainBoard, Dominates}
 
--- Lists of this many labels. For each of them there is a label that dominates them all, and that, put
--- before the others in the place of any one of them, gives a list of the family again.
+-- Lists of this many labels. For each of them there is a label that dominates them all, and that,
+-- put before the others in the place of any one of them, gives a list of the family again.
 pub record IsClosedFamily (board : PlainBoard) (count : ℕ) (Family : List ℕ → Type 0) : Type 0 where
   pub long : (labels : List ℕ) → Family labels → length labels ≡ count
   pub answered : (labels : List ℕ) → Family labels

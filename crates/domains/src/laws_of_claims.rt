@@ -19,7 +19,8 @@ use positions::MAX_CONFIGURATIONS;
 pub fn claims_hold_where_documents_show_them()
     ensures { (board : PlainBoard) → (claim : ClaimData) → IsConfiguration board board.start
         → configurations board ≤ MAX_CONFIGURATIONS → IsClaim claim → Holds board claim
-        ↔ ((proof : PlainProof) × IsProof board proof × BreaksNoRule configuration_positions board proof
+        ↔ ((proof : PlainProof) × IsProof board proof
+        × BreaksNoRule configuration_positions board proof
         × (proof.claim ≡ claim)) }
 {}
 
@@ -29,8 +30,10 @@ pub fn claims_hold_where_documents_show_them()
 pub fn both_versions_show_the_same_claims()
     ensures { (board : PlainBoard) → (claim : ClaimData)
         → IsConfiguration board board.start → configurations board ≤ MAX_CONFIGURATIONS
-        → ((proof : PlainProof) × IsProof board proof × BreaksNoRule configuration_positions board proof
+        → ((proof : PlainProof) × IsProof board proof
+        × BreaksNoRule configuration_positions board proof
         × (proof.claim ≡ claim))
-        ↔ ((proof : PlainProof) × IsClassProof board proof × BreaksNoRule (class_positions board.labels) board proof
+        ↔ ((proof : PlainProof) × IsClassProof board proof
+        × BreaksNoRule (class_positions board.labels) board proof
         × (proof.claim ≡ claim)) }
 {}

@@ -217,8 +217,8 @@ fn a_person_could_ask_more(rt: HostRuntime) {
     assert_board_play(&rt, rt.alloc(), THREE_CYCLE, Side::Adversary, wanted);
 }
 
-/// The value of the start is 1: a request of pebble 1, which takes 4, and one of pebble 0, for which
-/// no label is legal. A request of pebble 0 brings both pebbles into the cycle.
+/// The value of the start is 1: a request of pebble 1, which takes 4, and one of pebble 0, for
+/// which no label is legal. A request of pebble 0 brings both pebbles into the cycle.
 #[test]
 fn a_person_could_ask_better(rt: HostRuntime) {
     let wanted = Wanted {

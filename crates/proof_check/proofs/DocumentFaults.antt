@@ -49,7 +49,8 @@ module _ {F : Type 0} (refusals : Refusals F) (board : PlainBoard) {Names : F �
 
   adversary_row : {Ready : Type 0} (rows : List RequestRow) (row : RequestRow) → (Ready → IsConfiguration board row.at)
       → IsStep Names Ready (MeetsAnswers refusals.positions board rows row) (IsWrongRequest refusals board rows row)
-  adversary_row rows row is = narrowed (λ meets label legal. meets.each label) (λ fault w. w) (first_turn (λ label legal.
+  adversary_row rows row is =
+      narrowed (λ meets label legal. meets.each label) (λ fault w. w) (first_turn (λ label legal.
       answer_step rows row.left (refusals.positions.normal (moved row.at (refusals.positions.asked row) label))
       (refusals.not_stuck row.at label) (refusals.unlisted Adversary row.at label)
       (refusals.too_large row.at label) legal

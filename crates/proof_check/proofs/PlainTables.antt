@@ -22,7 +22,8 @@ module _ (board : PlainBoard) where
 
   answers : (table : List AnswerRow) (most : ℕ) (from : List ℕ)
       → AnswersOver configuration_positions board table most from → Answers board table most from
-  answers table most from over = λ requests short pebbles. answers_plainly table requests from (over requests short pebbles)
+  answers table most from over =
+      λ requests short pebbles. answers_plainly table requests from (over requests short pebbles)
 
   -- the row that a request was found by
   row_of : (found : Option RequestRow) (pebble : ℕ) → option_map (λ row. row.request) found ≡ Some pebble

@@ -20,7 +20,8 @@ use proof_text::{AdversaryRow, Claim};
 impl<'a> CheckedRow<Checker<'a>, CheckFault> for AdversaryRow {
     ghost is_ready = { λ c row. IsRequesting c.board row };
 
-    ghost meets = { λ c row. MeetsAnswers configuration_positions c.board c.proof.adversary (request_row c.board row) };
+    ghost meets = { λ c row. MeetsAnswers configuration_positions c.board c.proof.adversary
+        (request_row c.board row) };
 
     ghost is_wrong = { λ c row. IsWrongRequest (rank_refusals c.board) c.board c.proof.adversary
         (request_row c.board row) };

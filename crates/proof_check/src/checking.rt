@@ -40,9 +40,11 @@ pub fn check(
     ensures shows { OnOk result (Shows board.now (answer_rows board.now proof.now.labeller.items)
         (request_rows board.now proof.now.adversary.items) proof.now.claim) }
     // Only a document that breaks no rule is accepted.
-    ensures rules { OnOk result (BreaksNoRule configuration_positions board.now (plain_proof board.now proof.now)) }
+    ensures rules { OnOk result
+        (BreaksNoRule configuration_positions board.now (plain_proof board.now proof.now)) }
     // Each that breaks none is accepted, unless memory runs out.
-    ensures accepts { BreaksNoRule configuration_positions board.now (plain_proof board.now proof.now)
+    ensures accepts { BreaksNoRule configuration_positions board.now
+        (plain_proof board.now proof.now)
         → IfErr result (λ fault. fault ≡ OutOfMemory) }
     // The fault is the first in the order of checking, or memory ran out.
     ensures fault { IfErr result (λ fault. IsCheckFault board.now

@@ -55,7 +55,8 @@ pub fn check_classes(
     ensures rules { OnOk result (BreaksNoRule (class_positions board.now.labels) board.now
         (plain_class_proof board.now proof.now)) }
     // Each that breaks none is accepted.
-    ensures accepts { BreaksNoRule (class_positions board.now.labels) board.now (plain_class_proof board.now proof.now)
+    ensures accepts { BreaksNoRule (class_positions board.now.labels) board.now
+        (plain_class_proof board.now proof.now)
         → IsOk result }
     // The fault is the first in the order of checking.
     ensures fault { IfErr result (IsFirstClassFault board.now

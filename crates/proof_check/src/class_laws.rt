@@ -25,13 +25,15 @@ pub fn class_rules_show()
     ensures each { (board : PlainBoard) → (proof : PlainProof) → (configuration : List ℕ)
         → IsConfiguration board board.start → IsConfiguration board configuration
         → class_of configuration ≡ class_of board.start
-        → BreaksNoRule (class_positions board.labels) board proof → HoldsAt board configuration proof.claim }
+        → BreaksNoRule (class_positions board.labels) board proof
+        → HoldsAt board configuration proof.claim }
 {}
 
 /// A document by classes that breaks no rule has no fault.
 pub fn unbroken_class_rules_leave_no_fault()
     ensures { (board : PlainBoard) → (proof : PlainProof) → (fault : Fault)
-        → BreaksNoRule (class_positions board.labels) board proof → IsFirstClassFault board proof fault → ⊥ }
+        → BreaksNoRule (class_positions board.labels) board proof
+        → IsFirstClassFault board proof fault → ⊥ }
 {}
 
 /// A document by classes has one fault at most.

@@ -21,9 +21,11 @@ use proof_text::LabellerRow;
 impl<'a> CheckedRow<Checker<'a>, CheckFault> for LabellerRow {
     ghost is_ready = { λ c row. IsAnswering c.board row };
 
-    ghost meets = { λ c row. MeetsRequests configuration_positions c.board c.proof.labeller (answer_row c.board row) };
+    ghost meets = { λ c row. MeetsRequests configuration_positions c.board c.proof.labeller
+        (answer_row c.board row) };
 
-    ghost is_wrong = { λ c row. IsWrongAnswer (rank_refusals c.board) c.board c.proof.labeller (answer_row c.board row) };
+    ghost is_wrong = { λ c row. IsWrongAnswer (rank_refusals c.board) c.board c.proof.labeller
+        (answer_row c.board row) };
 
     /// The fault of the row's first faulty pebble, if it has one.
     fn fault(&self, checker: &Checker<'a>) -> Option<CheckFault> {

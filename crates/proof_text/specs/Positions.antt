@@ -6,7 +6,8 @@ use Rattle.positions.specs.Game.{LabellerTree}
 use Rattle.positions.specs.Table.{RequestRow}
 use Rattle.proof_text.specs.Arranged.{arranged}
 
--- the places of the row that stands for a configuration, and the pebble that an adversary's row asks
+-- the places of the row that stands for a configuration, and the pebble that an adversary's row
+-- asks
 pub record Positions : Type 0 where
   pub normal : List ℕ → List ℕ
   pub asked : RequestRow → ℕ

@@ -37,7 +37,8 @@ use Rattle.runs.specs.declared.verdicts.Verdict.{Verdict}
 use Rattle.runs.specs.declared.verdicts.Verdict.TheVariants.{Accepted, Refused, RefusedByClasses}
 
 -- the verdict on a document that breaks no rule
-verdict_of : (board : PlainBoard) (proof : PlainProof) (value : Value) (verdict : Verdict) → BreaksNoRule configuration_positions board proof
+verdict_of : (board : PlainBoard) (proof : PlainProof) (value : Value) (verdict : Verdict)
+    → BreaksNoRule configuration_positions board proof
     → proof.claim ≡ claim_of value → IsVerdict board proof verdict
     → verdict ≡ Accepted (record { claim = claim_of value })
 verdict_of board proof value (Accepted shown) rules claim is = ap (λ c. Accepted (record { claim = c })) (is.0 ∙ claim)

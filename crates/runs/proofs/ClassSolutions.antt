@@ -7,6 +7,7 @@ use Rattle.proof_check.proofs.Cited.{no_class_fault}
 use Rattle.strategies.proofs.Cited.{breaks_no_class_rule, has_class_form as is_formed, one_class_document as one_made}
 use Rattle.strategies.proofs.Cited.{class_document_exists, short_text_fits}
 use Rattle.proof_text.proofs.Cited.{no_class_text_fault as faultless_document, one_class_document}
+use Rattle.proof_text.specs.Arranged.{arranged}
 use Rattle.proof_text.specs.ProofText.{class_text}
 use Rattle.proof_text.specs.Documents.{IsClassProof}
 use Rattle.classes.specs.Numbers.{ways}
@@ -107,6 +108,7 @@ module _ (text : List ℕ) where
   -- a fault of the text is one of these
   wrong_unsolved : (fault : RunFault) → IsWrongWithin Large text fault → IsUnsolvedByClasses text fault
   wrong_unsolved DocumentTooLarge wrong = absurd wrong
+  wrong_unsolved TooManyChains wrong = absurd wrong
   wrong_unsolved (Board told) wrong = wrong
   wrong_unsolved TooLarge wrong = wrong
   wrong_unsolved (Proof told) wrong = wrong
@@ -168,7 +170,7 @@ module _ (text written : List ℕ) (value : Value) (solution : IsClassSolution t
       ∙ solved.is_document.claim ∙ ap claim_of worth)
   verdict_of proof (Refused fault) same told = absurd told
   verdict_of proof (RefusedByClasses fault) same told =
-      absurd (no_class_fault board solved.document fault
+      absurd (no_class_fault (arranged board.labels) board solved.document fault
       (breaks_no_class_rule board solved.document is.is_board.start solved.is_document)
       (subst (λ p. IsClassVerdict board p (RefusedByClasses fault)) (sym same) told))
 

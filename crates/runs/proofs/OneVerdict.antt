@@ -6,6 +6,7 @@ use Rattle.proof_text.proofs.Cited.{no_class_text_fault as faultless_class_docum
 use Rattle.proof_text.proofs.Cited.{one_class_text_fault, one_document, no_fault as faultless_document}
 use Rattle.graphs.specs.declared.graph.Numbering.{Numbering}
 use Rattle.graphs.specs.declared.graph.Numbering.TheVariants.{Ordered, Classes}
+use Rattle.proof_text.specs.Arranged.{arranged}
 use Rattle.proof_text.specs.Proof.{PlainProof}
 use Rattle.proof_text.specs.declared.fault.ProofFault.{ProofFault}
 use Rattle.proof_text.proofs.OneDocument.{one_fault as one_proof_fault}
@@ -41,12 +42,12 @@ same_class_verdict board proof (Accepted shown) (Accepted other) is also =
     ap (λ c. Accepted (record { claim = c })) (is.0 ∙ sym also.0)
 same_class_verdict board proof (Accepted shown) (Refused fault) is also = absurd also
 same_class_verdict board proof (Accepted shown) (RefusedByClasses fault) is also =
-    absurd (no_class_fault board proof fault is.1 also)
+    absurd (no_class_fault (arranged board.labels) board proof fault is.1 also)
 same_class_verdict board proof (RefusedByClasses fault) (Accepted shown) is also =
-    absurd (no_class_fault board proof fault also.1 is)
+    absurd (no_class_fault (arranged board.labels) board proof fault also.1 is)
 same_class_verdict board proof (RefusedByClasses fault) (Refused other) is also = absurd also
 same_class_verdict board proof (RefusedByClasses fault) (RefusedByClasses other) is also =
-    ap RefusedByClasses (one_class_fault board proof fault other is also)
+    ap RefusedByClasses (one_class_fault (arranged board.labels) board proof fault other is also)
 same_class_verdict board proof (Refused fault) other is also = absurd is
 
 module _ (board : PlainBoard) (text : List ℕ) (is_board : IsBoard board) where

@@ -39,7 +39,8 @@ IsVerdict board proof (RefusedByClasses fault) = ⊥
 -- each start of the class; it is refused with its first fault
 abbrev pub IsClassVerdict : PlainBoard → PlainProof → Verdict → Type 0
 IsClassVerdict board proof (Accepted shown) =
-    (shown.claim ≡ proof.claim) × BreaksNoRule (class_positions board.labels) board proof × Holds board proof.claim
+    (shown.claim ≡ proof.claim) × BreaksNoRule (class_positions board.labels) board proof
+    × Holds board proof.claim
     × ((configuration : List ℕ) → IsConfiguration board configuration
     → class_of configuration ≡ class_of board.start → HoldsAt board configuration proof.claim)
 IsClassVerdict board proof (Refused fault) = ⊥

@@ -232,7 +232,8 @@ module _ (board : PlainBoard) (most : ℕ) (adversary : RequestRows board most) 
       let one : number ≡ found.0.left = cc in
       record { row = found.0; among = found.1; at = found.2; below = omega (arith, one, low) }
 
-  meets_answers : (row : RequestRow) → IsRequestFor board most row → MeetsAnswers (class_positions board.labels) board requests row
+  meets_answers : (row : RequestRow) → IsRequestFor board most row
+      → MeetsAnswers (class_positions board.labels) board requests row
   meets_answers row is_row = record {
     asks = asked_below row is_row.asked;
     each = λ label legal.

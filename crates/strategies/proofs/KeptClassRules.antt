@@ -84,7 +84,8 @@ module _ (board : PlainBoard) (proof : PlainProof) (is_start : IsConfiguration b
       }
 
   -- each row meets each request
-  meets : (row : AnswerRow) → IsLabellerClassRow board is.value row → MeetsRequests (class_positions board.labels) board proof.labeller row
+  meets : (row : AnswerRow) → IsLabellerClassRow board is.value row
+      → MeetsRequests (class_positions board.labels) board proof.labeller row
   meets row is_row pebble below =
       let label = slice_index row.answers pebble in
       let best = is_row.best pebble below in

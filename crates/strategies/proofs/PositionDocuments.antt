@@ -21,7 +21,8 @@ module _ (labels : ℕ) (IsMove : List ℕ → ℕ → ℕ → Type 0) where
   leads_over from ((pebble, label) ∷ moves) to leads =
       (leads.0, leads_over (arranged labels (moved from pebble label)) moves to leads.1)
 
-  leads_by_classes : (from : List ℕ) (moves : List (ℕ × ℕ)) (to : List ℕ) → LeadsOver (class_positions labels) IsMove from moves to
+  leads_by_classes : (from : List ℕ) (moves : List (ℕ × ℕ)) (to : List ℕ)
+      → LeadsOver (class_positions labels) IsMove from moves to
       → LeadsByClasses labels IsMove from moves to
   leads_by_classes from [] to leads = leads
   leads_by_classes from ((pebble, label) ∷ moves) to leads =
@@ -63,7 +64,8 @@ adversary_over board row is = record {
   best = is.best;
 }
 
-adversary_by_classes : (board : PlainBoard) (row : RequestRow) → IsAdversaryRowOver (class_positions board.labels) board row
+adversary_by_classes : (board : PlainBoard) (row : RequestRow)
+    → IsAdversaryRowOver (class_positions board.labels) board row
     → IsAdversaryClassRow board row
 adversary_by_classes board row is = record {
   moves = is.moves;
@@ -82,7 +84,8 @@ module _ (IsMove : List ℕ → ℕ → ℕ → Type 0) where
   leads_plainly from ((pebble, label) ∷ moves) to leads =
       (leads.0, leads_plainly (moved from pebble label) moves to leads.1)
 
-  leads_back : (from : List ℕ) (moves : List (ℕ × ℕ)) (to : List ℕ) → LeadsOver configuration_positions IsMove from moves to
+  leads_back : (from : List ℕ) (moves : List (ℕ × ℕ)) (to : List ℕ)
+      → LeadsOver configuration_positions IsMove from moves to
       → LeadsBy IsMove from moves to
   leads_back from [] to leads = leads
   leads_back from ((pebble, label) ∷ moves) to leads =

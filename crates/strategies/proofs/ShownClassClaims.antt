@@ -193,7 +193,8 @@ no_rows board IsRow at = record {
 
 abbrev Shown : PlainBoard → Claim → Type 0
 Shown board claim =
-    (proof : PlainProof) × IsClassProof board proof × BreaksNoRule (class_positions board.labels) board proof × (proof.claim ≡ claim)
+    (proof : PlainProof) × IsClassProof board proof × BreaksNoRule (class_positions board.labels) board proof
+    × (proof.claim ≡ claim)
 
 module _ (board : PlainBoard) (is : IsConfiguration board board.start) (few : class_count board ≤ MAX_CLASS_ROWS) where
   -- the start is served the number by rows for it
@@ -313,7 +314,8 @@ module _ (board : PlainBoard) (is : IsConfiguration board board.start) (few : cl
 pub claims_shown : (board : PlainBoard) (claim : Claim) → IsConfiguration board board.start
     → class_count board ≤ MAX_CLASS_ROWS → IsClaim claim
     → Holds board claim
-    ↔ ((proof : PlainProof) × IsClassProof board proof × BreaksNoRule (class_positions board.labels) board proof × (proof.claim ≡ claim))
+    ↔ ((proof : PlainProof) × IsClassProof board proof
+    × BreaksNoRule (class_positions board.labels) board proof × (proof.claim ≡ claim))
 claims_shown board claim is few small = (
   shown board is few claim small,
   λ (proof, form, rules, same). subst (Holds board) same (start_claim_holds board proof is rules),

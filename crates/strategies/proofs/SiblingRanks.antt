@@ -1,5 +1,6 @@
 -- The configurations that differ in the last pebble's place, and their gaps.
-use Rattle.std.proofs.Common.{◌≡◌, ℕ, zero, suc, ◌+◌, ◌-◌, ◌*◌, ◌^◌, ◌<◌, ◌≤◌, take, List, [], ◌∷◌, ◌++◌, length, get_or, set}
+use Rattle.std.proofs.Common.{◌≡◌, ℕ, zero, suc, ◌+◌, ◌-◌, ◌*◌, ◌^◌, ◌<◌, ◌≤◌, take, List, [], ◌∷◌, ◌++◌, length}
+use Rattle.std.proofs.Common.{get_or, set}
 use Rattle.std.proofs.Common.{inl, inr, refl, sym, ap, ◌∙◌, subst, arith}
 use Rattle.std.specs.List.{All, remove}
 use Rattle.std.proofs.Math.Nat.{pow-zero}
@@ -357,7 +358,8 @@ gaps-more held pebble number numbers few are is =
       ];
     }
 
-pub gaps-end : (held : List ℕ) (bound pebbles : ℕ) (numbers : List ℕ) → pebbles ≤ bound → AreGapNumbers held bound numbers
+pub gaps-end : (held : List ℕ) (bound pebbles : ℕ) (numbers : List ℕ) → pebbles ≤ bound
+    → AreGapNumbers held bound numbers
     → AreGapNumbers held pebbles numbers
 gaps-end held bound pebbles numbers most are = record {
   room = are.room;

@@ -23,8 +23,8 @@ LeadsOver positions IsMove from ((pebble, label) ∷ moves) to =
     IsMove from pebble label
     × LeadsOver positions IsMove (positions.normal (moved from pebble label)) moves to
 
--- a labeller's row: a normal configuration of value 1 or more that best answers lead to from that of
--- the start, its turns, and the best answer to each request
+-- a labeller's row: a normal configuration of value 1 or more that best answers lead to from that
+-- of the start, its turns, and the best answer to each request
 pub record IsLabellerRowOver (positions : Positions) (board : PlainBoard) (start : Value)
     (row : AnswerRow) : Type 0 where
   pub moves : List (ℕ × ℕ)
@@ -42,7 +42,8 @@ pub record IsLabellerRowOver (positions : Positions) (board : PlainBoard) (start
 pub record IsAdversaryRowOver (positions : Positions) (board : PlainBoard)
     (row : RequestRow) : Type 0 where
   pub moves : List (ℕ × ℕ)
-  pub reached : LeadsOver positions (IsRequestMove board) (positions.normal board.start) moves row.at
+  pub reached : LeadsOver positions (IsRequestMove board)
+      (positions.normal board.start) moves row.at
   pub has_value : HasValue board row.at (Finite row.left)
   pub asks : positions.asked row < length row.at
   pub best : IsBestRequest board row.at (positions.asked row)

@@ -25,7 +25,8 @@ impl Model for Answer {
     ghost use Rattle.std.specs.Prelude.{Option};
     ghost use Rattle.std.proofs.Common.{ap, ◌∙◌};
     ghost use Rattle.strategies.specs.declared.gap_best.Best.{Best};
-    ghost use Rattle.strategies.specs.Inside.Answers.{IsAnswerInNumbers, best_with, label_of, requests_of};
+    ghost use Rattle.strategies.specs.Inside.Answers.{IsAnswerInNumbers, best_with, label_of};
+    ghost use Rattle.strategies.specs.Inside.Answers.{requests_of};
     ghost use Rattle.strategies.specs.Inside.Answers.{same_label, same_requests};
 
     ghost Value = { Option Best };

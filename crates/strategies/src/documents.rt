@@ -31,7 +31,8 @@ impl BestMoves<'_> {
         ensures document { IfOk result
             (λ proof. IsDocumentOf self.now (plain_proof self.now proof)) }
         ensures form { IfOk result (IsDocument self.now) }
-        ensures rules { IfOk result (λ proof. BreaksNoRule configuration_positions self.now (plain_proof self.now proof)) }
+        ensures rules { IfOk result
+            (λ proof. BreaksNoRule configuration_positions self.now (plain_proof self.now proof)) }
         ensures shows { IfOk result (λ proof. Shows self.now
             (answer_rows self.now proof.labeller.items)
             (request_rows self.now proof.adversary.items) proof.claim) }
@@ -49,7 +50,8 @@ pub fn document_by<M: Moves>(alloc: Global, moves: &M, space: &Space) -> Result<
         IsDocumentOf (M.board moves.now) (plain_proof (M.board moves.now) proof)) }
     ensures form { IfOk result (IsDocument (M.board moves.now)) }
     ensures rules { IfOk result (λ proof.
-        BreaksNoRule configuration_positions (M.board moves.now) (plain_proof (M.board moves.now) proof)) }
+        BreaksNoRule configuration_positions (M.board moves.now)
+        (plain_proof (M.board moves.now) proof)) }
     ensures shows { IfOk result (λ proof. Shows (M.board moves.now)
         (answer_rows (M.board moves.now) proof.labeller.items)
         (request_rows (M.board moves.now) proof.adversary.items) proof.claim) }
@@ -80,7 +82,8 @@ impl RankMoves<'_> {
         requires adversary { AreAdversaryRows self.now value adversary.items }
         ensures document { IsDocumentOf self.now (plain_proof self.now result) }
         ensures form { IsDocument self.now result }
-        ensures rules { BreaksNoRule configuration_positions self.now (plain_proof self.now result) }
+        ensures rules { BreaksNoRule configuration_positions self.now
+            (plain_proof self.now result) }
         ensures shows { Shows self.now (answer_rows self.now result.labeller.items)
             (request_rows self.now result.adversary.items) result.claim }
     {
@@ -100,7 +103,8 @@ pub fn document(alloc: Global, board: &Board, values: &Values) -> Result<Proof, 
     requires same_board { values.now ≡ board.now }
     ensures document { IfOk result (λ proof. IsDocumentOf board.now (plain_proof board.now proof)) }
     ensures form { IfOk result (IsDocument board.now) }
-    ensures rules { IfOk result (λ proof. BreaksNoRule configuration_positions board.now (plain_proof board.now proof)) }
+    ensures rules { IfOk result
+        (λ proof. BreaksNoRule configuration_positions board.now (plain_proof board.now proof)) }
     ensures shows { IfOk result (λ proof. Shows board.now
         (answer_rows board.now proof.labeller.items)
         (request_rows board.now proof.adversary.items) proof.claim) }

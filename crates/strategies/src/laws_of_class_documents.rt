@@ -77,6 +77,7 @@ pub fn finite_values_are_less_than_the_number_of_gaps()
 pub fn claims_hold_where_class_documents_show_them()
     ensures { (board : PlainBoard) → (claim : ClaimData) → IsConfiguration board board.start
         → class_count board ≤ MAX_CLASS_ROWS → IsClaim claim → Holds board claim
-        ↔ ((proof : PlainProof) × IsClassProof board proof × BreaksNoRule (class_positions board.labels) board proof
+        ↔ ((proof : PlainProof) × IsClassProof board proof
+        × BreaksNoRule (class_positions board.labels) board proof
         × (proof.claim ≡ claim)) }
 {}

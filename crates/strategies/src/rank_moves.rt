@@ -102,8 +102,8 @@ impl<'a> RankMoves<'a> {
         GapWalk::at(self.space, &self.members, rank)
     }
 
-    /// The best answer to a request of `pebble` at the configuration of `walk`, if there is one. The
-    /// numbers of the gaps there are `gaps`.
+    /// The best answer to a request of `pebble` at the configuration of `walk`, if there is one.
+    /// The numbers of the gaps there are `gaps`.
     pub(crate) fn best_at(
         &self,
         walk: &GapWalk<'_>,

@@ -14,7 +14,8 @@ use Rattle.runs.specs.declared.fault.RunFault.{RunFault}
 use Rattle.strategies.specs.declared.unmade.Unmade.{Unmade}
 use Rattle.strategies.specs.declared.unmade.Unmade.TheVariants as unmade
 use Rattle.runs.specs.declared.fault.RunFault.TheVariants.{Board, TooLarge, Proof, Memory, Worker}
-use Rattle.runs.specs.declared.fault.RunFault.TheVariants.{DocumentTooLarge, TooManyChains, Read, Limit}
+use Rattle.runs.specs.declared.fault.RunFault.TheVariants.{DocumentTooLarge, TooManyChains, Read}
+use Rattle.runs.specs.declared.fault.RunFault.TheVariants.{Limit}
 
 -- of a text that wasn't read to its end
 abbrev pub fault_of_reading : ReadFault → RunFault

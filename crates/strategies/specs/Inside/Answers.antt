@@ -1,4 +1,5 @@
--- A best answer as two numbers: its label, and how many requests can be answered if it is the first answer.
+-- A best answer as two numbers: its label, and how many requests can be answered if it is the first
+-- answer.
 use Rattle.std.specs.Prelude.{◌≡◌, ℕ, zero, suc, ◌≤◌, nat_lt, if◌then◌else◌, Option, Some, None}
 use Rattle.std.proofs.Common.{◌<◌, inl, inr, refl, sym, ap, ◌∙◌, lt-ltb, le-ltb, arith}
 use Rattle.std.proofs.lemmas.Bool.{cases_lt}
@@ -43,16 +44,20 @@ pub record IsAnswerInNumbers (label requests : ℕ) : Type 0 where
 -- ---- the two numbers are those of the best answer
 
 pub low-after : (number : ℕ) → suc number < 4294967295 → value_after number ≡ Finite number
-low-after number low = ap (λ b. if b then Finite number else Forever) (lt-ltb (suc number) 4294967295 low)
+low-after number low =
+    ap (λ b. if b then Finite number else Forever) (lt-ltb (suc number) 4294967295 low)
 
 pub high-after : (number : ℕ) → 4294967295 ≤ suc number → value_after number ≡ Forever
-high-after number high = ap (λ b. if b then Finite number else Forever) (le-ltb (suc number) 4294967295 high)
+high-after number high =
+    ap (λ b. if b then Finite number else Forever) (le-ltb (suc number) 4294967295 high)
 
-pub same_label : (label requests : ℕ) → IsAnswerInNumbers label requests → label_of (best_with label requests) ≡ label
+pub same_label : (label requests : ℕ) → IsAnswerInNumbers label requests
+    → label_of (best_with label requests) ≡ label
 same_label label zero is = sym (is.no_label refl)
 same_label label (suc number) is = refl
 
-pub same_requests : (label requests : ℕ) → IsAnswerInNumbers label requests → requests_of (best_with label requests) ≡ requests
+pub same_requests : (label requests : ℕ) → IsAnswerInNumbers label requests
+    → requests_of (best_with label requests) ≡ requests
 same_requests label zero is = refl
 same_requests label (suc number) is = elim (cases_lt (suc number) 4294967295) [
   | inl low ↦ ap requests_before (low-after number low)

@@ -1,5 +1,6 @@
 -- Walks over configurations by ranks: those that differ in the last pebble's place alone.
-use Rattle.std.specs.Prelude.{◌≡◌, ℕ, ◌+◌, ◌-◌, ◌*◌, ◌<◌, ◌≤◌, List, length, Option, None, slice_index, take}
+use Rattle.std.specs.Prelude.{◌≡◌, ℕ, ◌+◌, ◌-◌, ◌*◌, ◌<◌, ◌≤◌, List, length, Option, None}
+use Rattle.std.specs.Prelude.{slice_index, take}
 use Rattle.std.specs.Prelude.{slice_index_or}
 use Rattle.std.specs.List.{remove}
 use Rattle.board_text.specs.PlainBoard.{PlainBoard, IsConfiguration, places}
@@ -17,8 +18,8 @@ use Rattle.strategies.specs.Inside.MovesAt.{HeldPosition}
 abbrev pub others_held : PlainBoard → List ℕ → List ℕ
 others_held board held = take (board.pebbles - 1) held
 
--- for each number of first pebbles below a bound a row: for each of these pebbles the number of the class of their
--- places without its own, and after these the number of the class of all
+-- for each number of first pebbles below a bound a row: for each of these pebbles the number of the
+-- class of their places without its own, and after these the number of the class of all
 pub record AreNumberRows (held : List ℕ) (bound : ℕ) (rests : List ℕ) : Type 0 where
   pub room : length rests ≡ 36
   pub rows : (size : ℕ) → size < bound → (pebble : ℕ) → pebble ≤ size

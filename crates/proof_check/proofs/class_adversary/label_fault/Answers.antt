@@ -27,7 +27,8 @@ returns c =
     let row : RequestRow = class_request_row board c.args.row.now in
     let pebble = c.args.pebble in
     let label = c.args.label in
-    let result = moved_result (least_by board.labels group) board.pebbles pebble label c.args.row.now.at c.requires.is_pebble in
+    let result =
+    moved_result (least_by board.labels group) board.pebbles pebble label c.args.row.now.at c.requires.is_pebble in
     let some : 0 < row.left = omega (arith, c.if-row-eq0.false) in
     let one : suc (row.left - 1) ≡ row.left = omega (arith, some) in
     let asked : least_by board.labels group (moved row.at pebble label)

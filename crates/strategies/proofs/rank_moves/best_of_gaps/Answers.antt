@@ -49,7 +49,8 @@ loop-index-preserved g c =
     (best-more board (some g at) (c.places.result - 1) c.loop-index.index c.loop-index.best.items c.best.result (low g
     at)
     (inside g at) c.loop-index.invariant
-    (rw (c.as_slice.ensures.value, c.with_greatest-held.ensures, listed g at, ← c.requires.same_board) at c.best.ensures))
+    (rw
+    (c.as_slice.ensures.value, c.with_greatest-held.ensures, listed g at, ← c.requires.same_board) at c.best.ensures))
 
 pub of-requires : goal.of-requires
 of-requires g c =

@@ -15,7 +15,8 @@ loop-label-init c =
     let at = c.args.self.now.at in
     let ask = c.args.self.now.ask in
     let IsLegal : ℕ → Type 0 = Legal v.board (configuration_at v.board at) ask in
-    let Meets : ℕ → Type 0 = MeetsAnswer configuration_positions v.board v.proof.adversary (request_row v.board c.args.self.now) in
+    let Meets : ℕ → Type 0 =
+    MeetsAnswer configuration_positions v.board v.proof.adversary (request_row v.board c.args.self.now) in
     none_met IsLegal Meets c.answers.result c.walk-answers.result c.walk-answers.ensures
     (rw c.moves-moves.ensures at c.answers.ensures.bits)
 
@@ -25,7 +26,8 @@ label_fault-requires-clause-legal c =
     let at = c.args.self.now.at in
     let ask = c.args.self.now.ask in
     let IsLegal : ℕ → Type 0 = Legal v.board (configuration_at v.board at) ask in
-    let Meets : ℕ → Type 0 = MeetsAnswer configuration_positions v.board v.proof.adversary (request_row v.board c.args.self.now) in
+    let Meets : ℕ → Type 0 =
+    MeetsAnswer configuration_positions v.board v.proof.adversary (request_row v.board c.args.self.now) in
     let few : (label : ℕ) → IsLegal label → label < MAX_LABELS =
     legal_few v.board c.moves-moves.result at ask c.moves-moves.ensures c.answers.ensures.few in
     let skipped : (label : ℕ) → ¬ IsLegal label → Meets label = λ label not legal. absurd (not legal) in
@@ -38,7 +40,8 @@ returns-in-Some-label_fault-clause-fault c =
     let at = c.args.self.now.at in
     let ask = c.args.self.now.ask in
     let IsLegal : ℕ → Type 0 = Legal v.board (configuration_at v.board at) ask in
-    let Meets : ℕ → Type 0 = MeetsAnswer configuration_positions v.board v.proof.adversary (request_row v.board c.args.self.now) in
+    let Meets : ℕ → Type 0 =
+    MeetsAnswer configuration_positions v.board v.proof.adversary (request_row v.board c.args.self.now) in
     let few : (label : ℕ) → IsLegal label → label < MAX_LABELS =
     legal_few v.board c.moves-moves.result at ask c.moves-moves.ensures c.answers.ensures.few in
     let skipped : (label : ℕ) → ¬ IsLegal label → Meets label = λ label not legal. absurd (not legal) in
@@ -57,7 +60,8 @@ loop-label-preserved c =
     let at = c.args.self.now.at in
     let ask = c.args.self.now.ask in
     let IsLegal : ℕ → Type 0 = Legal v.board (configuration_at v.board at) ask in
-    let Meets : ℕ → Type 0 = MeetsAnswer configuration_positions v.board v.proof.adversary (request_row v.board c.args.self.now) in
+    let Meets : ℕ → Type 0 =
+    MeetsAnswer configuration_positions v.board v.proof.adversary (request_row v.board c.args.self.now) in
     let few : (label : ℕ) → IsLegal label → label < MAX_LABELS =
     legal_few v.board c.moves-moves.result at ask c.moves-moves.ensures c.answers.ensures.few in
     let skipped : (label : ℕ) → ¬ IsLegal label → Meets label = λ label not legal. absurd (not legal) in
@@ -71,7 +75,8 @@ returns-clause-fault c =
     let at = c.args.self.now.at in
     let ask = c.args.self.now.ask in
     let IsLegal : ℕ → Type 0 = Legal v.board (configuration_at v.board at) ask in
-    let Meets : ℕ → Type 0 = MeetsAnswer configuration_positions v.board v.proof.adversary (request_row v.board c.args.self.now) in
+    let Meets : ℕ → Type 0 =
+    MeetsAnswer configuration_positions v.board v.proof.adversary (request_row v.board c.args.self.now) in
     let few : (label : ℕ) → IsLegal label → label < MAX_LABELS =
     legal_few v.board c.moves-moves.result at ask c.moves-moves.ensures c.answers.ensures.few in
     let skipped : (label : ℕ) → ¬ IsLegal label → Meets label = λ label not legal. absurd (not legal) in

@@ -11,7 +11,8 @@ use Rattle.proof_check.proofs.adversary.AdversaryRowCheckedRowCheckerCheckFault.
 abbrev pub invariant-loop-label : goal.invariant-loop-label
 invariant-loop-label l =
     AreMetBefore (Legal l.checker.board (configuration_at l.checker.board l.self.at) l.self.ask)
-    (MeetsAnswer configuration_positions l.checker.board l.checker.proof.adversary (request_row l.checker.board l.self)) l.answers
+    (MeetsAnswer configuration_positions l.checker.board l.checker.proof.adversary
+    (request_row l.checker.board l.self)) l.answers
 
 abbrev pub decreases-loop-label : goal.decreases-loop-label
 decreases-loop-label l = MAX_LABELS - l.answers.from

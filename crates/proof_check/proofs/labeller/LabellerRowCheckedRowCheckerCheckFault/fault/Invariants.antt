@@ -6,4 +6,5 @@ use Rattle.proof_check.proofs.labeller.LabellerRowCheckedRowCheckerCheckFault.fa
 
 abbrev pub invariant-loop-pebble : goal.invariant-loop-pebble
 invariant-loop-pebble l = (earlier : ℕ) → earlier < l.pebble
-    → MeetsRequest configuration_positions l.checker.board l.checker.proof.labeller (answer_row l.checker.board l.self) earlier
+    → MeetsRequest configuration_positions l.checker.board l.checker.proof.labeller
+    (answer_row l.checker.board l.self) earlier

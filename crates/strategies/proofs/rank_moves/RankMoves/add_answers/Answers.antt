@@ -30,13 +30,16 @@ loop-pebble-preserved c =
           (let below = rw w.space.ensures.value at w.with.ensures.below in
           omega (arith, below, is.size, c.requires.size)) in
           rw w.reached-is (reached_more _ _ _ step pebble is
-          (answer_added b rank pebble _ w.in-Some.best w.with.result _ (subst (IsBestFor b (configuration_at b rank) pebble) (sym w.in-Some.ensures) found)
+          (answer_added b rank pebble _ w.in-Some.best w.with.result _
+          (subst (IsBestFor b (configuration_at b rank) pebble) (sym w.in-Some.ensures) found)
           (search rules) is_pebble (rw w.space.ensures.value at w.with.ensures.rank) low w.add.ensures.size
           w.add.ensures.reached))
       | in-Some+else-lt w ↦ rw w.reached-is (reached_more _ _ _ step pebble is
-          (worthless_not_added b rank pebble _ w.in-Some.best (subst (IsBestFor b (configuration_at b rank) pebble) (sym w.in-Some.ensures) found) (search rules)))
+          (worthless_not_added b rank pebble _ w.in-Some.best
+          (subst (IsBestFor b (configuration_at b rank) pebble) (sym w.in-Some.ensures) found) (search rules)))
       | in_default w ↦ rw w.reached-is (reached_more _ _ _ step pebble is
-          (no_answer_added b rank pebble _ (subst (IsBestFor b (configuration_at b rank) pebble) (sym w.in_default.ensures) found)))
+          (no_answer_added b rank pebble _
+          (subst (IsBestFor b (configuration_at b rank) pebble) (sym w.in_default.ensures) found)))
     ]
 
 pub returns : goal.returns
