@@ -1,5 +1,5 @@
 -- The pairs that the bit rows of a board stand for: four words of 64 bits for each label, with a
--- bit for each label that beats it.
+-- bit for each label that dominates it.
 use Rattle.std.specs.Prelude.{ℕ, ◌/◌, ◌%◌, ◌==◌, List, Bool, slice_index}
 use Rattle.std.specs.Int.{bit_at}
 

@@ -6,8 +6,8 @@ use Rattle.std.specs.List.{list_any}
 use Rattle.board_text.specs.Ranges.{InRange, AreNumbers}
 use Rattle.board_text.specs.declared.board.TheConstants.{MAX_LABELS, MAX_PEBBLES}
 
--- a board as plain data: numbers of labels and pebbles, the pairs (x, y) with x beating y, and a
--- place for each pebble: its label, or the number of labels if it holds none
+-- a board as plain data: numbers of labels and pebbles, the pairs (x, y) of which x dominates y,
+-- and a place for each pebble: its label, or the number of labels if it holds none
 pub record PlainBoard : Type 0 where
   pub labels : ℕ
   pub pebbles : ℕ
@@ -65,7 +65,7 @@ pub record ArePairs (labels : ℕ) (pairs : List (ℕ × ℕ)) : Type 0 where
   pub ascending : AllPairs Precedes pairs
   pub one_way : (x y : ℕ) → Contains pairs (x, y) → Contains pairs (y, x) → ⊥
 
--- no label beats itself, and no two labels beat each other
+-- no label dominates itself, and no two labels dominate each other
 abbrev pub IsAntisymmetric : PlainBoard → Type 0
 IsAntisymmetric board = (x y : ℕ) → Dominates board x y → Dominates board y x → ⊥
 

@@ -20,8 +20,8 @@ abbrev pub IsCountOfValues : PlainBoard → ℕ → Type 0
 IsCountOfValues board number =
     (value : ℕ) → value < number ↔ ((other : ℕ) × (value ≤ other) × Occurs board other)
 
--- so many configurations have each finite value of the list, which ends with the greatest that
--- occurs, and so many Forever
+-- the list has the number of configurations of each finite value, and ends with the greatest that
+-- occurs; `forever` of them have Forever
 pub record AreValueCounts (board : PlainBoard) (finite : List ℕ) (forever : ℕ) : Type 0 where
   pub each : (value : ℕ) → value < length finite
       → HasValueCount board (Finite value) (slice_index finite value)

@@ -149,7 +149,8 @@ impl Graph {
         self.tables.places
     }
 
-    /// The member of `gap` with `place` for its pebble.
+    /// The member of `gap` with `place` for its pebble. No table has it: that would be a word for
+    /// each place of each gap, and most are never read.
     pub fn member(&self, gap: u32, place: u32) -> u32
         requires gap { gap < (graph_of self.now).gaps }
         requires place { place < (graph_of self.now).places }

@@ -15,7 +15,8 @@ pub struct LabelWalk {
     words: [u64; ROW_WORDS],
     /// The number of the word that the walk is at.
     number: usize,
-    /// The remaining bits of that word, which replace those in `words`.
+    /// The remaining bits of that word, which replace those in `words`, where a word that changes
+    /// would not stay in a register.
     word: u64,
     /// 0 only if all words after the first are 0.
     later: u64,

@@ -22,6 +22,7 @@ use std::snapshot::Snapshot;
 pub struct TupleAnswers {
     /// The board, for contracts alone: it takes no memory.
     board: Snapshot<Board>,
+    /// For 64 labels each, so a tuple takes 8 bytes on a board of at most 64 labels, and not 32.
     columns: [Column; ROW_WORDS],
 }
 

@@ -10,7 +10,8 @@ use crate::end::RoundEnd;
 use crate::stage::Stage;
 use index_lists::ListStore;
 
-/// A way to find the configurations of the next value.
+/// A way to find the configurations of the next value: by strikes, or by the end of a round of
+/// others. One function has the proof for both that a value is closed.
 pub(crate) trait NextValue {
     /// The condition on a solver that isn't done for this way to serve it.
     ghost serves: { Self → Solving → Type 0 };

@@ -7,7 +7,7 @@ use Rattle.board_text.specs.Ranges.{InRange}
 use Rattle.board_text.specs.PlainBoard.{AreLabels}
 use Rattle.board_text.specs.declared.board.TheConstants.{MAX_LABELS}
 
--- whether the rows say that x beats y: the bit x of the row of y is set
+-- whether the rows say that x dominates y: the bit x of the row of y is set
 abbrev pub beats_in : List ℕ → ℕ → ℕ → Bool
 beats_in rows x y = bit_at (slice_index rows (4 * y + x / 64)) (x % 64) == 1
 

@@ -35,7 +35,7 @@ counted board words weight wanted bound =
     sum_below bound
     (λ number. if nat_eq (word_at board words number) wanted then weight number else 0)
 
--- so many configurations have a class from a number up to another one whose word is the wanted one
+-- `count` configurations have a class from `from` up to `to` whose word is the wanted one
 pub record IsCountBetween (board : PlainBoard) (words : List ℕ) (wanted from to count : ℕ)
     : Type 0 where
   pub is : (weight : ℕ → ℕ) → AreWeightsAt board weight
@@ -71,11 +71,11 @@ pub record IsTrimmed (old new : List ℕ) : Type 0 where
 abbrev pub class_word : PlainBoard → List ℕ → List ℕ → ℕ → ℕ
 class_word board words gap place = least_word words (member_with gap place) board.pebbles
 
--- the weight of the class with a place, of so many places
+-- the weight of the class with a place, of `size` places
 abbrev pub weight_with : FamilyWeights → ℕ → ℕ → ℕ
 weight_with weights size place = if nat_eq (place + 1) size then weights.last else weights.each
 
--- so many at one word alone
+-- `more` at one word alone
 abbrev pub once : ℕ → ℕ → ℕ → ℕ
 once word more wanted = if nat_eq wanted word then more else 0
 
