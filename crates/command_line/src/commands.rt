@@ -225,7 +225,7 @@ fn chains<'a>(alloc: Global) -> Result<Command<'a>, AllocError>
     ensures local { IfOk result (λ c. (out-Command c).has_globals ≡ false) }
 {
     let command = Command::new(alloc, "chains")
-        .about("Reads a board, and writes how many chains of labels are dominated")
+        .about("Reads a board, and counts the chains of labels of each length")
         .after_help(ABOUT_CHAINS)
         .arg(workers(alloc))?
         .arg(most(alloc))?;

@@ -15,7 +15,7 @@ use Rattle.domains.proofs.KeptProperties.{kept_lasts}
 use Rattle.domains.proofs.ProductBoards.{between, within}
 use Rattle.domains.proofs.ProductData.{product_board}
 
--- as many pebbles are carried as there are labels of which each beats all others: each keeps its own
+-- as many pebbles are carried as there are labels of which each dominates all others: each keeps its own
 each_its_own : (board : PlainBoard) (count : ℕ) → count ≤ board.labels
     → ((x y : ℕ) → x < count → y < count → x ≢ y → Dominates board x y) → Carries board count
 each_its_own board count some beats = (

@@ -1,6 +1,6 @@
 -- A product lasts as long as the shorter factor, with as many pebbles as both together, less one.
 -- Each pebble of the product has a seat, the outer pebble on whose label its copy is. One outer pebble is the head:
--- it beats all other seats. Each pebble of the product whose seat is the head has a part, the inner pebble on whose
+-- it dominates all other seats. Each pebble of the product whose seat is the head has a part, the inner pebble on whose
 -- label it is within the copy.
 use Rattle.std.proofs.Common.{◌≡◌, ◌≢◌, ℕ, zero, suc, ◌+◌, ◌-◌, ◌*◌, ◌/◌, ◌%◌, ◌==◌, ◌<◌, ◌≤◌, ◌⊎◌}
 use Rattle.std.proofs.Common.{List, length, replicate, get_or, set, sym, refl, ◌∙◌, ap, subst, arith, inl, inr, cond}

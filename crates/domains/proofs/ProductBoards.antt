@@ -36,7 +36,7 @@ kept test (y ∷ xs) x has passes =
       | inr later ↦ kept_more (test y) y x (filter test xs) (kept test xs x later passes)
     ]
 
--- some label beats all labels of a list that isn't longer than the count
+-- some label dominates all labels of a list that isn't longer than the count
 dominated_few : (board : PlainBoard) (count : ℕ) (labels : List ℕ) → AreDominated board count → 0 < board.labels
     → length labels ≤ count
     → All (λ label. label < board.labels) labels → (label : ℕ) × (label < board.labels)

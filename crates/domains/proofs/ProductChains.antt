@@ -159,7 +159,7 @@ module _ (outer inner board : PlainBoard) (product : IsProduct outer inner board
     in_part = mod-mul-add place inner.labels piece piece_low;
   }
 
-  -- a label whose copy beats all copies of a list
+  -- a label whose copy dominates all copies of a list
   over_all : (place piece : ℕ) (chain : List ℕ) → Named place piece → AreChained board chain
       → ((label : ℕ) → Contains chain label → Dominates outer place (copy label))
       → (label : ℕ) × (label < board.labels) × All (λ other. Dominates board label other) chain

@@ -10,7 +10,7 @@ IsPointAhead count steps x y =
     ⊎ ((x < count) × (y < count) × Contains steps ((x + count - y) % count))
 
 -- Each point has a label on either of two sides: twice the point, and one more. Of two labels on
--- one side that one beats the other whose point is ahead, and on different sides the other way
+-- one side that one dominates the other whose point is ahead, and on different sides the other way
 -- round.
 pub record IsDoubleCover (count : ℕ) (steps : List ℕ) (board : PlainBoard) : Type 0 where
   pub labels_are : board.labels ≡ 2 * (count + 1)

@@ -43,13 +43,13 @@ pub record IsAnswerInNumbers (label requests : ℕ) : Type 0 where
 
 -- ---- the two numbers are those of the best answer
 
-pub low-after : (number : ℕ) → suc number < 4294967295 → value_after number ≡ Finite number
+pub low-after : (number : ℕ) → suc number < ENDLESS → value_after number ≡ Finite number
 low-after number low =
-    ap (λ b. if b then Finite number else Forever) (lt-ltb (suc number) 4294967295 low)
+    ap (λ b. if b then Finite number else Forever) (lt-ltb (suc number) ENDLESS low)
 
-pub high-after : (number : ℕ) → 4294967295 ≤ suc number → value_after number ≡ Forever
+pub high-after : (number : ℕ) → ENDLESS ≤ suc number → value_after number ≡ Forever
 high-after number high =
-    ap (λ b. if b then Finite number else Forever) (le-ltb (suc number) 4294967295 high)
+    ap (λ b. if b then Finite number else Forever) (le-ltb (suc number) ENDLESS high)
 
 pub same_label : (label requests : ℕ) → IsAnswerInNumbers label requests
     → label_of (best_with label requests) ≡ label
@@ -59,10 +59,10 @@ same_label label (suc number) is = refl
 pub same_requests : (label requests : ℕ) → IsAnswerInNumbers label requests
     → requests_of (best_with label requests) ≡ requests
 same_requests label zero is = refl
-same_requests label (suc number) is = elim (cases_lt (suc number) 4294967295) [
+same_requests label (suc number) is = elim (cases_lt (suc number) ENDLESS) [
   | inl low ↦ ap requests_before (low-after number low)
   | inr high ↦
-      let most : suc number ≤ 4294967295 = is.few in
-      let same : 4294967295 ≡ suc number = omega arith in
+      let most : suc number ≤ ENDLESS = is.few in
+      let same : ENDLESS ≡ suc number = omega arith in
       ap requests_before (high-after number high) ∙ same
 ]
