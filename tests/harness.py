@@ -13,7 +13,8 @@ PROGRAM = os.path.join(CRATES, 'pebbles', 'out', 'pebbles')
 BUILD = '(cd crates/pebbles && rt run < stdin)'
 BUILT = 'accepted least 2\n'
 # the crates of tests whose growths of memory are refused in turn, lowest first, and all crates that serve tests alone
-TEST_CRATES = ('board_tests', 'class_tests', 'solving_tests', 'round_tests', 'document_tests', 'play_tests', 'command_tests', 'acceptance')
+TEST_CRATES = ('board_tests', 'chain_tests', 'class_tests', 'solving_tests', 'round_tests', 'document_tests', 'play_tests', 'command_tests',
+               'acceptance')
 FOR_TESTS = ('fakes', 'solved_boards', *TEST_CRATES)
 
 

@@ -114,8 +114,8 @@ has_topic words = false
 abbrev pub version_text : List ℕ
 version_text = with_line_feed (codes "pebbles 1.1.0")
     ++ with_line_feed
-    (codes "reads `board 1`, `board 2`, `proof 1` and `proof 2`, writes these, `report 1` and "
-    ++ codes "`chains 1`")
+    (codes "reads `board 1`, `board 2`, `proof 1`, `proof 2` and `proof 3`, writes the first four, "
+    ++ codes "`report 1` and `chains 1`")
 
 -- the name stands in the text
 abbrev pub Names : List ℕ → Text → Type 0

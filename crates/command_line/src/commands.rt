@@ -17,8 +17,8 @@ use std::alloc::{AllocError, Global};
 /// The program's version, and the first lines of the texts that it reads and writes. `clap` takes
 /// the option from it, and `words` shows it.
 pub(crate) const VERSION: &str =
-    "pebbles 1.1.0\nreads `board 1`, `board 2`, `proof 1` and `proof 2`, \
-    writes these, `report 1` and `chains 1`\n";
+    "pebbles 1.1.0\nreads `board 1`, `board 2`, `proof 1`, `proof 2` and `proof 3`, \
+    writes the first four, `report 1` and `chains 1`\n";
 
 /// The name of the program.
 const NAME: &str = "pebbles";
@@ -99,7 +99,8 @@ const ABOUT_CHAINS: &str =
 const ABOUT_CHECKING: &str =
     "Writes one line: `accepted` and the claim, or `refused` and the first rule of\n\
     checking that the document breaks, with the exit status 3. The rows of a\n\
-    document are for configurations, or if its first line is `proof 2` for classes;\n\
+    document are for configurations, or if its first line is `proof 2` for classes,\n\
+    or `proof 3` for all that the symmetries that it names take to one another;\n\
     then the board may be of any size.\n\n\
     Common faults:\n  \
     board fault line 1 Version  BOARD is no board; are the two paths exchanged?\n  \

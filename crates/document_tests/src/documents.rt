@@ -7,7 +7,9 @@ ghost use Rattle.proof_text.specs.Documents.{IsDocument};
 use board_text::{Board, Memory};
 use positions::{MAX_CONFIGURATIONS, Space};
 use proof_check::{CheckFault, Shown, check};
-use proof_text::{Proof, ProofFault, ProofKind, parse, print};
+use proof_text::{
+    Proof, ProofFault, ProofKind, SymmetryProof, parse, parse_symmetric, print, print_symmetric,
+};
 use std::alloc::Global;
 use std::thread::Threads;
 
@@ -32,6 +34,35 @@ pub fn print_document(alloc: Global, space: &Space, proof: &Proof) -> Result<Str
 {
     match print(alloc, space, proof) {
         Err(Memory) => print(alloc, space, proof),
+        answer => answer,
+    }
+}
+
+/// The answer of `parse_symmetric`, which is asked once more if it was refused memory.
+pub fn read_symmetric_document(
+    alloc: Global,
+    board: &Board,
+    bytes: &[u8],
+) -> Result<SymmetryProof, ProofFault> {
+    match parse_symmetric(alloc, board, bytes) {
+        Err(
+            ProofFault {
+                line: 0,
+                kind: ProofKind::Memory,
+            },
+        ) => parse_symmetric(alloc, board, bytes),
+        answer => answer,
+    }
+}
+
+/// The answer of `print_symmetric`, which is asked once more if it was refused memory.
+pub fn print_symmetric_document(
+    alloc: Global,
+    board: &Board,
+    proof: &SymmetryProof,
+) -> Result<String, Memory> {
+    match print_symmetric(alloc, board, proof) {
+        Err(Memory) => print_symmetric(alloc, board, proof),
         answer => answer,
     }
 }

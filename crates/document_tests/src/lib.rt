@@ -19,3 +19,5 @@ mod long_documents;
 mod moves;
 #[cfg(test)]
 mod strategy_documents;
+#[cfg(test)]
+mod symmetric_texts;

@@ -3,7 +3,9 @@
 use crate::hints::board_hint;
 use crate::inputs::{Inputs, STANDARD_INPUT};
 use crate::parts::{Part, Parts, around, joined, two_words, words};
-use crate::proof_hints::{class_refusal_hint, proof_hint, refusal_hint};
+use crate::proof_hints::{
+    class_refusal_hint, proof_hint, refusal_hint, symmetry_refusal_hint,
+};
 use crate::sizes::Sizes;
 use crate::trouble::Trouble;
 use crate::usage::usage_hint;
@@ -84,6 +86,9 @@ impl<'a> Note<'a> {
             Ok(Verdict::Accepted(_)) => Note::empty(),
             Ok(Verdict::Refused(fault)) => refused(refusal_hint(fault), inputs),
             Ok(Verdict::RefusedByClasses(fault)) => refused(class_refusal_hint(fault), inputs),
+            Ok(Verdict::RefusedUpToSymmetries(fault)) => {
+                refused(symmetry_refusal_hint(fault), inputs)
+            }
             Err(fault) => Note::of(fault, inputs),
         }
     }
@@ -212,8 +217,8 @@ fn without_rows_for_classes(sizes: Sizes) -> Parts {
     around(
         "",
         sizes.configurations(),
-        " configurations, and the most is 1048576; only a document by classes, whose first line is \
-        `proof 2`, is checked for a larger board",
+        " configurations, and the most is 1048576; only a document by classes or up to symmetries, \
+        whose first line is `proof 2` or `proof 3`, is checked for a larger board",
     )
 }
 

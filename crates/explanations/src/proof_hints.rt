@@ -9,9 +9,9 @@ use crate::lines::{flaw, spaces_before};
 use crate::parts::{Parts, mistake, number_mistake, words};
 use crate::sizes::Sizes;
 use positions::MAX_CONFIGURATIONS;
-use proof_check::{CheckFault, ClassFault, Side};
-use proof_text::{MAX_CLASS_ROWS, MOST_TURNS, ProofFault, ProofKind};
-use runs::board_length;
+use proof_check::{CheckFault, ClassFault, MAX_ELEMENTS, MapFault, Side, SymmetryFault};
+use proof_text::{MAX_CLASS_ROWS, MAX_MAPS, MOST_TURNS, ProofFault, ProofKind};
+use runs::{DocumentVersion, board_length, version_of};
 
 // The words say these limits.
 const _: () = prove!(MOST_TURNS == 1_000_000_000);
@@ -19,6 +19,10 @@ const _: () = prove!(MOST_TURNS == 1_000_000_000);
 const _: () = prove!(MAX_CONFIGURATIONS == 1_048_576);
 
 const _: () = prove!(MAX_CLASS_ROWS == 16_777_216);
+
+const _: () = prove!(MAX_MAPS == 64);
+
+const _: () = prove!(MAX_ELEMENTS == 131_072);
 
 /// The form of the second line.
 const CLAIM: &str =
@@ -28,10 +32,17 @@ const CLAIM: &str =
 const SECTION: &str =
     "the line must be `labeller n` or `adversary n`, as the claim asks for, with n at most 1048576";
 
-/// The same, of a document by classes.
+/// The same, of a document by classes or up to symmetries.
 const CLASS_SECTION: &str =
     "the line must be `labeller n` or `adversary n`, as the claim asks for, with n at most \
     16777216";
+
+/// The form of the line before the maps.
+const SYMMETRIES: &str = "line 3 must be `symmetries n`, with n at most 64";
+
+/// The form of a map.
+const MAP: &str =
+    "the line must be `map` and, for each label of the board in turn, the label that it goes to";
 
 /// The sections of each claim.
 const SECTIONS: &str =
@@ -43,7 +54,8 @@ const NOT_DUE: &str = "the claim asks for no such section here";
 
 /// The form of the first line.
 const VERSION: &str =
-    "line 1 must be `proof 1`, or `proof 2` for rows by classes, and nothing may come before it";
+    "line 1 must be `proof 1`, or `proof 2` for rows by classes, or `proof 3` for rows up to \
+    symmetries, and nothing may come before it";
 
 /// The form of a row.
 const ROW: &str =
@@ -60,7 +72,7 @@ pub(crate) fn proof_hint(fault: ProofFault, inputs: &Inputs<'_, '_>) -> Parts {
         ProofKind::Section => section_hint(proof, fault.line, line),
         ProofKind::Row => row_hint(inputs, fault.line, line),
         ProofKind::Label => label_hint(inputs),
-        ProofKind::Pebble if is_by_classes(proof) => {
+        ProofKind::Pebble if has_arranged_rows(proof) => {
             words("the place after `ask` must be one of those of the row, which some pebble holds")
         }
         ProofKind::Pebble => pebble_hint(inputs),
@@ -68,7 +80,7 @@ pub(crate) fn proof_hint(fault: ProofFault, inputs: &Inputs<'_, '_>) -> Parts {
             "a row has `*` in a `forever` document, and in any other a number: from 1 for the \
             labeller, from 0 for the adversary, to 1000000000",
         ),
-        ProofKind::Order if is_by_classes(proof) => words(
+        ProofKind::Order if has_arranged_rows(proof) => words(
             "the places of a row must be arranged, `-` before labels and labels ascending, and the \
             rows of a section must ascend by them, `-` first, each class once",
         ),
@@ -82,9 +94,14 @@ pub(crate) fn proof_hint(fault: ProofFault, inputs: &Inputs<'_, '_>) -> Parts {
     }
 }
 
-/// Whether the document is by classes.
-fn is_by_classes(proof: &Origin<'_, '_>) -> bool {
-    proof.text.starts_with("proof 2\n".as_bytes())
+/// Whether the document's rows have arranged places.
+fn has_arranged_rows(proof: &Origin<'_, '_>) -> bool {
+    !matches!(version_of(proof.text), DocumentVersion::ByConfigurations)
+}
+
+/// Whether the document has maps.
+fn has_maps(proof: &Origin<'_, '_>) -> bool {
+    matches!(version_of(proof.text), DocumentVersion::UpToSymmetries)
 }
 
 /// The words for a first line that is none of a document's.
@@ -128,7 +145,14 @@ fn claim_hint(line: Option<&[u8]>) -> Parts {
 
 /// The words for a line that should begin a section.
 fn section_hint(proof: &Origin<'_, '_>, number: u32, line: Option<&[u8]>) -> Parts {
-    if proof.line_begins(number, "at ") {
+    if has_maps(proof) && number == 3 {
+        number_hint(line, "symmetries", u64::from(MAX_MAPS), SYMMETRIES)
+    } else if proof.line_begins(number, "map ") {
+        mistake(
+            "there are more maps than `symmetries` says",
+            section_form(proof).1,
+        )
+    } else if proof.line_begins(number, "at ") {
         let found = if number == 3 {
             "a row comes before the first line of its section"
         } else {
@@ -157,7 +181,7 @@ fn section_number(proof: &Origin<'_, '_>, line: Option<&[u8]>, word: &'static st
 
 /// The most rows of a section of the document, and the form of its first line.
 fn section_form(proof: &Origin<'_, '_>) -> (u32, &'static str) {
-    if is_by_classes(proof) {
+    if has_arranged_rows(proof) {
         (MAX_CLASS_ROWS, CLASS_SECTION)
     } else {
         (MAX_CONFIGURATIONS, SECTION)
@@ -172,6 +196,9 @@ fn row_hint(inputs: &Inputs<'_, '_>, number: u32, line: Option<&[u8]>) -> Parts 
         || proof.line_begins(number, "end");
     if is_next {
         return mistake("the section has fewer rows than its first line says", ROW);
+    }
+    if has_maps(proof) && proof.line_begins(number, "map") {
+        return form_hint(line, MAP);
     }
     match (line, Sizes::of(inputs.board.text)) {
         (Some(line), Some(sizes)) if flaw(line).is_none() => places_hint(line, sizes),
@@ -290,5 +317,35 @@ pub(crate) fn class_refusal_hint(fault: ClassFault) -> &'static str {
         ClassFault::TooLarge { .. } => {
             "this label is legal, and leads to a row whose number is not below that of this row"
         }
+    }
+}
+
+/// The words for a rule that a document up to symmetries breaks.
+pub(crate) fn symmetry_refusal_hint(fault: SymmetryFault) -> &'static str {
+    match fault {
+        SymmetryFault::Map {
+            fault: MapFault::Missing { .. },
+            ..
+        } => {
+            "no label goes to this one by the map of this number, counted from 1, so another one \
+            is an image twice"
+        }
+        SymmetryFault::Map {
+            fault: MapFault::Pair { .. },
+            ..
+        } => {
+            "the map of this number, counted from 1, doesn't keep domination: the first of these \
+            labels dominates the second, and the image of the first doesn't that of the second, or \
+            the other way round"
+        }
+        SymmetryFault::TooMany => {
+            "one after the other the maps make more than 131072 symmetries; name fewer maps"
+        }
+        SymmetryFault::NotLeast { .. } => {
+            "a symmetry takes these places to others that come before them, `-` first and labels as \
+            numbers; the row must be at the least of all"
+        }
+        SymmetryFault::Row(fault) => class_refusal_hint(fault),
+        SymmetryFault::Memory => "",
     }
 }

@@ -18,11 +18,11 @@ use Rattle.proof_text.specs.declared.class_proof.ClassProof.{ClassProof}
 use Rattle.proof_text.specs.declared.class_proof.LabellerClassRow.{LabellerClassRow}
 use Rattle.proof_check.specs.Refusals.{IsWrongBound}
 use Rattle.proof_check.specs.FirstFaults.{HasRow, bound_of}
-use Rattle.symmetries.specs.Elements.{KeepsLabels, least_by}
-use Rattle.symmetries.specs.declared.least_places.Images.{Images}
+use Rattle.symmetries.specs.Elements.{least_by}
+use Rattle.proof_text.specs.declared.symmetry_proof.Images.{Images}
 use Rattle.proof_check.specs.Inside.ClassChecker.{IsClassReady, IsClassAnswering, IsClassRequesting, refusals_by}
 use Rattle.proof_check.specs.Inside.FoundRow.{IsRowFor, IsUnservedBelow}
-use Rattle.proof_check.specs.ClassNumbers.{AreNumbersOfRows, places_of}
+use Rattle.proof_check.specs.ClassNumbers.{places_of}
 use Rattle.proof_check.specs.Inside.RowSearch.{AreClassesInOrder, HasNoClass, IsTheRow}
 use Rattle.proof_check.specs.declared.row_numbers.ClassNumbers.{ClassNumbers}
 use Rattle.proof_check.specs.declared.class_fault.ClassFault.{ClassFault}

@@ -23,7 +23,7 @@ named board normal = record {
   large = λ at label is. (at, is, refl);
 }
 
-has_places : (board : PlainBoard) (proof : PlainProof) → IsClassProof board proof → HasPlaces board proof
+pub has_places : (board : PlainBoard) (proof : PlainProof) → IsClassProof board proof → HasPlaces board proof
 has_places board proof is =
     record { labeller = λ k d lt. (is.labeller.each k d lt).at; adversary = λ k d lt. (is.adversary.each k d lt).at }
 

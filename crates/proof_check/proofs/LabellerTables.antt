@@ -7,7 +7,6 @@ use Rattle.std.proofs.lemmas.List.Elements.{All-contains, All-head, All-tail}
 use Rattle.board_text.specs.PlainBoard.{PlainBoard}
 use Rattle.positions.specs.Game.{moved}
 use Rattle.positions.specs.Table.{AnswerRow, AnswersLegally, IsListed}
-use Rattle.positions.specs.declared.turns.Turns.{Turns}
 use Rattle.positions.specs.declared.turns.Turns.TheVariants.{Count, Always}
 use Rattle.proof_text.specs.Positions.{Positions}
 use Rattle.proof_text.specs.Rules.{Serves, MeetsRequest, MeetsRequests, LabellerObeys, one_less}

@@ -17,4 +17,8 @@ pub mod RowSearch
 pub mod CheckedRows
 pub mod ClassClaims
 pub mod ClassDocumentFaults
+pub mod SameNormals
+pub mod LeastRows
+pub mod SymmetryDocumentFaults
+pub mod SymmetryRows
 pub mod Cited

@@ -1,5 +1,5 @@
 -- A document that breaks no rule shows its claim.
-use Rattle.std.proofs.Common.{◌≡◌, ℕ, ◌<◌, ◌≤◌, List, suc, length, map, get_or, take, refl, ap, ◌∙◌, subst, arith}
+use Rattle.std.proofs.Common.{◌≡◌, ℕ, ◌<◌, ◌≤◌, Bool, cond, true, List, suc, length, map, get_or, take, refl, ap, ◌∙◌, subst, arith}
 use Rattle.std.specs.List.{All, AllPairs}
 use Rattle.std.proofs.lemmas.List.{length-map, get_or-map, get_or-take}
 use Rattle.board_text.specs.PlainBoard.{PlainBoard, IsBoard, IsConfiguration}
@@ -29,11 +29,14 @@ use Rattle.proof_check.proofs.LabellerTables as answering
 use Rattle.proof_check.proofs.PlainTables.{shows_plainly}
 use Rattle.proof_check.proofs.AdversaryTables as stopping
 
--- rows in ascending order are apart
-apart : {X : Type 0} {form : RowForm X} {rows : List X} → AreRows form rows → AreApart form.at rows
-apart {X} {form} {rows} are i j d less below same =
-    let lower : form.number (form.at (get_or rows i d)) < form.number (form.at (get_or rows j d)) =
-    are.ascending i j d less below in
+-- rows of which each has a number above that of the row before it are apart
+apart : {X : Type 0} {form : RowForm X} {rows : List X} → form.strict ≡ true → AreRows form rows
+    → AreApart form.at rows
+apart {X} {form} {rows} strict are i j d less below same =
+    let number : X → ℕ = λ row. form.number (form.at row) in
+    let lower : number (get_or rows i d) < number (get_or rows j d) =
+    subst (λ (b : Bool). cond b (suc (number (get_or rows i d))) (number (get_or rows i d)) ≤ number (get_or rows j d))
+    strict (are.ascending i j d less below) in
     omega (arith, lower, ap form.number same)
 
 turns_always : (turns : Turns) → AreTurns Forever turns → turns ≡ Always
@@ -84,8 +87,8 @@ pub shows_normally : (normal : List ℕ → List ℕ) (board : PlainBoard) (proo
     → BreaksNoRule (normal_positions normal) board proof
     → ShowsOver (normal_positions normal) board proof.labeller proof.adversary proof.claim
 shows_normally normal board proof is rules = shows_over (normal_positions normal) board proof (record {
-  labeller = apart is.labeller;
-  adversary = apart is.adversary;
+  labeller = apart refl is.labeller;
+  adversary = apart refl is.adversary;
   turns = is.labeller.each;
   places = λ k d lt. (is.adversary.each k d lt).at;
 }) rules
@@ -96,8 +99,8 @@ pub shows : (board : PlainBoard) (proof : PlainProof) → IsProof board proof
 shows board proof is rules =
     shows_plainly board proof.labeller proof.adversary proof.claim (shows_over configuration_positions board proof
     (record {
-      labeller = apart is.labeller;
-      adversary = apart is.adversary;
+      labeller = apart refl is.labeller;
+      adversary = apart refl is.adversary;
       turns = is.labeller.each;
       places = λ k d lt. (is.adversary.each k d lt).at;
     })

@@ -34,7 +34,7 @@ one_place IsRight a b not_a not_b (x ∷ before) (y ∷ other) more rest e right
     (All-tail IsRight y other too)
 
 -- one row is the first that isn't right
-one_row : {X : Type 0} {IsRight : X → Type 0} {rows : List X} (a b : X) → ¬ IsRight a → ¬ IsRight b
+pub one_row : {X : Type 0} {IsRight : X → Type 0} {rows : List X} (a b : X) → ¬ IsRight a → ¬ IsRight b
     → FirstWrong IsRight rows a → FirstWrong IsRight rows b → a ≡ b
 one_row {X} {IsRight} a b not_a not_b first other =
     let same = sym first.parts ∙ other.parts in

@@ -1,5 +1,5 @@
 -- Why a document by configurations is refused.
-use Rattle.std.specs.Prelude.{◌≡◌, ℕ, ◌<◌, ◌⊎◌}
+use Rattle.std.specs.Prelude.{◌≡◌, ◌<◌, ◌⊎◌}
 use Rattle.board_text.specs.PlainBoard.{PlainBoard}
 use Rattle.positions.specs.Ranks.{rank_of, configurations}
 use Rattle.proof_text.specs.Positions.{configuration_positions}

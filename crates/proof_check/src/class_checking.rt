@@ -9,7 +9,8 @@ ghost use Rattle.proof_text.specs.Documents.{IsClassDocument};
 ghost use Rattle.proof_text.specs.ClassProof.{plain_class_proof};
 ghost use Rattle.proof_text.specs.Positions.{class_positions, normal_positions};
 ghost use Rattle.proof_text.specs.Rules.{BreaksNoRule};
-ghost use Rattle.symmetries.specs.Elements.{KeepsLabels, least_by};
+ghost use Rattle.proof_text.specs.Images.{KeepsLabels};
+ghost use Rattle.symmetries.specs.Elements.{least_by};
 ghost use Rattle.proof_check.specs.ClassNumbers.{AreNumbersOfRows};
 ghost use Rattle.proof_check.specs.ClassFaults.{IsFirstClassFault, NamesClass};
 ghost use Rattle.proof_check.specs.Inside.ClassChecker.{refusals_by};
@@ -72,7 +73,7 @@ pub fn check_classes(
 
 /// The first fault of `proof`, whose rows stand for the places that are alike by `group`, in the
 /// order of checking, if there is one.
-fn document_fault(
+pub(crate) fn document_fault(
     rt: &(impl Threads + Sync),
     board: &Board,
     group: &[Images],

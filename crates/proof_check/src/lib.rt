@@ -1,5 +1,5 @@
 //! Checks whether the rows of a strategy document show its claim, without the board's values: of a
-//! document by configurations, and of one by classes.
+//! document by configurations, by classes, or up to symmetries.
 #![tactic(auto)]
 
 mod adversary;
@@ -15,8 +15,12 @@ mod class_writing;
 mod fault;
 mod labeller;
 mod laws;
+mod least_rows;
 mod row_index;
 mod row_numbers;
+mod symmetry_checking;
+mod symmetry_fault;
+mod symmetry_laws;
 mod turns;
 
 pub use checking::{Shown, check};
@@ -31,3 +35,10 @@ pub use fault::CheckFault;
 pub use laws::{one_check_fault, rules_show, unbroken_rules_leave_no_fault};
 pub use positions::Side;
 pub use row_numbers::ClassNumbers;
+pub use symmetries::{MAX_ELEMENTS, MapFault};
+pub use symmetry_checking::check_symmetric;
+pub use symmetry_fault::SymmetryFault;
+pub use symmetry_laws::{
+    claims_hold_where_symmetric_documents_show_them, one_symmetry_fault,
+    unbroken_symmetry_rules_leave_no_fault, without_maps_documents_are_by_classes,
+};

@@ -5,7 +5,8 @@ ghost use Rattle.std.specs.List.{All};
 ghost use Rattle.board_text.specs.PlainBoard.{IsBoard, IsConfiguration};
 ghost use Rattle.proof_text.specs.Arranged.{order_number};
 ghost use Rattle.proof_text.specs.Documents.{IsClassDocument};
-ghost use Rattle.symmetries.specs.Elements.{KeepsLabels, least_by};
+ghost use Rattle.proof_text.specs.Images.{KeepsLabels};
+ghost use Rattle.symmetries.specs.Elements.{least_by};
 ghost use Rattle.proof_check.specs.ClassNumbers.{AreNumbersOfRows, class_numbers, places_of};
 ghost use Rattle.proof_check.specs.Inside.RowSearch.{AreClassesInOrder, HasNoClass, IsTheRow};
 

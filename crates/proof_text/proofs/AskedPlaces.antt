@@ -1,5 +1,5 @@
 -- The pebble that a row asks by its place is one of the row's exactly if the place is.
-use Rattle.std.proofs.Common.{◌≡◌, ℕ, ◌<◌, ◌==◌, false, true≢false, List, length, get_or, sym, ◌∙◌, arith, inl, inr}
+use Rattle.std.proofs.Common.{◌≡◌, ℕ, ◌<◌, ◌==◌, false, true≢false, length, get_or, sym, ◌∙◌, arith, inl, inr}
 use Rattle.std.proofs.Common.{eq-eqb, eqb-true}
 use Rattle.std.specs.List.{Contains}
 use Rattle.std.proofs.lemmas.Bool.{cases_lt}

@@ -13,8 +13,8 @@ use Rattle.proof_text.specs.ProofFaults.{end_number}
 use Rattle.proof_text.specs.ProofText.{claim_words, claim_line, first_two_lines}
 use Rattle.proof_text.specs.RowForm.{text_of_section, lines_of_section}
 use Rattle.proof_text.specs.SectionFaults.{InSection}
-use Rattle.proof_text.specs.Versions.{Version}
-use Rattle.proof_text.specs.Inside.Rows.{PartRead, AreKindsOfRows}
+use Rattle.proof_text.specs.Versions.{Version, head_of}
+use Rattle.proof_text.specs.Inside.Rows.{PartRead, AreKindsOfRows, HeadFault, HeadRead}
 
 -- the number of lines of a section
 pub lines_are : {asked wanted : Bool} {count rows lines : ℕ} → asked ≡ wanted → count ≡ rows
@@ -23,19 +23,18 @@ lines_are e n l = rw (← n, ← e) l
 
 -- ---- the parts of a text that were read
 
-regroup : (a b c x : List ℕ) → a ++ (b ++ (c ++ x)) ≡ (a ++ (b ++ c)) ++ x
-regroup a b c x = simp append_assoc
+regroup : (a m b c x : List ℕ) → a ++ (m ++ (b ++ (c ++ x))) ≡ (a ++ (m ++ (b ++ c))) ++ x
+regroup a m b c x = simp append_assoc
 
 -- the first two lines
-pub record HeadRead (line : List ℕ) (claim : Claim) (text rest : List ℕ) : Type 0 where
-  pub is_claim : IsClaim claim
-  pub spelled : text ≡ first_two_lines line claim ++ rest
+pub two_lines_read : (line : List ℕ) (claim : Claim) (text a b : List ℕ) → text ≡ line ++ a → a ≡ claim_line claim ++ b
+    → text ≡ first_two_lines line claim ++ b
+two_lines_read line claim text a b e f = rw (e, f) (sym (append_assoc line (claim_line claim) b))
 
-pub head_read : (line : List ℕ) (claim : Claim) (text a b : List ℕ) → text ≡ line ++ a
-    → IsClaim claim × (a ≡ claim_line claim ++ b)
-    → HeadRead line claim text b
-head_read line claim text a b e (is, f) =
-    record { is_claim = is; spelled = rw (e, f) (sym (append_assoc line (claim_line claim) b)) }
+-- the head of a text whose sections stand right after its claim
+pub bare_head : (line : List ℕ) (claim : Claim) (text rest : List ℕ)
+    → IsClaim claim × (text ≡ first_two_lines line claim ++ rest) → HeadRead (head_of line) claim text rest
+bare_head line claim text rest (is, e) = record { is_claim = is; spelled = e }
 
 -- the faults of words are of kinds of rows, in both sections
 pub record AreKinds {X Y : Type 0} (reading : Reading X Y) : Type 0 where
@@ -50,6 +49,13 @@ module _ {X Y : Type 0} (reading : Reading X Y) where
   pub record FrontRead (proof : Sections X Y) (text rest : List ℕ) : Type 0 where
     pub is_proof : IsDocumentIn version proof
     pub spelled : text ≡ text_before_end version proof ++ rest
+
+  -- a fault of the head is one of the text
+  pub has_head_fault : (text : List ℕ) (line : ℕ) (kind : ProofKind) → HeadFault version.head.line text line kind
+      → HasFaultOf reading text line kind
+  has_head_fault text line kinds.Version h = h
+  has_head_fault text line kinds.Claim h = h
+  has_head_fault text line kind h = absurd h
 
   module _ (are : AreKinds reading) where
     has_part_fault : (text : List ℕ) (line : ℕ) (kind : ProofKind)
@@ -73,25 +79,26 @@ module _ {X Y : Type 0} (reading : Reading X Y) where
     ])
     has_part_fault text line kind f = f
 
-    module _ {claim : Claim} {text a : List ℕ} (start : HeadRead version.line claim text a) where
-      pub labeller_fault : (line : ℕ) (kind : ProofKind)
-          → ((version.answers claim).asked ≡ true) × InSection (answers_read reading claim) a 3 line kind
+    module _ {claim : Claim} {text a : List ℕ} (start : HeadRead version.head claim text a) where
+      pub labeller_fault : (next line : ℕ) (kind : ProofKind) → version.head.next ≡ next
+          → ((version.answers claim).asked ≡ true) × InSection (answers_read reading claim) a next line kind
           → HasFaultOf reading text line kind
-      labeller_fault line kind (asked, fault) =
+      labeller_fault next line kind first (asked, fault) =
           has_part_fault text line kind (inl (record {
             claim = claim;
             rest = a;
             is_claim = start.is_claim;
             asked = asked;
             spelled = start.spelled;
-            fault = fault;
+            fault = subst (λ (n : ℕ). InSection (answers_read reading claim) a n line kind) (sym first) fault;
           }))
 
       pub adversary_fault : {labeller : List X} {b : List ℕ} (part : PartRead (version.answers claim) labeller a b)
-          (lines line : ℕ) (kind : ProofKind) → lines ≡ lines_of_section (version.answers claim) labeller
-          → ((version.requests claim).asked ≡ true) × InSection (requests_read reading claim) b (3 + lines) line kind
+          (after line : ℕ) (kind : ProofKind)
+          → version.head.next + lines_of_section (version.answers claim) labeller ≡ after
+          → ((version.requests claim).asked ≡ true) × InSection (requests_read reading claim) b after line kind
           → HasFaultOf reading text line kind
-      adversary_fault {labeller} {b} part lines line kind same (asked, fault) =
+      adversary_fault {labeller} {b} part after line kind same (asked, fault) =
           has_part_fault text line kind (inr (record {
             claim = claim;
             labeller = labeller;
@@ -101,11 +108,11 @@ module _ {X Y : Type 0} (reading : Reading X Y) where
             are_rows = part.are_rows;
             none = part.none;
             spelled = rw (← part.spelled) start.spelled;
-            fault = subst (λ (n : ℕ). InSection (requests_read reading claim) b (3 + n) line kind) same fault;
+            fault = subst (λ (n : ℕ). InSection (requests_read reading claim) b n line kind) (sym same) fault;
           }))
 
   pub front_read : {claim : Claim} {text a b d : List ℕ} {labeller : List X} {adversary : List Y}
-      → HeadRead version.line claim text a → PartRead (version.answers claim) labeller a b
+      → HeadRead version.head claim text a → PartRead (version.answers claim) labeller a b
       → PartRead (version.requests claim) adversary b d
       → FrontRead (record { claim = claim; labeller = labeller; adversary = adversary }) text d
   front_read {claim} {text} {a} {b} {d} {labeller} {adversary} start part other = record {
@@ -117,7 +124,8 @@ module _ {X Y : Type 0} (reading : Reading X Y) where
       no_adversary = other.none;
     };
     spelled = rw (start.spelled, part.spelled, other.spelled)
-        (regroup (first_two_lines version.line claim) (text_of_section (version.answers claim) labeller)
+        (regroup (first_two_lines version.head.line claim) version.head.after_claim
+        (text_of_section (version.answers claim) labeller)
         (text_of_section (version.requests claim) adversary) d);
   }
 

@@ -17,9 +17,12 @@ pub mod DocumentFaults
 pub mod OneStep
 pub mod OneRow
 pub mod OneClassRow
+pub mod HeldImages
+pub mod OneMap
 pub mod OneSection
 pub mod OneDocument
 pub mod RankedRows
 pub mod ReadDocuments
+pub mod ReadSymmetric
 pub mod GatheredWords
 pub mod Cited

@@ -11,17 +11,22 @@ use Rattle.positions.specs.declared.claim.Claim.TheVariants.{Exactly, AtLeast, A
 use Rattle.proof_text.specs.declared.fault.ProofFault.{ProofFault}
 use Rattle.proof_text.specs.declared.fault.ProofKind.{ProofKind}
 use Rattle.proof_text.specs.declared.fault.ProofKind.TheVariants as kinds
-use Rattle.proof_text.specs.Documents.{IsDocumentIn, IsProof, IsClassProof, text_before_end, text_of}
+use Rattle.proof_text.specs.Documents.{AreMaps, IsDocumentIn, IsProof, IsClassProof, IsSymmetryProof, text_before_end, text_of}
 use Rattle.proof_text.specs.Proof.{Sections, PlainProof, IsClaim}
 use Rattle.proof_text.specs.ProofFaults.{AdversaryFault, HasFaultOf, HasProofFault, HasClassTextFault, LabellerFault}
+use Rattle.proof_text.specs.ProofFaults.{HasSymmetryTextFault}
 use Rattle.proof_text.specs.ProofFaults.{Reading, answers_read, requests_read, read_by_configurations, read_by_classes}
-use Rattle.proof_text.specs.ProofFaults.{end_number}
-use Rattle.proof_text.specs.ProofText.{claim_line, first_two_lines, proof_text, class_text}
+use Rattle.proof_text.specs.ProofFaults.{end_number, maps_read, read_by_symmetries}
+use Rattle.proof_text.specs.ProofText.{claim_line, first_two_lines, proof_text, class_text, symmetry_text}
+use Rattle.proof_text.specs.ProofText.{maps_text, proof_version_line, class_version_line, symmetry_version_line}
 use Rattle.proof_text.specs.RowForm.{text_of_section, lines_of_section}
-use Rattle.proof_text.specs.Versions.{Version}
+use Rattle.proof_text.specs.SymmetryProof.{PlainSymmetryProof}
+use Rattle.proof_text.specs.Versions.{Version, with_head}
+use Rattle.proof_text.specs.Inside.Rows.{HeadFault}
 use Rattle.proof_text.proofs.OneStep.{OneReading, Line, one_line}
 use Rattle.proof_text.proofs.OneRow.{RowLaws, answer_laws, class_answer_laws, request_laws}
 use Rattle.proof_text.proofs.OneClassRow.{class_request_laws}
+use Rattle.proof_text.proofs.OneMap.{map_laws, map_rows}
 use Rattle.proof_text.proofs.OneSection.{Part, one_part}
 
 -- ---- single lines
@@ -46,32 +51,106 @@ one_claim c d x y p q e =
     ap (λ (text : List ℕ). get_or text 0 0) e in
     absurd (omega (arith, heads))
 
-regroup : (a b c d : List ℕ) → (a ++ (b ++ c)) ++ d ≡ a ++ (b ++ (c ++ d))
-regroup a b c d = simp append_assoc
+regroup : (a m b c d : List ℕ) → (a ++ (m ++ (b ++ c))) ++ d ≡ a ++ (m ++ (b ++ (c ++ d)))
+regroup a m b c d = simp append_assoc
 
--- ---- a finding: the reading of a text
+abbrev fault_at : ℕ → ProofKind → ProofFault
+fault_at line kind = record { line = line; kind = kind }
+
+-- ---- a finding: the reading of a text, a document or a fault
+
+-- of each text one thing is found, its document if it is that of one, and its fault if it has one
+record Findings {D : Type 0} (Read : List ℕ → Result D ProofFault → Type 0) (Is : D → Type 0) (text_is : D → List ℕ)
+    (Has : List ℕ → ℕ → ProofKind → Type 0) : Type 0 where
+  one : (text : List ℕ) (v w : Result D ProofFault) → Read text v → Read text w → v ≡ w
+  document : (text : List ℕ) (proof : D) → Is proof → text ≡ text_is proof → Read text (Ok proof)
+  fault : (text : List ℕ) (line : ℕ) (kind : ProofKind) → kind ≢ kinds.Memory → Has text line kind
+      → Read text (Err (fault_at line kind))
+
+module _ {D : Type 0} {Read : List ℕ → Result D ProofFault → Type 0} {Is : D → Type 0} {text_is : D → List ℕ}
+    {Has : List ℕ → ℕ → ProofKind → Type 0} (found : Findings Read Is text_is Has) where
+  one_text : (a b : D) → Is a → Is b → text_is a ≡ text_is b → a ≡ b
+  one_text a b is_a is_b e =
+      let text = text_is a in
+      let same = found.one text (Ok a) (Ok b) (found.document text a is_a refl) (found.document text b is_b e) in cc
+
+  one_fault_of : (text : List ℕ) (line other_line : ℕ) (kind other : ProofKind)
+      → kind ≢ kinds.Memory → other ≢ kinds.Memory → Has text line kind → Has text other_line other
+      → (line ≡ other_line) × (kind ≡ other)
+  one_fault_of text line other_line kind other not not_too h g =
+      let same = found.one text (Err (fault_at line kind)) (Err (fault_at other_line other))
+      (found.fault text line kind not h) (found.fault text other_line other not_too g) in
+      let one : fault_at line kind ≡ fault_at other_line other = cc in
+      (ap (λ (f : ProofFault). f.line) one, ap (λ (f : ProofFault). f.kind) one)
+
+  no_fault_of : (text : List ℕ) (line : ℕ) (kind : ProofKind) (b : D) → Is b
+      → text ≡ text_is b → Has text line kind → kind ≡ kinds.Memory
+  no_fault_of text line kinds.Memory b is e h = refl
+  no_fault_of text line kind b is e h = absurd (not_both kind (λ e. absurd cc) h)
+    where
+      not_both : (kind : ProofKind) → kind ≢ kinds.Memory → Has text line kind → ⊥
+      not_both kind not h =
+          let same = found.one text (Ok b) (Err (fault_at line kind)) (found.document text b is e)
+          (found.fault text line kind not h) in
+          absurd cc
+
+-- ---- the first two lines
+
+module _ {D : Type 0} (line : List ℕ) (After : Claim → List ℕ → Result D ProofFault → Type 0) where
+  abbrev AfterVersion : List ℕ → Result D ProofFault → Type 0
+  AfterVersion text found = Line IsClaim claim_line text (Err (fault_at 2 kinds.Claim)) After found
+
+  abbrev ReadAs : List ℕ → Result D ProofFault → Type 0
+  ReadAs text found =
+      Line NoCondition (λ u. line) text (Err (fault_at 1 kinds.Version)) (λ u more. AfterVersion more) found
+
+  one_reading : ((claim : Claim) (text : List ℕ) (v w : Result D ProofFault) → After claim text v → After claim text w
+      → v ≡ w)
+      → (text : List ℕ) (v w : Result D ProofFault) → ReadAs text v → ReadAs text w → v ≡ w
+  one_reading one_after text =
+      one_line NoCondition (λ u. line) text (Err (fault_at 1 kinds.Version)) (λ u more. AfterVersion more)
+      (one_constant line)
+      (λ u rest yes. one_line IsClaim claim_line rest (Err (fault_at 2 kinds.Claim)) After one_claim
+      (λ claim more is. one_after claim more))
+
+  head_fault_read : (text : List ℕ) (number : ℕ) (kind : ProofKind) → HeadFault line text number kind
+      → ReadAs text (Err (fault_at number kind))
+  head_fault_read text number kinds.Version (e, lacks) =
+      inl (lacks, ap (λ (n : ℕ). Err (fault_at n kinds.Version)) e)
+  head_fault_read text number kinds.Claim (e, rest, stands, lacks) =
+      inr (tt, rest, (tt, stands), inl (lacks, ap (λ (n : ℕ). Err (fault_at n kinds.Claim)) e))
+  head_fault_read text number kind h = absurd h
+
+  head_read : (text : List ℕ) (claim : Claim) (rest : List ℕ) (found : Result D ProofFault) → IsClaim claim
+      → text ≡ first_two_lines line claim ++ rest → After claim rest found → ReadAs text found
+  head_read text claim rest found is e after =
+      inr (
+        tt,
+        claim_line claim ++ rest,
+        (tt, e ∙ append_assoc line (claim_line claim) rest),
+        inr (claim, rest, (is, refl), after),
+      )
+
+-- ---- the sections
 
 -- each row is read in one way
 record ReadingLaws {X Y : Type 0} (reading : Reading X Y) : Type 1 where
   answers : (claim : Claim) → RowLaws (answers_read reading claim)
   requests : (claim : Claim) → RowLaws (requests_read reading claim)
 
-abbrev fault_at : ℕ → ProofKind → ProofFault
-fault_at line kind = record { line = line; kind = kind }
-
-module _ {X Y : Type 0} (reading : Reading X Y) where
+-- what is found of a text, if its sections are those of the document
+module _ {X Y : Type 0} (reading : Reading X Y) {D : Type 0} (whole : Sections X Y → D) where
   abbrev version : Version X Y
   version = reading.version
 
-  -- a document, or a fault
   abbrev Finding : Type 0
-  Finding = Result (Sections X Y) ProofFault
+  Finding = Result D ProofFault
 
   abbrev fault : ℕ → ProofKind → Finding
   fault line kind = Err (fault_at line kind)
 
   abbrev Behind : Sections X Y → List ℕ → Finding → Type 0
-  Behind proof [] found = found ≡ Ok proof
+  Behind proof [] found = found ≡ Ok (whole proof)
   Behind proof (first ∷ more) found = found ≡ fault (1 + end_number version proof) kinds.Trailing
 
   abbrev AfterFront : Sections X Y → List ℕ → Finding → Type 0
@@ -81,19 +160,14 @@ module _ {X Y : Type 0} (reading : Reading X Y) where
 
   abbrev AfterLabeller : Claim → List X → List ℕ → Finding → Type 0
   AfterLabeller claim labeller text found =
-      Part (requests_read reading claim) fault text (3 + lines_of_section (version.answers claim) labeller)
+      Part (requests_read reading claim) fault text
+      (version.head.next + lines_of_section (version.answers claim) labeller)
       (λ adversary more. AfterFront (record { claim = claim; labeller = labeller; adversary = adversary }) more)
       found
 
-  abbrev AfterClaim : Claim → List ℕ → Finding → Type 0
-  AfterClaim claim text found = Part (answers_read reading claim) fault text 3 (AfterLabeller claim) found
-
-  abbrev AfterVersion : List ℕ → Finding → Type 0
-  AfterVersion text found = Line IsClaim claim_line text (fault 2 kinds.Claim) AfterClaim found
-
-  abbrev ReadAs : List ℕ → Finding → Type 0
-  ReadAs text found =
-      Line NoCondition (λ u. version.line) text (fault 1 kinds.Version) (λ u more. AfterVersion more) found
+  abbrev AfterHead : Claim → List ℕ → Finding → Type 0
+  AfterHead claim text found =
+      Part (answers_read reading claim) fault text version.head.next (AfterLabeller claim) found
 
   one_behind : (proof : Sections X Y) (text : List ℕ) (v w : Finding) → Behind proof text v → Behind proof text w
       → v ≡ w
@@ -108,124 +182,134 @@ module _ {X Y : Type 0} (reading : Reading X Y) where
       (one_constant end_line)
       (λ u more yes. one_behind proof more)
 
-  one_after_claim : ReadingLaws reading → (claim : Claim) (text : List ℕ) (v w : Finding) → AfterClaim claim text v
-      → AfterClaim claim text w → v ≡ w
-  one_after_claim laws claim text =
-      one_part (answers_read reading claim) (laws.answers claim) text 3 fault (AfterLabeller claim)
+  one_after_head : ReadingLaws reading → (claim : Claim) (text : List ℕ) (v w : Finding) → AfterHead claim text v
+      → AfterHead claim text w → v ≡ w
+  one_after_head laws claim text =
+      one_part (answers_read reading claim) (laws.answers claim) text version.head.next fault (AfterLabeller claim)
       (λ labeller rest. one_part (requests_read reading claim) (laws.requests claim) rest
-      (3 + lines_of_section (version.answers claim) labeller)
+      (version.head.next + lines_of_section (version.answers claim) labeller)
       fault _ (λ adversary more. one_after_front _ more))
 
-  one_reading : ReadingLaws reading → (text : List ℕ) (v w : Finding) → ReadAs text v → ReadAs text w → v ≡ w
-  one_reading laws text =
-      one_line NoCondition (λ u. version.line) text (fault 1 kinds.Version) (λ u more. AfterVersion more)
-      (one_constant version.line)
-      (λ u rest yes. one_line IsClaim claim_line rest (fault 2 kinds.Claim) AfterClaim one_claim
-      (λ claim more is. one_after_claim laws claim more))
+  -- what is found of a text with this head
+  record FoundAfter (text : List ℕ) (found : Finding) : Type 0 where
+    claim : Claim
+    rest : List ℕ
+    is_claim : IsClaim claim
+    spelled : text ≡ with_head version.head claim rest
+    after : AfterHead claim rest found
 
-  -- ---- a document or a fault is the finding of its text
-
-  head_read : (text : List ℕ) (claim : Claim) (rest : List ℕ) (found : Finding) → IsClaim claim
-      → text ≡ first_two_lines version.line claim ++ rest → AfterClaim claim rest found → ReadAs text found
-  head_read text claim rest found is e after =
-      inr (
-        tt,
-        claim_line claim ++ rest,
-        (tt, e ∙ append_assoc version.line (claim_line claim) rest),
-        inr (claim, rest, (is, refl), after),
-      )
-
-  front_read : (text : List ℕ) (proof : Sections X Y) (rest : List ℕ) (found : Finding) → IsDocumentIn version proof
-      → text ≡ text_before_end version proof ++ rest → AfterFront proof rest found → ReadAs text found
-  front_read text proof rest found is e after =
+  front_found : (text : List ℕ) (proof : Sections X Y) (rest : List ℕ) (found : Finding) → IsDocumentIn version proof
+      → text ≡ text_before_end version proof ++ rest → AfterFront proof rest found → FoundAfter text found
+  front_found text proof rest found is e after =
       let labeller = text_of_section (version.answers proof.claim) proof.labeller in
-      let adversary = text_of_section (version.requests proof.claim) proof.adversary in
-      head_read text proof.claim (labeller ++ (adversary ++ rest)) found is.claim
-      (e ∙ regroup (first_two_lines version.line proof.claim) labeller adversary rest)
-      (inr (
-        proof.labeller,
-        adversary ++ rest,
-        (is.labeller, is.no_labeller, refl),
-        inr (proof.adversary, rest, (is.adversary, is.no_adversary, refl), after),
-      ))
+      let adversary = text_of_section (version.requests proof.claim) proof.adversary in record {
+        claim = proof.claim;
+        rest = labeller ++ (adversary ++ rest);
+        is_claim = is.claim;
+        spelled = e ∙ regroup (first_two_lines version.head.line proof.claim) version.head.after_claim labeller
+            adversary rest;
+        after = inr (
+          proof.labeller,
+          adversary ++ rest,
+          (is.labeller, is.no_labeller, refl),
+          inr (proof.adversary, rest, (is.adversary, is.no_adversary, refl), after),
+        );
+      }
 
-  section_fault_read : (text : List ℕ) (line : ℕ) (kind : ProofKind) → kind ≢ kinds.Memory
-      → LabellerFault reading text line kind ⊎ AdversaryFault reading text line kind → ReadAs text (fault line kind)
-  section_fault_read text line kind not (inl f) =
-      head_read text f.claim f.rest _ f.is_claim f.spelled (inl (f.asked, line, kind, not, f.fault, refl))
-  section_fault_read text line kind not (inr f) =
-      head_read text f.claim _ _ f.is_claim f.spelled
-      (inr (f.labeller, f.rest, (f.are_rows, f.none, refl), inl (f.asked, line, kind, not, f.fault, refl)))
+  section_fault_found : (text : List ℕ) (line : ℕ) (kind : ProofKind) → kind ≢ kinds.Memory
+      → LabellerFault reading text line kind ⊎ AdversaryFault reading text line kind → FoundAfter text (fault line kind)
+  section_fault_found text line kind not (inl f) = record {
+    claim = f.claim;
+    rest = f.rest;
+    is_claim = f.is_claim;
+    spelled = f.spelled;
+    after = inl (f.asked, line, kind, not, f.fault, refl);
+  }
+  section_fault_found text line kind not (inr f) = record {
+    claim = f.claim;
+    rest = text_of_section (version.answers f.claim) f.labeller ++ f.rest;
+    is_claim = f.is_claim;
+    spelled = f.spelled;
+    after = inr (
+      f.labeller,
+      f.rest,
+      (f.are_rows, f.none, refl),
+      inl (f.asked, line, kind, not, f.fault, refl),
+    );
+  }
 
-  fault_read : (text : List ℕ) (line : ℕ) (kind : ProofKind) → kind ≢ kinds.Memory
-      → HasFaultOf reading text line kind → ReadAs text (fault line kind)
-  fault_read text line kinds.Version not (e, lacks) = inl (lacks, ap (λ (n : ℕ). fault n kinds.Version) e)
-  fault_read text line kinds.Claim not (e, rest, stands, lacks) =
-      inr (tt, rest, (tt, stands), inl (lacks, ap (λ (n : ℕ). fault n kinds.Claim) e))
-  fault_read text line kinds.End not (proof, rest, is, stands, e, lacks) =
-      front_read text proof rest _ is stands (inl (lacks, ap (λ (n : ℕ). fault n kinds.End) e))
-  fault_read text line kinds.Trailing not (proof, first, more, is, stands, e) =
-      front_read text proof (end_line ++ first ∷ more) _ is
+  -- a fault is one of the head, or is found after it
+  fault_found : (text : List ℕ) (line : ℕ) (kind : ProofKind) → kind ≢ kinds.Memory
+      → HasFaultOf reading text line kind → HeadFault version.head.line text line kind ⊎ FoundAfter text (fault line kind)
+  fault_found text line kinds.Version not h = inl h
+  fault_found text line kinds.Claim not h = inl h
+  fault_found text line kinds.End not (proof, rest, is, stands, e, lacks) =
+      inr (front_found text proof rest _ is stands (inl (lacks, ap (λ (n : ℕ). fault n kinds.End) e)))
+  fault_found text line kinds.Trailing not (proof, first, more, is, stands, e) =
+      inr (front_found text proof (end_line ++ first ∷ more) _ is
       (stands ∙ append_assoc (text_before_end version proof) end_line (first ∷ more))
-      (inr (tt, first ∷ more, (tt, refl), ap (λ (n : ℕ). fault n kinds.Trailing) e))
-  fault_read text line kinds.Memory not h = absurd (not refl)
-  fault_read text line kind not h = section_fault_read text line kind not h
+      (inr (tt, first ∷ more, (tt, refl), ap (λ (n : ℕ). fault n kinds.Trailing) e)))
+  fault_found text line kinds.Memory not h = absurd (not refl)
+  fault_found text line kind not h = inr (section_fault_found text line kind not h)
 
-  document_read : (text : List ℕ) (proof : Sections X Y) → IsDocumentIn version proof → text ≡ text_of version proof
-      → ReadAs text (Ok proof)
-  document_read text proof is e =
-      front_read text proof end_line (Ok proof) is e (inr (tt, [], (tt, sym (append-nil end_line)), refl))
+  document_found : (text : List ℕ) (proof : Sections X Y) → IsDocumentIn version proof → text ≡ text_of version proof
+      → FoundAfter text (Ok (whole proof))
+  document_found text proof is e =
+      front_found text proof end_line (Ok (whole proof)) is e (inr (tt, [], (tt, sym (append-nil end_line)), refl))
 
-  -- ---- what holds of each version
+-- ---- versions whose sections stand right after the claim
 
-  module _ (laws : ReadingLaws reading) where
-    one_text : (a b : Sections X Y) → IsDocumentIn version a → IsDocumentIn version b
-        → text_of version a ≡ text_of version b → a ≡ b
-    one_text a b is_a is_b e =
-        let text = text_of version a in
-        let same = one_reading laws text (Ok a) (Ok b) (document_read text a is_a refl)
-        (document_read text b is_b e) in cc
+module _ {X Y : Type 0} (reading : Reading X Y) (bare : reading.version.head.after_claim ≡ [])
+    (laws : ReadingLaws reading) where
+  abbrev Rows : Claim → List ℕ → Result (Sections X Y) ProofFault → Type 0
+  Rows = AfterHead reading (λ proof. proof)
 
-    one_fault_of : (text : List ℕ) (line other_line : ℕ) (kind other : ProofKind)
-        → kind ≢ kinds.Memory → other ≢ kinds.Memory → HasFaultOf reading text line kind
-        → HasFaultOf reading text other_line other
-        → (line ≡ other_line) × (kind ≡ other)
-    one_fault_of text line other_line kind other not not_too h g =
-        let same = one_reading laws text (fault line kind) (fault other_line other)
-        (fault_read text line kind not h) (fault_read text other_line other not_too g) in
-        let one : fault_at line kind ≡ fault_at other_line other = cc in
-        (ap (λ (f : ProofFault). f.line) one, ap (λ (f : ProofFault). f.kind) one)
+  bare_read : (text : List ℕ) (found : Result (Sections X Y) ProofFault)
+      → FoundAfter reading (λ proof. proof) text found → ReadAs reading.version.head.line Rows text found
+  bare_read text found f =
+      head_read reading.version.head.line Rows text f.claim f.rest found f.is_claim
+      (f.spelled
+      ∙ ap (λ (after : List ℕ). first_two_lines reading.version.head.line f.claim ++ (after ++ f.rest)) bare)
+      f.after
 
-    no_fault_of : (text : List ℕ) (line : ℕ) (kind : ProofKind) (b : Sections X Y) → IsDocumentIn version b
-        → text ≡ text_of version b → HasFaultOf reading text line kind → kind ≡ kinds.Memory
-    no_fault_of text line kinds.Memory b is e h = refl
-    no_fault_of text line kind b is e h = absurd (not_both kind (λ e. absurd cc) h)
-      where
-        not_both : (kind : ProofKind) → kind ≢ kinds.Memory → HasFaultOf reading text line kind → ⊥
-        not_both kind not h =
-            let same = one_reading laws text (Ok b) (fault line kind) (document_read text b is e)
-            (fault_read text line kind not h) in
-            absurd cc
+  bare_findings : Findings (ReadAs reading.version.head.line Rows) (IsDocumentIn reading.version)
+      (text_of reading.version) (HasFaultOf reading)
+  bare_findings = record {
+    one = one_reading reading.version.head.line Rows (one_after_head reading (λ proof. proof) laws);
+    document = λ text proof is e. bare_read text (Ok proof) (document_found reading (λ proof. proof) text proof is e);
+    fault = λ text line kind not h. elim (fault_found reading (λ proof. proof) text line kind not h) [
+      | inl f ↦ head_fault_read reading.version.head.line Rows text line kind f
+      | inr f ↦ bare_read text (Err (fault_at line kind)) f
+    ];
+  }
 
 -- ---- the laws
 
-laws_by_configurations : (board : PlainBoard) → IsBoard board → ReadingLaws (read_by_configurations board)
-laws_by_configurations board is =
-    record { answers = λ claim. answer_laws board claim is; requests = request_laws board is }
+found_by_configurations : (board : PlainBoard) → IsBoard board
+    → Findings (ReadAs proof_version_line (AfterHead (read_by_configurations board) (λ proof. proof))) (IsProof board)
+    (proof_text board) (HasProofFault board)
+found_by_configurations board is =
+    bare_findings (read_by_configurations board) refl
+    (record { answers = λ claim. answer_laws board claim is; requests = request_laws board is })
 
-laws_by_classes : (board : PlainBoard) → IsBoard board → ReadingLaws (read_by_classes board)
-laws_by_classes board is =
+class_laws : (board : PlainBoard) → IsBoard board → ReadingLaws (read_by_classes board)
+class_laws board is =
     record { answers = λ claim. class_answer_laws board claim is; requests = class_request_laws board is }
+
+found_by_classes : (board : PlainBoard) → IsBoard board
+    → Findings (ReadAs class_version_line (AfterHead (read_by_classes board) (λ proof. proof))) (IsClassProof board)
+    (class_text board) (HasClassTextFault board)
+found_by_classes board is = bare_findings (read_by_classes board) refl (class_laws board is)
 
 -- A text is that of one document.
 pub one_document : (board : PlainBoard) (a b : PlainProof) → IsBoard board → IsProof board a → IsProof board b
     → proof_text board a ≡ proof_text board b → a ≡ b
-one_document board a b is = one_text (read_by_configurations board) (laws_by_configurations board is) a b
+one_document board a b is = one_text (found_by_configurations board is) a b
 
 pub one_class_document : (board : PlainBoard) (a b : PlainProof) → IsBoard board → IsClassProof board a
     → IsClassProof board b
     → class_text board a ≡ class_text board b → a ≡ b
-one_class_document board a b is = one_text (read_by_classes board) (laws_by_classes board is) a b
+one_class_document board a b is = one_text (found_by_classes board is) a b
 
 -- A text has one fault.
 pub one_fault : (board : PlainBoard) (text : List ℕ) (line other_line : ℕ) (kind other : ProofKind) → IsBoard board
@@ -233,7 +317,7 @@ pub one_fault : (board : PlainBoard) (text : List ℕ) (line other_line : ℕ) (
     → HasProofFault board text other_line other
     → (line ≡ other_line) × (kind ≡ other)
 one_fault board text line other_line kind other is =
-    one_fault_of (read_by_configurations board) (laws_by_configurations board is) text line other_line kind other
+    one_fault_of (found_by_configurations board is) text line other_line kind other
 
 pub one_class_text_fault : (board : PlainBoard) (text : List ℕ) (line other_line : ℕ) (kind other : ProofKind)
     → IsBoard board
@@ -241,17 +325,83 @@ pub one_class_text_fault : (board : PlainBoard) (text : List ℕ) (line other_li
     → HasClassTextFault board text other_line other
     → (line ≡ other_line) × (kind ≡ other)
 one_class_text_fault board text line other_line kind other is =
-    one_fault_of (read_by_classes board) (laws_by_classes board is) text line other_line kind other
+    one_fault_of (found_by_classes board is) text line other_line kind other
 
 -- In the text of a document no line has a fault.
 pub no_fault : (board : PlainBoard) (text : List ℕ) (line : ℕ) (kind : ProofKind) (b : PlainProof) → IsBoard board
     → IsProof board b
     → text ≡ proof_text board b → HasProofFault board text line kind → kind ≡ kinds.Memory
-no_fault board text line kind b is =
-    no_fault_of (read_by_configurations board) (laws_by_configurations board is) text line kind b
+no_fault board text line kind b is = no_fault_of (found_by_configurations board is) text line kind b
 
 pub no_class_text_fault : (board : PlainBoard) (text : List ℕ) (line : ℕ) (kind : ProofKind) (b : PlainProof)
     → IsBoard board → IsClassProof board b
     → text ≡ class_text board b → HasClassTextFault board text line kind → kind ≡ kinds.Memory
-no_class_text_fault board text line kind b is =
-    no_fault_of (read_by_classes board) (laws_by_classes board is) text line kind b
+no_class_text_fault board text line kind b is = no_fault_of (found_by_classes board is) text line kind b
+
+-- ---- up to symmetries
+
+module _ (board : PlainBoard) (is : IsBoard board) where
+  abbrev with_maps : List (List ℕ) → PlainProof → PlainSymmetryProof
+  with_maps maps rows = record { maps = maps; rows = rows }
+
+  abbrev AfterMaps : Claim → List (List ℕ) → List ℕ → Result PlainSymmetryProof ProofFault → Type 0
+  AfterMaps claim maps = AfterHead (read_by_symmetries board maps) (with_maps maps) claim
+
+  abbrev AfterTwoLines : Claim → List ℕ → Result PlainSymmetryProof ProofFault → Type 0
+  AfterTwoLines claim text found =
+      Part (maps_read board) (λ line kind. Err (fault_at line kind)) text 3 (AfterMaps claim) found
+
+  symmetry_laws : (maps : List (List ℕ)) → ReadingLaws (read_by_symmetries board maps)
+  symmetry_laws maps =
+      let laws = class_laws board is in record { answers = laws.answers; requests = laws.requests }
+
+  maps_found : (maps : List (List ℕ)) (text : List ℕ) (found : Result PlainSymmetryProof ProofFault)
+      → AreMaps board.labels maps → FoundAfter (read_by_symmetries board maps) (with_maps maps) text found
+      → ReadAs symmetry_version_line AfterTwoLines text found
+  maps_found maps text found are f =
+      head_read symmetry_version_line AfterTwoLines text f.claim (maps_text board.labels maps ++ f.rest) found f.is_claim
+      f.spelled
+      (inr (maps, f.rest, (map_rows board maps are, λ not. absurd cc, refl), f.after))
+
+  found_by_symmetries : Findings (ReadAs symmetry_version_line AfterTwoLines) (IsSymmetryProof board)
+      (symmetry_text board) (HasSymmetryTextFault board)
+  found_by_symmetries = record {
+    one = one_reading symmetry_version_line AfterTwoLines
+        (λ claim text. one_part (maps_read board) (map_laws board is) text 3 _ (AfterMaps claim)
+        (λ maps more. one_after_head (read_by_symmetries board maps) (with_maps maps) (symmetry_laws maps) claim more));
+    document = λ text proof are e. maps_found proof.maps text (Ok proof) are.maps
+        (document_found (read_by_symmetries board proof.maps) (with_maps proof.maps) text proof.rows
+        (record {
+          claim = are.rows.claim;
+          labeller = are.rows.labeller;
+          adversary = are.rows.adversary;
+          no_labeller = are.rows.no_labeller;
+          no_adversary = are.rows.no_adversary;
+        }) e);
+    fault = λ text line kind not h. elim h [
+      | inl f ↦ head_read symmetry_version_line AfterTwoLines text f.claim f.rest _ f.is_claim f.spelled
+          (inl (refl, line, kind, not, f.fault, refl))
+      | inr f ↦ elim (fault_found (read_by_symmetries board f.0) (with_maps f.0) text line kind not f.2) [
+        | inl g ↦ head_fault_read symmetry_version_line AfterTwoLines text line kind g
+        | inr g ↦ maps_found f.0 text (Err (fault_at line kind)) f.1 g
+      ]
+    ];
+  }
+
+pub one_symmetry_document : (board : PlainBoard) (a b : PlainSymmetryProof) → IsBoard board → IsSymmetryProof board a
+    → IsSymmetryProof board b
+    → symmetry_text board a ≡ symmetry_text board b → a ≡ b
+one_symmetry_document board a b is = one_text (found_by_symmetries board is) a b
+
+pub one_symmetry_text_fault : (board : PlainBoard) (text : List ℕ) (line other_line : ℕ) (kind other : ProofKind)
+    → IsBoard board
+    → kind ≢ kinds.Memory → other ≢ kinds.Memory → HasSymmetryTextFault board text line kind
+    → HasSymmetryTextFault board text other_line other
+    → (line ≡ other_line) × (kind ≡ other)
+one_symmetry_text_fault board text line other_line kind other is =
+    one_fault_of (found_by_symmetries board is) text line other_line kind other
+
+pub no_symmetry_text_fault : (board : PlainBoard) (text : List ℕ) (line : ℕ) (kind : ProofKind) (b : PlainSymmetryProof)
+    → IsBoard board → IsSymmetryProof board b
+    → text ≡ symmetry_text board b → HasSymmetryTextFault board text line kind → kind ≡ kinds.Memory
+no_symmetry_text_fault board text line kind b is = no_fault_of (found_by_symmetries board is) text line kind b

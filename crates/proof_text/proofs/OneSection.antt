@@ -1,6 +1,6 @@
 -- A section has one reading, or one fault.
 use Rattle.std.proofs.Common.{◌≡◌, ◌≢◌, ◌⊎◌, ℕ, ◌+◌, ◌<◌, ◌≤◌, Bool, true, false, true≢false, cond, List, [], ◌∷◌, ◌++◌}
-use Rattle.std.proofs.Common.{length, get_or, All, AllPairs, refl, sym, ap, subst, ◌∙◌, append-nil, append_assoc, arith}
+use Rattle.std.proofs.Common.{length, get_or, All, refl, sym, ap, subst, ◌∙◌, append-nil, append_assoc, arith}
 use Rattle.std.proofs.Common.{inl, inr}
 use Rattle.std.specs.List.{flat_map, AllByRecursion}
 use Rattle.std.proofs.lemmas.Bool.{cases_order}
@@ -45,10 +45,6 @@ is_row {X} IsRow rows m ms each =
     rw (get_or_at rows m ms m (length rows) refl) at h
 
 module _ {X : Type 0} (reading : RowReading X) where
-  abbrev Ascend : List X → Type 0
-  Ascend rows = AllPairs (λ first second. reading.form.number (reading.form.at first) < reading.form.number
-      (reading.form.at second)) rows
-
   may_follow : (rows : List X) (m : X) (ms : List X) → AreRows reading.form (rows ++ m ∷ ms)
       → MayFollow reading.form rows (reading.form.at m)
   may_follow rows m ms are = record {

@@ -22,7 +22,7 @@ use Rattle.proof_text.specs.ProofFaults.{read_by_configurations, read_by_classes
 use Rattle.proof_text.specs.ProofText.{proof_version_line, class_version_line, proof_text, class_text}
 use Rattle.proof_text.specs.RowForm.{AreRows}
 use Rattle.proof_text.specs.Versions.{by_configurations, by_classes, answers_by_configurations}
-use Rattle.proof_text.specs.Versions.{requests_by_configurations}
+use Rattle.proof_text.specs.Versions.{requests_by_configurations, head_of}
 use Rattle.proof_text.specs.Inside.Rows.{rows_read, labeller_reading, adversary_reading, class_labeller_reading}
 use Rattle.proof_text.specs.Inside.Rows.{class_adversary_reading}
 use Rattle.proof_text.proofs.OneDocument.{one_document, one_class_document, no_fault, no_class_text_fault}
@@ -61,7 +61,7 @@ module _ (board : PlainBoard) where
       (λ row. IsConfiguration board (configuration_at board row.at)) (request_row board) (λ row is. is.at) rows are.each
 
   abbrev Ranked : Reading LabellerRow AdversaryRow
-  Ranked = rows_read proof_version_line labeller_reading adversary_reading board
+  Ranked = rows_read (head_of proof_version_line) labeller_reading adversary_reading board
 
   abbrev sections : Proof → Sections LabellerRow AdversaryRow
   sections proof =
@@ -108,9 +108,9 @@ module _ (board : PlainBoard) where
   -- ---- by classes
 
   abbrev Arranged : Reading LabellerClassRow AdversaryClassRow
-  Arranged = rows_read class_version_line class_labeller_reading class_adversary_reading board
+  Arranged = rows_read (head_of class_version_line) class_labeller_reading class_adversary_reading board
 
-  abbrev class_sections : ClassProof → Sections LabellerClassRow AdversaryClassRow
+  abbrev pub class_sections : ClassProof → Sections LabellerClassRow AdversaryClassRow
   class_sections proof =
       record { claim = proof.claim; labeller = proof.labeller.items; adversary = proof.adversary.items }
 

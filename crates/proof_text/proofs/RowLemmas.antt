@@ -1,6 +1,6 @@
 -- From the words of a row to the row, or to its fault.
 use Rattle.std.proofs.Common.{◌≡◌, ℕ, ◌+◌, ◌-◌, ◌^◌, ◌<◌, ◌≤◌, ◌⊎◌, Bool, true, false, List, [], ◌∷◌, ◌++◌, Option}
-use Rattle.std.proofs.Common.{Some}
+use Rattle.std.proofs.Common.{Some, cond, suc}
 use Rattle.std.proofs.Common.{None, length, take, drop, get_or, slice_index, All, refl, sym, ap, subst, ◌∙◌}
 use Rattle.std.proofs.Common.{append_assoc, arith, inl, inr}
 use Rattle.std.proofs.lemmas.List.{length-map, length-take, take_at, get_or-append_right, get_or-drop, get_or-replicate}
@@ -26,7 +26,7 @@ use Rattle.proof_text.specs.ClassProof.{class_answer_row}
 use Rattle.proof_text.specs.Proof.{IsAnswerRow, IsRequestRow, answer_row}
 use Rattle.proof_text.specs.ProofText.{answer_line, request_line}
 use Rattle.proof_text.specs.RowFaults.{AnswerMisread, RequestMisread}
-use Rattle.proof_text.specs.RowForm.{RowForm}
+use Rattle.proof_text.specs.RowForm.{RowForm, next_number}
 use Rattle.proof_text.specs.SectionFaults.{RowReading, RowFault}
 use Rattle.proof_text.specs.RowWords.{AnswerWords, RequestWords, AreAnswerWords, AreRequestWords, answer_words_line}
 use Rattle.proof_text.specs.RowWords.{request_words_line}
@@ -96,12 +96,22 @@ module _ {R : Type 0} (reading : RowReading R) (least : ℕ) {row : R} {old new 
     pub row_early : number < least → RowFault reading (IsFrom reading.form least) old kinds.Order
     row_early early = order_fault (λ from. omega (arith, is, early, from.above))
 
-    pub row_next : reading.form.AreInOrder held → number < 2 ^ 63 → least ≤ number
+    -- the row stands there, and the rows ascend
+    pub row_next : reading.form.strict ≡ true → reading.form.AreInOrder held → number < 2 ^ 63 → least ≤ number
         → NextRow reading least (number + 1) (Ok row) old new
-    row_next in_order few above =
+    row_next strict in_order few above =
         let from : IsFrom reading.form least held = record { in_order = in_order; above = omega (arith, is, above) } in
         let same : number ≡ reading.form.number (reading.form.at row) = is ∙ ap reading.form.number held_is in
-        (read.is, subst (IsFrom reading.form least) held_is from, omega (arith, same), omega (arith, few), read.spelled)
+        let above : next_number reading.form (reading.form.number (reading.form.at row))
+        ≡ suc (reading.form.number (reading.form.at row)) =
+        ap (λ (b : Bool). cond b (suc (reading.form.number (reading.form.at row)))
+        (reading.form.number (reading.form.at row))) strict in (
+          read.is,
+          subst (IsFrom reading.form least) held_is from,
+          omega (arith, same, above),
+          omega (arith, few),
+          read.spelled,
+        )
 
 -- ---- a labeller's row
 

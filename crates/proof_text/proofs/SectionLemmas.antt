@@ -1,5 +1,5 @@
 -- The rows of a section, one after the other.
-use Rattle.std.proofs.Common.{◌≡◌, true, true≢false, ℕ, ◌+◌, ◌-◌, ◌<◌, ◌≤◌, List, [], ◌∷◌, ◌++◌, length, get_or}
+use Rattle.std.proofs.Common.{◌≡◌, Bool, cond, true, false, true≢false, ℕ, suc, ◌+◌, ◌-◌, ◌<◌, ◌≤◌, List, [], ◌∷◌, ◌++◌, length, get_or}
 use Rattle.std.proofs.Common.{take, AllPairs, refl, sym, ap, subst, ◌∙◌, arith, inl, inr, append_assoc}
 use Rattle.std.specs.List.{flat_map}
 use Rattle.std.specs.Prelude.{Ok}
@@ -10,7 +10,7 @@ use Rattle.std.proofs.lemmas.List.Quantifiers.{all_pairs_push}
 use Rattle.board_text.specs.LineForms.{number_line}
 use Rattle.proof_text.specs.declared.fault.ProofKind.{ProofKind}
 use Rattle.proof_text.specs.declared.fault.ProofKind.TheVariants as kinds
-use Rattle.proof_text.specs.RowForm.{AreRows}
+use Rattle.proof_text.specs.RowForm.{AreRows, next_number}
 use Rattle.proof_text.specs.SectionFaults.{RowReading, MayFollow, RowsCome, RowFault, InSection}
 use Rattle.proof_text.specs.Inside.Rows.{AreKindsOfRows, IsFrom, NextRow, PartRead}
 
@@ -21,10 +21,15 @@ last_is {X} rows before row last e =
     sym (get_or_at rows row [] row (length rows) refl) ∙ ap (λ (l : List X). get_or l (length rows) row) e
     ∙ get_or_at before last [] row (length rows) same
 
+-- the number of a next row isn't below that of its row
+not_below : (strict : Bool) (number : ℕ) → number ≤ cond strict (suc number) number
+not_below true number = omega arith
+not_below false number = omega arith
+
 module _ {R : Type 0} (reading : RowReading R) where
-  -- the places of one row come before these places
+  -- the places of one row may come before these places
   abbrev Before : List ℕ → List ℕ → Type 0
-  Before first second = reading.form.number first < reading.form.number second
+  Before first second = next_number reading.form (reading.form.number first) ≤ reading.form.number second
 
   -- places that may follow the last row come after those of all rows
   follows_all : (rows : List R) (places : List ℕ)
@@ -39,7 +44,13 @@ module _ {R : Type 0} (reading : RowReading R) where
       in
       elim (cases_lt k n) [
         | inl before ↦ let earlier : Before (reading.form.at (get_or rows k d)) (reading.form.at (get_or rows n d)) =
-            ascending k n d before (omega arith) in omega (arith, earlier, last)
+            ascending k n d before (omega arith) in
+            omega (
+              arith,
+              earlier,
+              last,
+              not_below reading.form.strict (reading.form.number (reading.form.at (get_or rows n d))),
+            )
         | inr last_one ↦ let same : n ≡ k = omega arith in
             subst (λ (i : ℕ). Before (reading.form.at (get_or rows i d)) places) same last
       ]
@@ -61,20 +72,20 @@ module _ {R : Type 0} (reading : RowReading R) where
   FollowsFrom rows least = (places : List ℕ) → (MayFollow reading.form rows places → IsFrom reading.form least places)
       × (IsFrom reading.form least places → MayFollow reading.form rows places)
 
-  from_push : (rows : List R) (row : R) (least : ℕ) → least ≡ reading.form.number (reading.form.at row) + 1
+  from_push : (rows : List R) (row : R) (least : ℕ) → least ≡ next_number reading.form (reading.form.number (reading.form.at row))
       → FollowsFrom (rows ++ row ∷ []) least
   from_push rows row least e places = (
     λ follows. record {
       in_order = follows.in_order;
-      above = let after : reading.form.number (reading.form.at row) < reading.form.number places = follows.after rows
-          row refl in
-          omega (arith, e, after);
+      above = let after : Before (reading.form.at row) places = follows.after rows row refl in omega (arith, e, after);
     },
     λ from. record {
       in_order = from.in_order;
       after = λ before last same. subst (λ (r : R). Before (reading.form.at r) places)
           (last_is rows before row last same)
-          (omega (arith, e, from.above));
+          (let above : next_number reading.form (reading.form.number (reading.form.at row))
+          ≤ reading.form.number places = omega (arith, e, from.above) in
+          above);
     },
   )
 

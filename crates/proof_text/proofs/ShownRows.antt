@@ -10,12 +10,11 @@ use Rattle.board_text.specs.LineForms.{number_line}
 use Rattle.proof_text.specs.declared.fault.ProofKind.{ProofKind}
 use Rattle.proof_text.specs.declared.fault.ProofKind.TheVariants as kinds
 use Rattle.proof_text.specs.Documents.{IsDocumentIn, text_before_end, text_of}
-use Rattle.proof_text.specs.ProofText.{first_two_lines}
 use Rattle.proof_text.specs.Proof.{Sections}
 use Rattle.proof_text.specs.ProofFaults.{Reading, requests_read, LabellerFault, AdversaryFault, HasFaultOf, end_number}
 use Rattle.proof_text.specs.RowForm.{RowForm, AreRows, text_of_section, lines_of_section}
 use Rattle.proof_text.specs.SectionFaults.{MayFollow, RowsCome, RowFault, InSection}
-use Rattle.proof_text.specs.Versions.{Version}
+use Rattle.proof_text.specs.Versions.{Version, with_head}
 use Rattle.proof_text.specs.Inside.Rows.{form_shown}
 
 some_of : {R : Type 0} (rows : List R) → 0 < length rows → R
@@ -96,7 +95,7 @@ module _ {R S X Y : Type 0} (version : Version X Y) (answer : R → X) (request 
     (IsPaddedToo : S → Type 0) where
   abbrev ShownVersion : Version R S
   ShownVersion = record {
-    line = version.line;
+    head = version.head;
     answers = λ claim. form_shown (version.answers claim) answer IsPadded;
     requests = λ claim. form_shown (version.requests claim) request IsPaddedToo;
   }
@@ -119,8 +118,8 @@ module _ {R S X Y : Type 0} (version : Version X Y) (answer : R → X) (request 
 
   before_end_seen : (proof : Sections R S) → text_before_end ShownVersion proof ≡ text_before_end version (seen proof)
   before_end_seen proof =
-      λ i. first_two_lines version.line proof.claim
-      ++ (text_seen (version.answers proof.claim) answer IsPadded proof.labeller i
+      λ i. with_head version.head proof.claim
+      (text_seen (version.answers proof.claim) answer IsPadded proof.labeller i
       ++ text_seen (version.requests proof.claim) request IsPaddedToo proof.adversary i)
 
   pub whole_text_seen : (proof : Sections R S) → text_of ShownVersion proof ≡ text_of version (seen proof)
@@ -128,7 +127,7 @@ module _ {R S X Y : Type 0} (version : Version X Y) (answer : R → X) (request 
 
   end_seen : (proof : Sections R S) → end_number ShownVersion proof ≡ end_number version (seen proof)
   end_seen proof =
-      λ i. 3 + lines_seen (version.answers proof.claim) answer IsPadded proof.labeller i
+      λ i. version.head.next + lines_seen (version.answers proof.claim) answer IsPadded proof.labeller i
       + lines_seen (version.requests proof.claim) request IsPaddedToo proof.adversary i
 
 module _ {R S X Y : Type 0} (reading : Reading X Y) (answer : R → X) (request : S → Y) (IsPadded : R → Type 0)
@@ -152,8 +151,8 @@ module _ {R S X Y : Type 0} (reading : Reading X Y) (answer : R → X) (request 
     is_claim = f.is_claim;
     asked = f.asked;
     spelled = f.spelled;
-    fault = section_fault_seen (version.answers f.claim) answer IsPadded (reading.answer_misread f.claim) f.rest 3 line
-        kind f.fault;
+    fault = section_fault_seen (version.answers f.claim) answer IsPadded (reading.answer_misread f.claim) f.rest
+        version.head.next line kind f.fault;
   })
   part_fault_seen text line kind (inr f) = inr (record {
     claim = f.claim;
@@ -163,12 +162,12 @@ module _ {R S X Y : Type 0} (reading : Reading X Y) (answer : R → X) (request 
     asked = f.asked;
     are_rows = rows_seen (version.answers f.claim) answer IsPadded f.labeller f.are_rows;
     none = λ not. ap (map answer) (f.none not);
-    spelled = f.spelled ∙ ap (λ (section : List ℕ). first_two_lines version.line f.claim ++ (section ++ f.rest))
+    spelled = f.spelled ∙ ap (λ (section : List ℕ). with_head version.head f.claim (section ++ f.rest))
         (text_seen (version.answers f.claim) answer IsPadded f.labeller);
-    fault = subst (λ (n : ℕ). InSection (requests_read reading f.claim) f.rest (3 + n) line kind)
+    fault = subst (λ (n : ℕ). InSection (requests_read reading f.claim) f.rest (version.head.next + n) line kind)
         (lines_seen (version.answers f.claim) answer IsPadded f.labeller)
         (section_fault_seen (version.requests f.claim) request IsPaddedToo (reading.request_misread f.claim) f.rest
-        (3 + lines_of_section (ShownReading.version.answers f.claim) f.labeller) line kind f.fault);
+        (version.head.next + lines_of_section (ShownReading.version.answers f.claim) f.labeller) line kind f.fault);
   })
 
   -- the fault of a text of rows is the fault of a text of the rows that they show

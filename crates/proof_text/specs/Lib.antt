@@ -1,6 +1,8 @@
 pub mod Arranged
 pub mod Proof
 pub mod ClassProof
+pub mod Images
+pub mod SymmetryProof
 pub mod ProofText
 pub mod RowWords
 pub mod RowFaults

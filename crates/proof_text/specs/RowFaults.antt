@@ -1,4 +1,4 @@
--- The faults of the words of a row.
+-- The faults of the words of a row, or of a map.
 use Rattle.std.specs.Prelude.{◌≡◌, ℕ, ◌+◌, List, ◌++◌, All, Contains}
 use Rattle.board_text.specs.LineForms.{Lacks}
 use Rattle.board_text.specs.Numerals.{SpellsBelow}
@@ -15,6 +15,7 @@ use Rattle.proof_text.specs.RowWords.{AnswerWords, RequestWords, AreAnswerWords,
 use Rattle.proof_text.specs.RowWords.{answer_words_line, request_words_line}
 use Rattle.proof_text.specs.RowWords.{ClassRequestWords, AreClassRequestWords}
 use Rattle.proof_text.specs.RowWords.{class_request_words_line}
+use Rattle.proof_text.specs.RowWords.{AreMapWords, map_words_line}
 
 -- a labeller's row with these words stands here
 abbrev pub HasAnswerWords : PlainBoard → List ℕ → AnswerWords → Type 0
@@ -95,3 +96,10 @@ ClassRequestMisread board rest kinds.Number =
     × (SpellConfiguration board words.at × SpellConfiguration board words.ask)
     × IsAskedAmong words × ¬ SpellsBelow (MOST_TURNS + 1) words.left
 ClassRequestMisread board rest kind = ⊥
+
+-- the fault of the words in the place of a map
+abbrev pub MapMisread : PlainBoard → List ℕ → ProofKind → Type 0
+MapMisread board rest kinds.Row = Lacks (AreMapWords board.labels) map_words_line rest
+MapMisread board rest kinds.Label = (words : List (List ℕ)) × AreMapWords board.labels words
+    × (more : List ℕ) × (rest ≡ map_words_line words ++ more) × ¬ SpellLabels board words
+MapMisread board rest kind = ⊥

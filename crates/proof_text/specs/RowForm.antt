@@ -1,5 +1,5 @@
--- How the rows of a section stand in a text, whichever side they are of, in either version.
-use Rattle.std.specs.Prelude.{ℕ, ◌+◌, ◌<◌, ◌≤◌, Bool, if◌then◌else◌, List, length, All, AllPairs}
+-- How the rows of a section stand in a text, whichever side they are of, in each version.
+use Rattle.std.specs.Prelude.{ℕ, suc, ◌+◌, ◌≤◌, Bool, if◌then◌else◌, List, length, All, AllPairs}
 use Rattle.proof_text.specs.ProofText.{section_text}
 
 -- the rows of a section of a document with a claim
@@ -18,8 +18,14 @@ pub record RowForm (X : Type 0) : Type 1 where
   pub AreInOrder : List ℕ → Type 0
   -- the number of places, by which rows ascend
   pub number : List ℕ → ℕ
+  -- whether each number is above that of the row before it; else it is not below
+  pub strict : Bool
   -- the line of a row
   pub line : X → List ℕ
+
+-- the least number of the row after one with this number
+abbrev pub next_number : {X : Type 0} → RowForm X → ℕ → ℕ
+next_number form number = if form.strict then suc number else number
 
 -- the rows of a section: not too many, each as the format has it, its places in order, and all
 -- ascending
@@ -28,7 +34,8 @@ pub record AreRows {X : Type 0} (form : RowForm X) (rows : List X) : Type 0 wher
   pub each : All form.IsRow rows
   pub in_order : All (λ row. form.AreInOrder (form.at row)) rows
   pub ascending : AllPairs
-      (λ first second. form.number (form.at first) < form.number (form.at second)) rows
+      (λ first second. next_number form (form.number (form.at first)) ≤ form.number (form.at second))
+      rows
 
 -- the section's text
 abbrev pub text_of_section : {X : Type 0} → RowForm X → List X → List ℕ

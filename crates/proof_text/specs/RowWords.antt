@@ -61,3 +61,10 @@ abbrev pub class_request_words_line : ClassRequestWords → List ℕ
 class_request_words_line words = with_line_feed
     (codes "at" ++ (spaced_texts words.at
     ++ (codes " for " ++ (words.left ++ (codes " ask" ++ spaced_texts words.ask)))))
+
+-- the texts of a map: as many labels as the board has, each in digits
+abbrev pub AreMapWords : ℕ → List (List ℕ) → Type 0
+AreMapWords labels words = ArePlaceTexts labels labels labels words
+
+abbrev pub map_words_line : List (List ℕ) → List ℕ
+map_words_line words = with_line_feed (codes "map" ++ spaced_texts words)

@@ -1,11 +1,11 @@
--- The faults of a section, whichever side it is of, in either version.
+-- The faults of a section, whichever side it is of, in each version.
 use Rattle.std.specs.Prelude.{◌≡◌, ℕ, ◌+◌, ◌<◌, ◌≤◌, List, [], ◌∷◌, ◌++◌, length}
 use Rattle.std.specs.List.{flat_map}
 use Rattle.board_text.specs.LineForms.{Lacks, number_line}
 use Rattle.board_text.specs.Ranges.{InRange}
 use Rattle.proof_text.specs.declared.fault.ProofKind.{ProofKind}
 use Rattle.proof_text.specs.declared.fault.ProofKind.TheVariants as kinds
-use Rattle.proof_text.specs.RowForm.{RowForm, AreRows}
+use Rattle.proof_text.specs.RowForm.{RowForm, AreRows, next_number}
 
 -- the rows of a section, with the faults of the words of a line
 pub record RowReading (X : Type 0) : Type 1 where
@@ -17,7 +17,7 @@ pub record MayFollow {X : Type 0} (form : RowForm X) (rows : List X)
     (places : List ℕ) : Type 0 where
   pub in_order : form.AreInOrder places
   pub after : (before : List X) (last : X) → rows ≡ before ++ last ∷ []
-      → form.number (form.at last) < form.number places
+      → next_number form (form.number (form.at last)) ≤ form.number places
 
 -- The fault of the text in the place of a row, if it has no fault before it in the order: its words
 -- are misread, or its places may not stand there.

@@ -8,16 +8,15 @@ use std::alloc::AllocError;
 /// The fault of a line of a document's text.
 #[derive(Clone, Copy, Debug, PartialEq, Eq)]
 pub enum ProofKind {
-    /// The first line isn't `proof 1`.
+    /// The first line isn't that of the version.
     Version = 1,
     /// The second line is no claim.
     Claim,
-    /// The head of a section isn't its word and a number of rows from 0 to
-    /// `MAX_CONFIGURATIONS`.
+    /// The head of a section isn't its word and a number of rows within its limit.
     Section,
-    /// A row hasn't the words of its section's rows.
+    /// A row hasn't the words of its section's rows, or a map those of a map.
     Row,
-    /// A place of a row isn't one of the board's, or an answer isn't a label.
+    /// A place of a row isn't one of the board's, or an answer or an image isn't a label.
     Label,
     /// The requested pebble isn't one of the board's.
     Pebble,

@@ -3,10 +3,12 @@
 ghost use Rattle.std.specs.Prelude.{◌≡◌, ◌≢◌, ℕ, ◌<◌, List, slice_index};
 ghost use Rattle.board_text.specs.PlainBoard.{PlainBoard, IsBoard};
 ghost use Rattle.positions.specs.Ranks.{configurations};
-ghost use Rattle.proof_text.specs.Documents.{IsProof, IsClassProof};
+ghost use Rattle.proof_text.specs.Documents.{IsProof, IsClassProof, IsSymmetryProof};
 ghost use Rattle.proof_text.specs.Proof.{PlainProof, IsPadded, answer_row, request_row};
 ghost use Rattle.proof_text.specs.ProofFaults.{HasProofFault, HasClassTextFault};
-ghost use Rattle.proof_text.specs.ProofText.{proof_text, class_text};
+ghost use Rattle.proof_text.specs.ProofFaults.{HasSymmetryTextFault};
+ghost use Rattle.proof_text.specs.ProofText.{proof_text, class_text, symmetry_text};
+ghost use Rattle.proof_text.specs.SymmetryProof.{PlainSymmetryProof};
 ghost use Rattle.proof_text.specs.declared.fault.ProofKind.{ProofKind as Kind};
 ghost use Rattle.proof_text.specs.declared.fault.ProofKind.TheVariants.{Memory as OutOfMemory};
 ghost use Rattle.proof_text.specs.declared.proof.LabellerRow.{LabellerRow as LabellerRowData};
@@ -14,6 +16,7 @@ ghost use Rattle.proof_text.specs.declared.proof.AdversaryRow.{AdversaryRow as A
 
 use crate::class_proof::MAX_CLASS_ROWS;
 use crate::proof::MOST_TURNS;
+use crate::symmetry_proof::MAX_MAPS;
 
 /// For one board a text is that of one document at most. So the text that is printed for a
 /// document is read back as that document.
@@ -70,6 +73,33 @@ pub fn one_class_text_fault()
         → (line ≡ other_line) × (kind ≡ other_kind) }
 {}
 
+/// For one board a text is that of one document up to symmetries at most. So the text that is
+/// printed for a document is read back as that document.
+#[tactic(auto, using(crate::proofs::OneDocument::one_symmetry_document))]
+pub fn one_symmetry_document()
+    ensures { (board : PlainBoard) → (first : PlainSymmetryProof) → (second : PlainSymmetryProof)
+        → IsBoard board → IsSymmetryProof board first → IsSymmetryProof board second
+        → symmetry_text board first ≡ symmetry_text board second → first ≡ second }
+{}
+
+/// No line of the text of a document up to symmetries has a fault but out of memory.
+pub fn symmetry_documents_have_no_fault()
+    ensures { (board : PlainBoard) → (document : PlainSymmetryProof) → (line : ℕ) → (kind : Kind)
+        → IsBoard board → IsSymmetryProof board document
+        → HasSymmetryTextFault board (symmetry_text board document) line kind
+        → kind ≡ OutOfMemory }
+{}
+
+/// For one board a text has one fault at most, apart from out of memory.
+pub fn one_symmetry_text_fault()
+    ensures { (board : PlainBoard) → (text : List ℕ) → (line : ℕ) → (other_line : ℕ) → (kind : Kind)
+        → (other_kind : Kind) → IsBoard board
+        → kind ≢ OutOfMemory → other_kind ≢ OutOfMemory
+        → HasSymmetryTextFault board text line kind
+        → HasSymmetryTextFault board text other_line other_kind
+        → (line ≡ other_line) × (kind ≡ other_kind) }
+{}
+
 /// Rows whose plain forms, with configurations for ranks, are the same are the same in each field.
 pub fn one_row_of_a_rank()
     ensures labeller { (board : PlainBoard) → (first : LabellerRowData) → (second : LabellerRowData)
@@ -84,9 +114,11 @@ pub fn one_row_of_a_rank()
         → request_row board first ≡ request_row board second → first ≡ second }
 {}
 
-/// The greatest number of a document, and the most rows of a section of one by classes.
+/// The greatest number of a document, the most rows of a section of one by classes, and the most
+/// maps of one up to symmetries.
 /// CONTRIBUTING.md lists what else says these numbers.
 pub fn limits()
     ensures turns { MOST_TURNS ≡ 1000000000 }
     ensures class_rows { MAX_CLASS_ROWS ≡ 16777216 }
+    ensures maps { MAX_MAPS ≡ 64 }
 {}

@@ -7,6 +7,7 @@ mod class_proof;
 mod class_rows;
 mod fault;
 mod laws;
+mod maps;
 mod numbers;
 mod parsing;
 mod parts;
@@ -18,17 +19,22 @@ mod row_text;
 mod row_words;
 mod rows;
 mod sections;
+mod symmetry_proof;
 
 pub use claims::write_claim;
 pub use class_proof::{AdversaryClassRow, ClassProof, ClassRow, LabellerClassRow, MAX_CLASS_ROWS};
 pub use fault::{ProofFault, ProofKind};
 pub use laws::{
     class_documents_have_no_fault, documents_have_no_fault, limits, one_class_document,
-    one_class_text_fault, one_document, one_fault, one_row_of_a_rank,
+    one_class_text_fault, one_document, one_fault, one_row_of_a_rank, one_symmetry_document,
+    one_symmetry_text_fault, symmetry_documents_have_no_fault,
 };
 pub use numbers::{arranged_order, class_order, places_at, places_order};
-pub use parsing::{parse, parse_classes};
+pub use parsing::{parse, parse_classes, parse_symmetric};
 pub use positions::{Claim, Turns};
-pub use printing::{first_lines, print, print_classes, print_classes_in_parts, size_of_lines};
+pub use printing::{
+    first_lines, print, print_classes, print_classes_in_parts, print_symmetric, size_of_lines,
+};
 pub use proof::{AdversaryRow, LabellerRow, MOST_TURNS, Proof, Ranked};
 pub use row_text::{PlaceWords, RowText};
+pub use symmetry_proof::{Images, MAX_MAPS, SymmetryProof};

@@ -1,10 +1,11 @@
-//! The rows of a document, of either side and in either version: how they are read and written.
+//! The rows of a document, of either side and in each version: how they are read and written.
 
 ghost use Rattle.std.specs.Prelude.{◌≡◌, ◌<◌, ◌≤◌, ◌++◌, OnOk};
 ghost use Rattle.board_text.specs.PlainBoard.{PlainBoard, IsBoard, places as places_of};
 ghost use Rattle.positions.specs.declared.claim.Claim.{Claim as ClaimData};
 ghost use Rattle.proof_text.specs.SectionFaults.{RowReading};
-ghost use Rattle.proof_text.specs.Inside.Rows.{NextRow, AreKindsOfRows, TakesAnswer};
+ghost use Rattle.proof_text.specs.Inside.Rows.{NextRow, AreKindsOfRows, IsLeast};
+ghost use Rattle.proof_text.specs.Inside.Rows.{TakesAnswer};
 
 use crate::class_proof::{LabellerClassRow, MAX_CLASS_ROWS};
 use crate::fault::ProofKind;
@@ -89,13 +90,14 @@ pub(crate) trait Row<B: BoardOfRows>: Copy {
         ensures few { result ≤ MAX_CLASS_ROWS };
 
     /// Reads the row of the next line. The number of its places must be at least `least`, which
-    /// becomes the number after it.
+    /// becomes the next one.
     fn read(
         text: &mut LineReader<'_>,
         board: &B,
         claim: Claim,
         least: &mut u64,
     ) -> Result<Self, ProofKind>
+        requires { IsLeast (reading (B.board board.now) claim).form least.old }
         ensures { NextRow
             (reading (B.board board.now) claim) least.old least.new result text.old text.new };
 

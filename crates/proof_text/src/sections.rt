@@ -11,6 +11,7 @@ use crate::class_proof::MAX_CLASS_ROWS;
 use crate::fault::{ProofFault, ProofKind};
 use crate::row_text::{PlaceWords, RowText};
 use crate::rows::{BoardOfRows, Row};
+use crate::symmetry_proof::MAX_MAPS;
 use board_text::line_reader::LineReader;
 use positions::Claim;
 use std::alloc::{AllocError, Global};
@@ -26,7 +27,7 @@ pub(crate) fn read_part<B: BoardOfRows, R: Row<B>>(
     line: u32,
 ) -> Result<Vec<R>, ProofFault>
     requires some_bytes { 0 < shortest_row }
-    requires line { line ≤ MAX_CLASS_ROWS + 4 }
+    requires line { line ≤ MAX_CLASS_ROWS + MAX_MAPS + 5 }
     ensures read { IfOk result (λ rows. PartRead
         (R.reading (B.board board.now) claim).form rows.items text.old text.new) }
     ensures few { IfOk result (λ rows. rows.len ≤ MAX_CLASS_ROWS) }

@@ -1,6 +1,5 @@
 -- A check accepts the document that was printed for a board.
 use Rattle.std.proofs.Common.{◌≡◌, ◌≤◌, ◌++◌, ◌∙◌, ℕ, List, [], Option, Some, None, append-nil, ap, refl, subst, sym}
-use Rattle.std.proofs.Common.{inl, inr}
 use Rattle.board_text.specs.Streams.{GaveAll}
 use Rattle.board_text.specs.PlainBoard.{PlainBoard, IsBoard}
 use Rattle.board_text.specs.BoardText.{board_text}
@@ -22,19 +21,24 @@ use Rattle.runs.specs.CheckRun.{RanCheck}
 use Rattle.runs.specs.Verdicts.{IsChecked, IsProofOf, IsVerdict, IsVerdictOf, text_of_proof}
 use Rattle.runs.specs.Run.{Bytes, Ran}
 use Rattle.runs.specs.SolveRun.{IsSolution, IsSolved}
-use Rattle.runs.specs.Texts.{HasNoBoard, HasNoProof, IsBoardAmong, IsBoardWithin, IsByClasses, IsMemory, IsSmallBoard}
+use Rattle.runs.specs.Texts.{BeginsAs, HasFaultAs, HasNoBoard, HasNoProof, IsBoardAmong, IsBoardWithin, IsMemory}
+use Rattle.runs.specs.Texts.{IsSmallBoard}
 use Rattle.runs.specs.Texts.{IsWithinLimit}
 use Rattle.command_line.specs.declared.asked.BoardLimit.{BoardLimit}
 use Rattle.command_line.specs.declared.asked.BoardLimit.TheVariants.{Small}
 use Rattle.runs.specs.Texts.{IsWrongAmong, IsWrongWithin, OfAnySize}
-use Rattle.graphs.specs.declared.graph.Numbering.{Numbering}
-use Rattle.graphs.specs.declared.graph.Numbering.TheVariants.{Ordered, Classes}
-use Rattle.runs.proofs.DocumentKinds.{by_classes, by_ranks}
+use Rattle.proof_text.specs.SymmetryProof.{PlainSymmetryProof}
+use Rattle.proof_text.specs.declared.fault.ProofFault.{ProofFault}
+use Rattle.proof_text.specs.declared.fault.ProofKind.TheVariants.{Memory as OutOfMemory}
+use Rattle.runs.proofs.DocumentKinds.{begins_as, one_version, without_maps}
+use Rattle.runs.specs.declared.verdicts.DocumentVersion.{DocumentVersion}
+use Rattle.runs.specs.declared.verdicts.DocumentVersion.TheVariants.{ByConfigurations}
 use Rattle.runs.specs.declared.fault.RunFault.{RunFault}
 use Rattle.runs.specs.declared.fault.RunFault.TheVariants.{Board, TooLarge, Proof, Memory, Worker, Read, Write, Limit}
 use Rattle.runs.specs.declared.fault.RunFault.TheVariants.{DocumentTooLarge, TooManyChains}
 use Rattle.runs.specs.declared.verdicts.Verdict.{Verdict}
 use Rattle.runs.specs.declared.verdicts.Verdict.TheVariants.{Accepted, Refused, RefusedByClasses}
+use Rattle.runs.specs.declared.verdicts.Verdict.TheVariants.{RefusedUpToSymmetries}
 
 -- the verdict on a document that breaks no rule
 verdict_of : (board : PlainBoard) (proof : PlainProof) (value : Value) (verdict : Verdict)
@@ -43,6 +47,7 @@ verdict_of : (board : PlainBoard) (proof : PlainProof) (value : Value) (verdict 
     → verdict ≡ Accepted (record { claim = claim_of value })
 verdict_of board proof value (Accepted shown) rules claim is = ap (λ c. Accepted (record { claim = c })) (is.0 ∙ claim)
 verdict_of board proof value (RefusedByClasses fault) rules claim is = absurd is
+verdict_of board proof value (RefusedUpToSymmetries fault) rules claim is = absurd is
 verdict_of board proof value (Refused fault) rules claim is = absurd (is.1 (only_memory board proof fault rules is.0))
 
 module _ (board : PlainBoard) (value : Value) (text : List ℕ) (is_board : IsBoard board)
@@ -108,28 +113,39 @@ module _ (text written : List ℕ) (value : Value) (solution : IsSolution text v
     solved : IsSolved board value written
     solved = subst (λ b. IsSolved b value written) (same_board board small.is_board small.spelled) solution.2
 
-    -- it is one by configurations
-    ranked : IsByClasses written → ⊥
-    ranked = by_ranks written board solved.document solved.text_is
+    -- it begins as one by configurations
+    ranked : BeginsAs ByConfigurations written
+    ranked = begins_as ByConfigurations written board (without_maps solved.document) solved.text_is
 
-    accepts_of : (kind : Numbering) (proof : PlainProof) (verdict : Verdict) → IsProofOf kind board proof
-        → written ≡ text_of_proof kind board proof → IsVerdictOf kind board proof verdict
+    accepts_of : (version : DocumentVersion) (proof : PlainSymmetryProof) (verdict : Verdict)
+        → version ≡ ByConfigurations → IsProofOf version board proof
+        → written ≡ text_of_proof version board proof → IsVerdictOf version board proof verdict
         → verdict ≡ Accepted (record { claim = claim_of value })
-    accepts_of Ordered proof verdict (few, is_proof) spelled is =
-        accepts board value written small.is_board
-        small.few solved proof verdict is_proof spelled is
-    accepts_of Classes proof verdict is_proof spelled is = absurd (ranked (by_classes written board proof spelled))
+    accepts_of version proof verdict same is_proof spelled is =
+        let formed : IsProofOf ByConfigurations board proof = subst (λ v. IsProofOf v board proof) same is_proof in
+        accepts board value written small.is_board small.few solved proof.rows verdict formed.1
+        (subst (λ v. written ≡ text_of_proof v board proof) same spelled)
+        (subst (λ v. IsVerdictOf v board proof verdict) same is)
 
     pub accepts_text : (verdict : Verdict) (line : List ℕ) → IsChecked board written verdict line
         → verdict ≡ Accepted (record { claim = claim_of value })
-    accepts_text verdict line is = accepts_of is.kind is.proof verdict is.is_proof is.text_is is.verdict_is
+    accepts_text verdict line is =
+        accepts_of is.version is.proof verdict
+        (one_version written is.version ByConfigurations (begins_as is.version written board is.proof is.text_is) ranked)
+        is.is_proof is.text_is is.verdict_is
+
+    faultless_as : (version : DocumentVersion) (fault : ProofFault) → version ≡ ByConfigurations
+        → HasFaultAs version board written fault → fault.kind ≡ OutOfMemory
+    faultless_as version fault same has =
+        let told : HasFaultAs ByConfigurations board written fault =
+        subst (λ v. HasFaultAs v board written fault) same has in
+        faultless_document board written fault.line fault.kind solved.document small.is_board
+        (is_formed board solved.document small.is_board.start small.few solved.is_document)
+        solved.text_is told.1
 
     pub no_fault_of_document : (fault : RunFault) → HasNoProof board written fault → IsMemory fault
-    no_fault_of_document (Proof fault) (inl (begins, has), not) = absurd (ranked begins)
-    no_fault_of_document (Proof fault) (inr (begins, few, has), not) =
-        absurd (not (faultless_document board written fault.line fault.kind solved.document small.is_board
-        (is_formed board solved.document small.is_board.start small.few solved.is_document)
-        solved.text_is has))
+    no_fault_of_document (Proof fault) (version, begins, has, not) =
+        absurd (not (faultless_as version fault (one_version written version ByConfigurations begins ranked) has))
     no_fault_of_document Memory wrong = refl
     no_fault_of_document TooLarge (begins, large) = absurd (large small.few)
     no_fault_of_document (Board fault) wrong = absurd wrong

@@ -13,18 +13,19 @@ use Rattle.proof_text.specs.ProofText.{claim_words}
 use Rattle.proof_text.specs.Proof.{PlainProof, IsClaim}
 use Rattle.proof_text.specs.declared.proof.TheConstants.{MOST_TURNS}
 use Rattle.proof_check.specs.declared.checking.Shown.{Shown}
-use Rattle.proof_check.specs.declared.fault.CheckFault.{CheckFault}
-use Rattle.proof_check.specs.declared.class_fault.ClassFault.{ClassFault}
-use Rattle.graphs.specs.declared.graph.Numbering.{Numbering}
-use Rattle.graphs.specs.declared.graph.Numbering.TheVariants.{Ordered, Classes}
+use Rattle.proof_text.specs.SymmetryProof.{PlainSymmetryProof}
 use Rattle.positions.specs.Game.{LabellerTree}
-use Rattle.runs.proofs.DocumentKinds.{by_classes}
-use Rattle.runs.specs.Output.{class_fault_words, fault_words, line_of}
-use Rattle.runs.specs.Verdicts.{BeginsWithBoard, IsChecked, IsClassVerdict, IsProofOf, IsVerdict, IsVerdictOf}
-use Rattle.runs.specs.Verdicts.{text_of_proof}
+use Rattle.runs.proofs.DocumentKinds.{begins_as}
+use Rattle.runs.specs.Output.{class_fault_words, fault_words, line_of, symmetry_fault_words}
+use Rattle.runs.specs.Texts.{BeginsAs}
+use Rattle.runs.specs.Verdicts.{BeginsWithBoard, IsChecked, IsClassVerdict, IsProofOf, IsSymmetryVerdict, IsVerdict}
+use Rattle.runs.specs.Verdicts.{IsVerdictOf, text_of_proof}
+use Rattle.runs.specs.declared.verdicts.DocumentVersion.{DocumentVersion}
+use Rattle.runs.specs.declared.verdicts.DocumentVersion.TheVariants.{ByClasses, ByConfigurations, UpToSymmetries}
 use Rattle.runs.specs.Meaning.{AcceptsLeast, CanAnswer}
 use Rattle.runs.specs.declared.verdicts.Verdict.{Verdict}
 use Rattle.runs.specs.declared.verdicts.Verdict.TheVariants.{Accepted, Refused, RefusedByClasses}
+use Rattle.runs.specs.declared.verdicts.Verdict.TheVariants.{RefusedUpToSymmetries}
 
 -- a line that says `least` is that of a claim `least`
 least_only : (claim : Claim) (number : ℕ) → IsClaim claim → number ≤ MOST_TURNS
@@ -51,20 +52,9 @@ least_only (AtLeast n) number is few same =
     append_cancel_left (codes "accepted least ") (decimal n) (decimal number) words in
     ap AtLeast (decimal_injective n number (omega (arith, is)) (omega (arith, few)) digits)
 
-refused_differs : (board : PlainBoard) (fault : CheckFault) (number : ℕ)
-    → with_line_feed (codes "refused " ++ fault_words board fault)
-    ≡ with_line_feed (codes "accepted least " ++ decimal number)
-    → ⊥
-refused_differs board fault number same = other (ap (λ (l : List ℕ). get_or l 0 0) same)
-  where
-    other : ◌≡◌ {A = ℕ} 114 97 → ⊥
-    other is = absurd (omega (arith, is))
-
-refused_class_differs : (board : PlainBoard) (fault : ClassFault) (number : ℕ)
-    → with_line_feed (codes "refused " ++ class_fault_words board fault)
-    ≡ with_line_feed (codes "accepted least " ++ decimal number)
-    → ⊥
-refused_class_differs board fault number same = other (ap (λ (l : List ℕ). get_or l 0 0) same)
+refused_differs : (words : List ℕ) (number : ℕ)
+    → with_line_feed (codes "refused " ++ words) ≡ with_line_feed (codes "accepted least " ++ decimal number) → ⊥
+refused_differs words number same = other (ap (λ (l : List ℕ). get_or l 0 0) same)
   where
     other : ◌≡◌ {A = ℕ} 114 97 → ⊥
     other is = absurd (omega (arith, is))
@@ -78,43 +68,56 @@ tree_of_least board number (inr (depth, least, value)) =
 
 module _ (text : List ℕ) (number : ℕ) (board : PlainBoard) (rest : List ℕ) (few : number ≤ MOST_TURNS)
     (begins : BeginsWithBoard text board rest) where
-  -- an accepted document of either kind
-  accepted : (kind : Numbering) (proof : PlainProof) (shown : Shown) → IsProofOf kind board proof
-      → rest ≡ text_of_proof kind board proof → IsVerdictOf kind board proof (Accepted shown)
+  -- an accepted document whose claim holds, and which isn't by configurations
+  accepted_as : (claim : Claim) (shown : Shown) → IsClaim claim → shown.claim ≡ claim → Holds board claim
+      → with_line_feed (codes "accepted least " ++ decimal number) ≡ line_of board (Accepted shown)
+      → ¬ BeginsAs ByConfigurations rest → CanAnswer text number
+  accepted_as claim shown is same holds line other =
+      let least = least_only shown.claim number (subst IsClaim (sym same) is) few (sym line) in
+      record {
+        board = board;
+        rest = rest;
+        is_board = begins.is_board;
+        text_is = begins.text_is;
+        tree = tree_of_least board number (subst (Holds board) (sym same ∙ least) holds);
+        answers = λ ranked. absurd (other ranked);
+      }
+
+  -- an accepted document of any version
+  accepted : (version : DocumentVersion) (proof : PlainSymmetryProof) (shown : Shown) → IsProofOf version board proof
+      → rest ≡ text_of_proof version board proof → IsVerdictOf version board proof (Accepted shown)
       → with_line_feed (codes "accepted least " ++ decimal number) ≡ line_of board (Accepted shown)
       → CanAnswer text number
-  accepted Ordered proof shown (small, is) spelled verdict line =
-      let claim : shown.claim ≡ proof.claim = verdict.0 in
+  accepted ByConfigurations proof shown (small, is) spelled verdict line =
+      let claim : shown.claim ≡ proof.rows.claim = verdict.0 in
       let least = least_only shown.claim number (subst IsClaim (sym claim) is.claim) few (sym line) in
-      let shows : Shows board proof.labeller proof.adversary (AtLeast number) =
-      subst (Shows board proof.labeller proof.adversary) (sym claim ∙ least) verdict.2 in
+      let shows : Shows board proof.rows.labeller proof.rows.adversary (AtLeast number) =
+      subst (Shows board proof.rows.labeller proof.rows.adversary) (sym claim ∙ least) verdict.2 in
       record {
         board = board;
         rest = rest;
         is_board = begins.is_board;
         text_is = begins.text_is;
-        tree = tree_from_answers board proof.labeller number board.start shows;
-        answers = λ other. (proof.labeller, shows);
+        tree = tree_from_answers board proof.rows.labeller number board.start shows;
+        answers = λ ranked. (proof.rows.labeller, shows);
       }
-  accepted Classes proof shown is spelled verdict line =
-      let claim : shown.claim ≡ proof.claim = verdict.0 in
-      let least = least_only shown.claim number (subst IsClaim (sym claim) is.claim) few (sym line) in
-      record {
-        board = board;
-        rest = rest;
-        is_board = begins.is_board;
-        text_is = begins.text_is;
-        tree = tree_of_least board number (subst (Holds board) (sym claim ∙ least) verdict.2);
-        answers = λ other. absurd (other (by_classes rest board proof spelled));
-      }
+  accepted ByClasses proof shown is spelled verdict line =
+      accepted_as proof.rows.claim shown is.claim verdict.0 verdict.2 line (λ ranked.
+      ranked (inl (begins_as ByClasses rest board proof spelled)))
+  accepted UpToSymmetries proof shown is spelled verdict line =
+      accepted_as proof.rows.claim shown is.rows.claim verdict.0 verdict.2 line (λ ranked.
+      ranked (inr (begins_as UpToSymmetries rest board proof spelled)))
 
   can_answer_by : (verdict : Verdict)
       → IsChecked board rest verdict (with_line_feed (codes "accepted least " ++ decimal number))
       → CanAnswer text number
-  can_answer_by (Refused fault) is = absurd (refused_differs board fault number (sym is.line_is))
-  can_answer_by (RefusedByClasses fault) is = absurd (refused_class_differs board fault number (sym is.line_is))
+  can_answer_by (Refused fault) is = absurd (refused_differs (fault_words board fault) number (sym is.line_is))
+  can_answer_by (RefusedByClasses fault) is =
+      absurd (refused_differs (class_fault_words board fault) number (sym is.line_is))
+  can_answer_by (RefusedUpToSymmetries fault) is =
+      absurd (refused_differs (symmetry_fault_words board fault) number (sym is.line_is))
   can_answer_by (Accepted shown) is =
-      accepted is.kind is.proof shown is.is_proof is.text_is is.verdict_is is.line_is
+      accepted is.version is.proof shown is.is_proof is.text_is is.verdict_is is.line_is
 
 pub can_answer : (text : List ℕ) (number : ℕ) → AcceptsLeast text number → CanAnswer text number
 can_answer text number (
@@ -131,3 +134,7 @@ claim_holds board proof shown is (claim, rules, shows) =
 pub class_claim_holds : (board : PlainBoard) (proof : PlainProof) (shown : Shown)
     → IsClassVerdict board proof (Accepted shown) → Holds board shown.claim
 class_claim_holds board proof shown (claim, rules, holds, each) = subst (Holds board) (sym claim) holds
+
+pub symmetry_claim_holds : (board : PlainBoard) (proof : PlainSymmetryProof) (shown : Shown)
+    → IsSymmetryVerdict board proof (Accepted shown) → Holds board shown.claim
+symmetry_claim_holds board proof shown (claim, rules, holds, each) = subst (Holds board) (sym claim) holds

@@ -1,5 +1,5 @@
 -- A text has one solution by classes or one fault, and a check accepts the solution.
-use Rattle.std.proofs.Common.{◌≡◌, ◌-◌, ◌<◌, ◌≤◌, ◌⊎◌, ℕ, List, length, refl, sym, ap, ◌∙◌, subst, arith, inl, inr}
+use Rattle.std.proofs.Common.{◌≡◌, ◌-◌, ◌≤◌, ◌⊎◌, ℕ, List, length, refl, sym, ap, ◌∙◌, subst, arith, inl, inr}
 use Rattle.std.proofs.lemmas.Bool.{cases_lt}
 use Rattle.board_text.specs.PlainBoard.{PlainBoard, places}
 use Rattle.board_text.proofs.Cited.{one_board}
@@ -12,15 +12,19 @@ use Rattle.proof_text.specs.ProofText.{class_text}
 use Rattle.proof_text.specs.Documents.{IsClassProof}
 use Rattle.classes.specs.Numbers.{ways}
 use Rattle.gap_values.specs.declared.rounds.TheConstants.{MAX_GAPS}
-use Rattle.graphs.specs.declared.graph.Numbering.{Numbering}
-use Rattle.graphs.specs.declared.graph.Numbering.TheVariants.{Ordered, Classes}
+use Rattle.proof_text.specs.SymmetryProof.{PlainSymmetryProof}
+use Rattle.proof_text.specs.declared.fault.ProofFault.{ProofFault}
+use Rattle.proof_text.specs.declared.fault.ProofKind.TheVariants.{Memory as OutOfMemory}
+use Rattle.runs.specs.declared.verdicts.DocumentVersion.{DocumentVersion}
+use Rattle.runs.specs.declared.verdicts.DocumentVersion.TheVariants.{ByClasses}
 use Rattle.command_line.specs.declared.asked.BoardLimit.TheVariants.{Large}
 use Rattle.positions.specs.Claim.{claim_of}
 use Rattle.positions.specs.declared.value.Value.{Value}
 use Rattle.positions.proofs.Cited.{same_value, some_value}
 use Rattle.proof_text.specs.Proof.{PlainProof}
 use Rattle.runs.specs.ClassSolveRun.{HasLongDocument, IsClassSolution, IsSolvedByClasses, IsUnsolvedByClasses}
-use Rattle.runs.specs.Texts.{HasNoProof, IsBoardAmong, IsBoardWithin, IsByClasses, IsMemory, IsWrongWithin, OfAnySize}
+use Rattle.runs.specs.Texts.{BeginsAs, HasFaultAs, HasNoProof, IsBoardAmong, IsBoardWithin, IsMemory, IsWrongWithin}
+use Rattle.runs.specs.Texts.{OfAnySize}
 use Rattle.runs.specs.declared.checking.TheConstants.{MAX_PROOF_BYTES}
 use Rattle.runs.specs.Verdicts.{IsChecked, IsClassVerdict, IsProofOf, IsVerdictOf, text_of_proof}
 use Rattle.runs.specs.declared.fault.RunFault.{RunFault}
@@ -28,8 +32,9 @@ use Rattle.runs.specs.declared.fault.RunFault.TheVariants.{Board, TooLarge, Proo
 use Rattle.runs.specs.declared.fault.RunFault.TheVariants.{DocumentTooLarge, TooManyChains}
 use Rattle.runs.specs.declared.verdicts.Verdict.{Verdict}
 use Rattle.runs.specs.declared.verdicts.Verdict.TheVariants.{Accepted, Refused, RefusedByClasses}
+use Rattle.runs.specs.declared.verdicts.Verdict.TheVariants.{RefusedUpToSymmetries}
 use Rattle.runs.proofs.AcceptedDocuments.{not_wrong}
-use Rattle.runs.proofs.DocumentKinds.{by_classes, by_ranks}
+use Rattle.runs.proofs.DocumentKinds.{begins_as, one_version, without_maps}
 use Rattle.runs.proofs.OneOutcome.{one_wrong}
 use Rattle.runs.proofs.Solutions.{board_or_wrong}
 
@@ -158,8 +163,8 @@ module _ (text written : List ℕ) (value : Value) (solution : IsClassSolution t
       (short_text_fits board solved.document solved.is_document (omega (arith, few))
       (omega (arith, size, solved.short)))
 
-  by_class : IsByClasses written
-  by_class = by_classes written board solved.document solved.text_is
+  by_class : BeginsAs ByClasses written
+  by_class = begins_as ByClasses written board (without_maps solved.document) solved.text_is
 
   verdict_of : (proof : PlainProof) (verdict : Verdict) → solved.document ≡ proof → IsClassVerdict board proof verdict
       → verdict ≡ Accepted (record { claim = claim_of value })
@@ -169,32 +174,42 @@ module _ (text written : List ℕ) (value : Value) (solution : IsClassSolution t
       ap (λ c. Accepted (record { claim = c })) (told.0 ∙ ap (λ (p : PlainProof). p.claim) (sym same)
       ∙ solved.is_document.claim ∙ ap claim_of worth)
   verdict_of proof (Refused fault) same told = absurd told
+  verdict_of proof (RefusedUpToSymmetries fault) same told = absurd told
   verdict_of proof (RefusedByClasses fault) same told =
       absurd (no_class_fault (arranged board.labels) board solved.document fault
       (breaks_no_class_rule board solved.document is.is_board.start solved.is_document)
       (subst (λ p. IsClassVerdict board p (RefusedByClasses fault)) (sym same) told))
 
-  accepts_of : (kind : Numbering) (proof : PlainProof) (verdict : Verdict) → IsProofOf kind board proof
-      → written ≡ text_of_proof kind board proof → IsVerdictOf kind board proof verdict
+  accepts_of : (version : DocumentVersion) (proof : PlainSymmetryProof) (verdict : Verdict) → version ≡ ByClasses
+      → IsProofOf version board proof → written ≡ text_of_proof version board proof
+      → IsVerdictOf version board proof verdict
       → verdict ≡ Accepted (record { claim = claim_of value })
-  accepts_of Ordered proof verdict is_proof spelled told = absurd (by_ranks written board proof spelled by_class)
-  accepts_of Classes proof verdict is_proof spelled told =
-      verdict_of proof verdict (one_class_document board solved.document proof is.is_board
-      has_the_form is_proof
-      (sym solved.text_is ∙ spelled)) told
+  accepts_of version proof verdict same is_proof spelled told =
+      let spelled_so : written ≡ class_text board proof.rows =
+      subst (λ v. written ≡ text_of_proof v board proof) same spelled in
+      verdict_of proof.rows verdict (one_class_document board solved.document proof.rows is.is_board has_the_form
+      (subst (λ v. IsProofOf v board proof) same is_proof) (sym solved.text_is ∙ spelled_so))
+      (subst (λ v. IsVerdictOf v board proof verdict) same told)
 
   pub class_document_accepted : (verdict : Verdict) (line : List ℕ) → IsChecked board written verdict line
       → verdict ≡ Accepted (record { claim = claim_of value })
   class_document_accepted verdict line checked =
-      accepts_of checked.kind checked.proof verdict checked.is_proof checked.text_is checked.verdict_is
+      accepts_of checked.version checked.proof verdict
+      (one_version written checked.version ByClasses
+      (begins_as checked.version written board checked.proof checked.text_is) by_class)
+      checked.is_proof checked.text_is checked.verdict_is
+
+  faultless_as : (version : DocumentVersion) (fault : ProofFault) → version ≡ ByClasses
+      → HasFaultAs version board written fault → fault.kind ≡ OutOfMemory
+  faultless_as version fault same has =
+      faultless_document board written fault.line fault.kind solved.document is.is_board has_the_form solved.text_is
+      (subst (λ v. HasFaultAs v board written fault) same has)
 
   pub class_document_faultless : (fault : RunFault) → HasNoProof board written fault → IsMemory fault
-  class_document_faultless (Proof fault) (inl (begins, has), not) =
-      absurd (not (faultless_document board written fault.line fault.kind solved.document is.is_board
-      has_the_form solved.text_is has))
-  class_document_faultless (Proof fault) (inr (begins, small, has), not) = absurd (begins by_class)
+  class_document_faultless (Proof fault) (version, begins, has, not) =
+      absurd (not (faultless_as version fault (one_version written version ByClasses begins by_class) has))
   class_document_faultless Memory wrong = refl
-  class_document_faultless TooLarge (begins, large) = absurd (begins by_class)
+  class_document_faultless TooLarge (begins, large) = absurd (begins (inl by_class))
   class_document_faultless (Board fault) wrong = absurd wrong
   class_document_faultless Worker wrong = absurd wrong
   class_document_faultless Read wrong = absurd wrong

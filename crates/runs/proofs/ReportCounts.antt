@@ -1,10 +1,9 @@
 -- The counts of a report, value by value.
-use Rattle.std.proofs.Common.{◌≡◌, ℕ, suc, ◌+◌, ◌<◌, ◌≤◌, List, [], ◌∷◌, ◌++◌, length, slice_index, take, sym, ap, ◌∙◌}
+use Rattle.std.proofs.Common.{◌≡◌, ℕ, suc, ◌+◌, ◌<◌, List, [], ◌∷◌, ◌++◌, length, slice_index, take, sym, ap, ◌∙◌}
 use Rattle.std.proofs.Common.{arith, length-take-le}
 use Rattle.std.proofs.lemmas.List.{append_assoc, append-nil}
 use Rattle.std.proofs.Math.Seq.{take-suc}
 use Rattle.board_text.specs.PlainBoard.{PlainBoard}
-use Rattle.positions.specs.declared.value.Value.{Value}
 use Rattle.runs.specs.Report.{IsReportOf, head_lines, start_value_line, count_line, count_lines, end_lines}
 use Rattle.runs.specs.Inside.Counting.{IsBoardCounted}
 use Rattle.runs.specs.declared.counting.Counted.{Counted}

@@ -7,8 +7,9 @@ use Rattle.board_text.specs.BoardText.{board_text}
 use Rattle.positions.specs.Game.{LabellerTree}
 use Rattle.positions.specs.Table.{AnswerRow, Answers}
 use Rattle.proof_text.specs.declared.proof.TheConstants.{MOST_TURNS}
-use Rattle.runs.specs.Texts.{IsByClasses}
+use Rattle.runs.specs.Texts.{BeginsAs}
 use Rattle.runs.specs.Verdicts.{IsAnswered}
+use Rattle.runs.specs.declared.verdicts.DocumentVersion.TheVariants.{ByConfigurations}
 use Rattle.runs.specs.declared.verdicts.Verdict.{Verdict}
 
 -- the text was answered with the line `accepted least k`, k being a number that documents have
@@ -17,13 +18,13 @@ AcceptsLeast text number =
     (number ≤ MOST_TURNS) × (verdict : Verdict)
     × IsAnswered text verdict (with_line_feed (codes "accepted least " ++ decimal number))
 
--- the text begins with a board's; the labeller has a tree of this depth for its start, and unless
--- the rest is by classes, a table answers this number of requests, whichever they are
+-- the text begins with a board's; the labeller has a tree of this depth for its start, and if the
+-- rest is by configurations, a table answers this number of requests, whichever they are
 pub record CanAnswer (text : List ℕ) (number : ℕ) : Type 0 where
   pub board : PlainBoard
   pub rest : List ℕ
   pub is_board : IsBoard board
   pub text_is : text ≡ board_text board ++ rest
   pub tree : LabellerTree board number board.start
-  pub answers : (IsByClasses rest → ⊥)
+  pub answers : BeginsAs ByConfigurations rest
       → (table : List AnswerRow) × Answers board table number board.start

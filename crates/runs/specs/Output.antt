@@ -7,6 +7,10 @@ use Rattle.board_text.specs.PlainBoard.{PlainBoard}
 use Rattle.proof_text.specs.Arranged.{arranged_at}
 use Rattle.proof_check.specs.declared.class_fault.ClassFault.{ClassFault}
 use Rattle.proof_check.specs.declared.class_fault.ClassFault.TheVariants as class_faults
+use Rattle.proof_check.specs.declared.symmetry_fault.SymmetryFault.{SymmetryFault}
+use Rattle.proof_check.specs.declared.symmetry_fault.SymmetryFault.TheVariants as symmetry_faults
+use Rattle.symmetries.specs.declared.maps.MapFault.{MapFault}
+use Rattle.symmetries.specs.declared.maps.MapFault.TheVariants.{Missing, Pair}
 use Rattle.command_line.specs.Reading.{side_word}
 use Rattle.positions.specs.Ranks.{configuration_at}
 use Rattle.proof_text.specs.ProofText.{claim_words}
@@ -16,6 +20,7 @@ use Rattle.proof_check.specs.declared.fault.CheckFault.{CheckFault}
 use Rattle.proof_check.specs.declared.fault.CheckFault.TheVariants as faults
 use Rattle.runs.specs.declared.verdicts.Verdict.{Verdict}
 use Rattle.runs.specs.declared.verdicts.Verdict.TheVariants.{Accepted, Refused, RefusedByClasses}
+use Rattle.runs.specs.declared.verdicts.Verdict.TheVariants.{RefusedUpToSymmetries}
 
 -- the word for a row's turns: a labeller's row has an answer for
 -- each pebble, an adversary's leads on by labels
@@ -70,9 +75,28 @@ class_fault_words board (class_faults.NotStuck at label) =
 class_fault_words board (class_faults.TooLarge at label) =
     class_row_words board Adversary at label ++ codes " too large"
 
+-- the words for what is wrong with the map of this number
+abbrev pub map_fault_words : ℕ → MapFault → List ℕ
+map_fault_words number (Missing label) =
+    codes "symmetry " ++ decimal number ++ codes " label " ++ decimal label
+map_fault_words number (Pair x y) =
+    codes "symmetry " ++ decimal number ++ codes " labels " ++ decimal x ++ codes " " ++ decimal y
+
+-- the words for a fault of a check up to symmetries; out of memory has none
+abbrev pub symmetry_fault_words : PlainBoard → SymmetryFault → List ℕ
+symmetry_fault_words board (symmetry_faults.Map number fault) = map_fault_words number fault
+symmetry_fault_words board symmetry_faults.TooMany = codes "symmetries too many"
+symmetry_fault_words board (symmetry_faults.NotLeast side at) =
+    side_word side ++ codes " row" ++ spaced_places board.labels (arranged_at board at)
+    ++ codes " not the least alike"
+symmetry_fault_words board (symmetry_faults.Row fault) = class_fault_words board fault
+symmetry_fault_words board symmetry_faults.Memory = []
+
 -- the line of a verdict
 abbrev pub line_of : PlainBoard → Verdict → List ℕ
 line_of board (Accepted shown) = with_line_feed (codes "accepted " ++ claim_words shown.claim)
 line_of board (Refused fault) = with_line_feed (codes "refused " ++ fault_words board fault)
 line_of board (RefusedByClasses fault) =
     with_line_feed (codes "refused " ++ class_fault_words board fault)
+line_of board (RefusedUpToSymmetries fault) =
+    with_line_feed (codes "refused " ++ symmetry_fault_words board fault)

@@ -4,7 +4,7 @@ use Rattle.board_text.specs.PlainBoard.{PlainBoard, IsBoard, places}
 use Rattle.board_text.specs.BoardText.{board_text}
 use Rattle.board_text.specs.BoardFaults as board_faults
 use Rattle.board_text.specs.declared.fault.BoardKind.TheVariants as board_kinds
-use Rattle.proof_text.specs.ProofFaults.{HasClassTextFault}
+use Rattle.proof_text.specs.ProofFaults.{HasClassTextFault, HasSymmetryTextFault}
 use Rattle.classes.specs.Numbers.{ways}
 use Rattle.gap_values.specs.declared.rounds.TheConstants.{MAX_GAPS}
 use Rattle.positions.specs.Ranks.{configurations}
@@ -12,9 +12,13 @@ use Rattle.positions.specs.declared.space.TheConstants.{MAX_CONFIGURATIONS}
 use Rattle.command_line.specs.declared.asked.BoardLimit.{BoardLimit}
 use Rattle.command_line.specs.declared.asked.BoardLimit.TheVariants.{Small, Large}
 use Rattle.proof_text.specs.ProofFaults as proof_faults
+use Rattle.proof_text.specs.declared.fault.ProofFault.{ProofFault}
 use Rattle.proof_text.specs.declared.fault.ProofKind.TheVariants as proof_kinds
 use Rattle.runs.specs.declared.fault.RunFault.{RunFault}
 use Rattle.runs.specs.declared.fault.RunFault.TheVariants.{Board, TooLarge, Proof, Memory}
+use Rattle.runs.specs.declared.verdicts.DocumentVersion.{DocumentVersion}
+use Rattle.runs.specs.declared.verdicts.DocumentVersion.TheVariants.{ByClasses, ByConfigurations}
+use Rattle.runs.specs.declared.verdicts.DocumentVersion.TheVariants.{UpToSymmetries}
 
 -- ---- boards
 
@@ -73,19 +77,26 @@ HasNoBoard = HasNoneWithin Small
 
 -- ---- documents
 
--- the text begins as that of a document by classes
-abbrev pub IsByClasses : List ℕ → Type 0
-IsByClasses text = take 8 text ≡ codes "proof 2\n"
+-- the version that the first line of a text says; without such a line it is that by configurations
+abbrev pub BeginsAs : DocumentVersion → List ℕ → Type 0
+BeginsAs ByClasses text = take 8 text ≡ codes "proof 2\n"
+BeginsAs UpToSymmetries text = take 8 text ≡ codes "proof 3\n"
+BeginsAs ByConfigurations text = ¬ (take 8 text ≡ codes "proof 2\n" ⊎ take 8 text ≡ codes "proof 3\n")
 
--- the fault of a text that is no document's for the board: of one by classes, if it begins so; else
--- of one by configurations, which only a board of few enough has
+-- the fault of a text that is no document's of the version for the board; one by configurations
+-- only a board of few enough has
+abbrev pub HasFaultAs : DocumentVersion → PlainBoard → List ℕ → ProofFault → Type 0
+HasFaultAs ByClasses board text fault = HasClassTextFault board text fault.line fault.kind
+HasFaultAs UpToSymmetries board text fault = HasSymmetryTextFault board text fault.line fault.kind
+HasFaultAs ByConfigurations board text fault = IsWithinLimit Small board
+    × proof_faults.HasProofFault board text fault.line fault.kind
+
+-- the fault of a text that is no document's for the board, of the version that it begins as
 abbrev pub IsWrongProof : PlainBoard → List ℕ → RunFault → Type 0
-IsWrongProof board text (Proof fault) =
-    ((IsByClasses text × HasClassTextFault board text fault.line fault.kind)
-    ⊎ ((IsByClasses text → ⊥) × IsWithinLimit Small board
-    × proof_faults.HasProofFault board text fault.line fault.kind))
-    × (fault.kind ≢ proof_kinds.Memory)
-IsWrongProof board text TooLarge = (IsByClasses text → ⊥) × (IsWithinLimit Small board → ⊥)
+IsWrongProof board text (Proof fault) = (version : DocumentVersion) × BeginsAs version text
+    × HasFaultAs version board text fault × (fault.kind ≢ proof_kinds.Memory)
+IsWrongProof board text TooLarge =
+    BeginsAs ByConfigurations text × (IsWithinLimit Small board → ⊥)
 IsWrongProof board text fault = ⊥
 
 -- the fault of a text that is no document's, or out of memory

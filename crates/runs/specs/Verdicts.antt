@@ -5,23 +5,30 @@ use Rattle.board_text.specs.BoardText.{board_text}
 use Rattle.board_text.specs.BoardFaults as board_faults
 use Rattle.board_text.specs.declared.fault.BoardKind.TheVariants as board_kinds
 use Rattle.proof_check.specs.ClassFaults.{IsFirstClassFault}
-use Rattle.proof_text.specs.Documents.{IsClassProof, IsProof}
-use Rattle.proof_text.specs.ProofText.{class_text, proof_text}
+use Rattle.proof_text.specs.Documents.{IsClassProof, IsProof, IsSymmetryProof}
+use Rattle.proof_text.specs.ProofText.{class_text, proof_text, symmetry_text}
+use Rattle.proof_text.specs.SymmetryProof.{PlainSymmetryProof}
+use Rattle.symmetries.specs.Symmetries.{AreAlike, IsGroupOf}
 use Rattle.classes.specs.Classes.{class_of}
-use Rattle.graphs.specs.declared.graph.Numbering.{Numbering}
-use Rattle.graphs.specs.declared.graph.Numbering.TheVariants.{Ordered, Classes}
+use Rattle.positions.specs.declared.claim.Claim.{Claim}
 use Rattle.positions.specs.Claim.{Holds, Shows, HoldsAt}
 use Rattle.proof_text.specs.Proof.{PlainProof}
 use Rattle.proof_text.specs.Positions.{class_positions, configuration_positions}
 use Rattle.proof_text.specs.Rules.{BreaksNoRule}
 use Rattle.proof_check.specs.CheckFaults.{IsCheckFault}
+use Rattle.proof_check.specs.SymmetryFaults.{BreaksNoRuleUpTo, IsFirstSymmetryFault}
 use Rattle.proof_check.specs.declared.fault.CheckFault.TheVariants as check_faults
+use Rattle.proof_check.specs.declared.symmetry_fault.SymmetryFault.TheVariants as symmetry_faults
 use Rattle.runs.specs.Joined.{IsBoardLength}
 use Rattle.runs.specs.Output.{line_of}
 use Rattle.runs.specs.Texts.{IsWithinLimit, IsWrongProof}
 use Rattle.command_line.specs.declared.asked.BoardLimit.TheVariants.{Small}
+use Rattle.runs.specs.declared.verdicts.DocumentVersion.{DocumentVersion}
+use Rattle.runs.specs.declared.verdicts.DocumentVersion.TheVariants.{ByClasses, ByConfigurations}
+use Rattle.runs.specs.declared.verdicts.DocumentVersion.TheVariants.{UpToSymmetries}
 use Rattle.runs.specs.declared.verdicts.Verdict.{Verdict}
 use Rattle.runs.specs.declared.verdicts.Verdict.TheVariants.{Accepted, Refused, RefusedByClasses}
+use Rattle.runs.specs.declared.verdicts.Verdict.TheVariants.{RefusedUpToSymmetries}
 use Rattle.runs.specs.declared.fault.RunFault.{RunFault}
 use Rattle.runs.specs.declared.fault.RunFault.TheVariants.{Board, Memory}
 
@@ -33,7 +40,7 @@ IsVerdict board proof (Accepted shown) =
     × Shows board proof.labeller proof.adversary proof.claim
 IsVerdict board proof (Refused fault) =
     IsCheckFault board proof fault × (fault ≢ check_faults.Memory)
-IsVerdict board proof (RefusedByClasses fault) = ⊥
+IsVerdict board proof verdict = ⊥
 
 -- the board's document by classes is accepted only where it breaks no rule, and its claim holds of
 -- each start of the class; it is refused with its first fault
@@ -43,32 +50,52 @@ IsClassVerdict board proof (Accepted shown) =
     × Holds board proof.claim
     × ((configuration : List ℕ) → IsConfiguration board configuration
     → class_of configuration ≡ class_of board.start → HoldsAt board configuration proof.claim)
-IsClassVerdict board proof (Refused fault) = ⊥
 IsClassVerdict board proof (RefusedByClasses fault) = IsFirstClassFault board proof fault
+IsClassVerdict board proof verdict = ⊥
 
--- ---- documents of either kind: a row for each configuration, or for each class
+-- the claim holds of each configuration that is alike to the start by what the maps make
+abbrev pub HoldsOfAlike : PlainBoard → List (List ℕ) → Claim → Type 0
+HoldsOfAlike board maps claim =
+    (group : List (List ℕ)) → IsGroupOf board.labels maps group
+    → (configuration : List ℕ) → IsConfiguration board configuration
+    → AreAlike board.labels group board.start configuration → HoldsAt board configuration claim
 
--- a document of the kind for the board, which has few configurations if each has a row
-abbrev pub IsProofOf : Numbering → PlainBoard → PlainProof → Type 0
-IsProofOf Ordered board proof = IsWithinLimit Small board × IsProof board proof
-IsProofOf Classes board proof = IsClassProof board proof
+-- the board's document up to symmetries is accepted only where it breaks no rule, and its claim
+-- holds of the start and of all that is alike to it; it is refused with its first fault
+abbrev pub IsSymmetryVerdict : PlainBoard → PlainSymmetryProof → Verdict → Type 0
+IsSymmetryVerdict board proof (Accepted shown) =
+    (shown.claim ≡ proof.rows.claim) × BreaksNoRuleUpTo board proof × Holds board proof.rows.claim
+    × HoldsOfAlike board proof.maps proof.rows.claim
+IsSymmetryVerdict board proof (RefusedUpToSymmetries fault) =
+    IsFirstSymmetryFault board proof fault × (fault ≢ symmetry_faults.Memory)
+IsSymmetryVerdict board proof verdict = ⊥
 
-abbrev pub text_of_proof : Numbering → PlainBoard → PlainProof → List ℕ
-text_of_proof Ordered board proof = proof_text board proof
-text_of_proof Classes board proof = class_text board proof
+-- ---- documents of any version: only one up to symmetries has maps
 
-abbrev pub IsVerdictOf : Numbering → PlainBoard → PlainProof → Verdict → Type 0
-IsVerdictOf Ordered board proof verdict = IsVerdict board proof verdict
-IsVerdictOf Classes board proof verdict = IsClassVerdict board proof verdict
+-- a document of the version for the board, which has few configurations if each has a row
+abbrev pub IsProofOf : DocumentVersion → PlainBoard → PlainSymmetryProof → Type 0
+IsProofOf ByConfigurations board proof = IsWithinLimit Small board × IsProof board proof.rows
+IsProofOf ByClasses board proof = IsClassProof board proof.rows
+IsProofOf UpToSymmetries board proof = IsSymmetryProof board proof
+
+abbrev pub text_of_proof : DocumentVersion → PlainBoard → PlainSymmetryProof → List ℕ
+text_of_proof ByConfigurations board proof = proof_text board proof.rows
+text_of_proof ByClasses board proof = class_text board proof.rows
+text_of_proof UpToSymmetries board proof = symmetry_text board proof
+
+abbrev pub IsVerdictOf : DocumentVersion → PlainBoard → PlainSymmetryProof → Verdict → Type 0
+IsVerdictOf ByConfigurations board proof verdict = IsVerdict board proof.rows verdict
+IsVerdictOf ByClasses board proof verdict = IsClassVerdict board proof.rows verdict
+IsVerdictOf UpToSymmetries board proof verdict = IsSymmetryVerdict board proof verdict
 
 -- the text is a document's for the board, and this is the verdict on it, with its line
 pub record IsChecked (board : PlainBoard) (text : List ℕ) (verdict : Verdict)
     (line : List ℕ) : Type 0 where
-  pub kind : Numbering
-  pub proof : PlainProof
-  pub is_proof : IsProofOf kind board proof
-  pub text_is : text ≡ text_of_proof kind board proof
-  pub verdict_is : IsVerdictOf kind board proof verdict
+  pub version : DocumentVersion
+  pub proof : PlainSymmetryProof
+  pub is_proof : IsProofOf version board proof
+  pub text_is : text ≡ text_of_proof version board proof
+  pub verdict_is : IsVerdictOf version board proof verdict
   pub line_is : line ≡ line_of board verdict
 
 -- ---- a board's text with a document's after it

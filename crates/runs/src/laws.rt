@@ -10,7 +10,8 @@ ghost use Rattle.proof_text.specs.Documents.{IsProof};
 ghost use Rattle.proof_text.specs.ProofText.{proof_text};
 ghost use Rattle.proof_check.specs.declared.checking.Shown.{Shown as ShownClaim};
 ghost use Rattle.positions.specs.declared.value.Value.{Value as ValueData};
-ghost use Rattle.runs.specs.Verdicts.{IsChecked, IsClassVerdict, IsVerdict};
+ghost use Rattle.proof_text.specs.SymmetryProof.{PlainSymmetryProof as SymmetryProofData};
+ghost use Rattle.runs.specs.Verdicts.{IsChecked, IsClassVerdict, IsSymmetryVerdict, IsVerdict};
 ghost use Rattle.runs.specs.Headline.{ShowsValue, IsAccepted};
 ghost use Rattle.strategies.specs.Meaning.{Means};
 ghost use Rattle.runs.specs.Report.{Report as CountReport, IsReport, IsReportOf, IsReportOfText};
@@ -69,7 +70,7 @@ pub fn report_or_fault()
 {}
 
 /// If a text was answered with `accepted least k`, the labeller can answer k requests from the
-/// start of its board, whichever they are. If a document of either kind is accepted, its claim
+/// start of its board, whichever they are. If a document of any version is accepted, its claim
 /// holds of the start's value.
 pub fn accepted_claims_hold()
     ensures least { (text : List ℕ) → (number : ℕ) → AcceptsLeast text number
@@ -79,6 +80,9 @@ pub fn accepted_claims_hold()
         → IsVerdict board proof (Accepted shown) → Holds board shown.claim }
     ensures by_classes { (board : PlainBoard) → (proof : PlainProof) → (shown : ShownClaim)
         → IsClassVerdict board proof (Accepted shown) → Holds board shown.claim }
+    ensures up_to_symmetries { (board : PlainBoard) → (proof : SymmetryProofData)
+        → (shown : ShownClaim)
+        → IsSymmetryVerdict board proof (Accepted shown) → Holds board shown.claim }
 {}
 
 /// The value that a solved board is given is the greatest number of requests that a labeller can

@@ -37,6 +37,6 @@ pub use playing::{Playing, run_climb, run_play};
 pub use reading::MAX_BOARD_BYTES;
 pub use reporting::{report_text_alone, run_report};
 pub use solving::{Solved, run_solve, run_solve_alone, solve_text_alone};
-pub use verdicts::Verdict;
+pub use verdicts::{DocumentVersion, Verdict, version_of};
 pub use work::Work;
 pub use writing::write_text;

@@ -4,16 +4,17 @@ ghost use Rattle.std.specs.Prelude.{◌≡◌, ◌<◌, ◌++◌, IfOk, OnOk, st
 ghost use Rattle.proof_check.specs.ClassFaults.{IsOrderNumber, NamesClass};
 ghost use Rattle.positions.specs.Ranks.{configurations};
 ghost use Rattle.proof_check.specs.CheckFaults.{NamesRanks};
+ghost use Rattle.proof_check.specs.SymmetryFaults.{NamesRow};
 ghost use Rattle.command_line.specs.Reading.{side_word as word_of_side};
 ghost use Rattle.runs.specs.Output.{line_of, turn_word as word_of_turn, row_words, fault_words};
 ghost use Rattle.runs.specs.Output.{class_turn_word as word_of_class_turn, class_row_words};
-ghost use Rattle.runs.specs.Output.{class_fault_words};
+ghost use Rattle.runs.specs.Output.{class_fault_words, map_fault_words, symmetry_fault_words};
 ghost use Rattle.runs.specs.Inside.Verdicts.{NamesRows};
 
 use crate::verdicts::Verdict;
 use board_text::{Board, Memory};
 use positions::{Space, write_labels};
-use proof_check::{CheckFault, ClassFault, Side, write_class};
+use proof_check::{CheckFault, ClassFault, MapFault, Side, SymmetryFault, write_class};
 use proof_text::write_claim;
 use std::alloc::{AllocError, Global};
 use std::fmt::Write;
@@ -36,6 +37,10 @@ pub(crate) fn line(alloc: Global, board: &Board, verdict: Verdict) -> Result<Str
         Verdict::RefusedByClasses(fault) => {
             text.push_str("refused ")?;
             write_class_fault(&mut text, board, fault)?;
+        }
+        Verdict::RefusedUpToSymmetries(fault) => {
+            text.push_str("refused ")?;
+            write_symmetry_fault(&mut text, board, fault)?;
         }
     }
     text.push_str("\n")?;
@@ -153,6 +158,40 @@ fn write_class_row(
     write_class(text, board, at)?;
     text.push_str(class_turn_word(side))?;
     write!(text, "{turn}")
+}
+
+fn write_symmetry_fault(
+    text: &mut String,
+    board: &Board,
+    fault: SymmetryFault,
+) -> Result<(), AllocError>
+    requires { NamesRow board.now fault }
+    ensures { OnOk result (string_bytes text.new ≡ string_bytes text.old
+        ++ symmetry_fault_words board.now fault) }
+{
+    match fault {
+        SymmetryFault::Map { number, fault } => write_map_fault(text, number, fault),
+        SymmetryFault::TooMany => text.push_str("symmetries too many"),
+        SymmetryFault::NotLeast { side, at } => {
+            text.push_str(side_word(side))?;
+            text.push_str(" row")?;
+            write_class(text, board, at)?;
+            text.push_str(" not the least alike")
+        }
+        SymmetryFault::Row(fault) => write_class_fault(text, board, fault),
+        SymmetryFault::Memory => Ok(()),
+    }
+}
+
+/// Writes what is wrong with the map of this number.
+fn write_map_fault(text: &mut String, number: u8, fault: MapFault) -> Result<(), AllocError>
+    ensures { OnOk result (string_bytes text.new ≡ string_bytes text.old
+        ++ map_fault_words number fault) }
+{
+    match fault {
+        MapFault::Missing { label } => write!(text, "symmetry {number} label {label}"),
+        MapFault::Pair { x, y } => write!(text, "symmetry {number} labels {x} {y}"),
+    }
 }
 
 fn side_word(side: Side) -> &'static str

@@ -1,15 +1,18 @@
 //! The answer to a text: its verdict and its line.
 
 ghost use Rattle.std.specs.Prelude.{◌≡◌, ◌≤◌, IfOk, IfErr, string_bytes};
-ghost use Rattle.proof_text.specs.Documents.{IsClassDocument, IsDocument};
+ghost use Rattle.board_text.specs.PlainBoard.{IsBoard};
+ghost use Rattle.proof_text.specs.Documents.{IsClassDocument, IsDocument, IsSymmetryDocument};
 ghost use Rattle.proof_text.specs.ClassProof.{plain_class_proof};
 ghost use Rattle.proof_text.specs.Proof.{plain_proof};
+ghost use Rattle.proof_text.specs.SymmetryProof.{plain_symmetry_proof};
 ghost use Rattle.positions.specs.Ranks.{configurations};
 ghost use Rattle.proof_check.specs.ClassNumbers.{AreNumbersOfRows};
 ghost use Rattle.runs.specs.Verdicts.{CannotAnswer, IsAnswered, IsChecked, IsClassVerdict};
-ghost use Rattle.runs.specs.Verdicts.{IsVerdict};
+ghost use Rattle.runs.specs.Verdicts.{IsSymmetryVerdict, IsVerdict};
 ghost use Rattle.runs.specs.Inside.Verdicts.{NamesRows};
-ghost use Rattle.runs.specs.Texts.{HasNoProof, IsByClasses, IsMemory};
+ghost use Rattle.runs.specs.Texts.{BeginsAs, HasNoProof, IsMemory};
+ghost use Rattle.runs.specs.declared.verdicts.DocumentVersion.TheVariants as versions;
 
 use crate::boards::any_board;
 use crate::fault::RunFault;
@@ -17,8 +20,11 @@ use crate::joined::board_length;
 use crate::output::line;
 use board_text::Board;
 use positions::{MAX_CONFIGURATIONS, Space, is_small};
-use proof_check::{CheckFault, ClassFault, ClassNumbers, Shown, check, check_classes};
-use proof_text::{ClassProof, Proof, parse, parse_classes};
+use proof_check::{
+    CheckFault, ClassFault, ClassNumbers, Shown, SymmetryFault, check, check_classes,
+    check_symmetric,
+};
+use proof_text::{ClassProof, Proof, SymmetryProof, parse, parse_classes, parse_symmetric};
 use std::alloc::Global;
 use std::thread::Threads;
 
@@ -31,6 +37,33 @@ pub enum Verdict {
     Refused(CheckFault),
     /// The document by classes breaks a rule; the first fault.
     RefusedByClasses(ClassFault),
+    /// The document up to symmetries breaks a rule; the first fault. It is never out of memory.
+    RefusedUpToSymmetries(SymmetryFault),
+}
+
+/// A version of documents: what the rows of one are for.
+#[derive(Clone, Copy, Debug, PartialEq, Eq)]
+pub enum DocumentVersion {
+    /// `proof 1`: each row is for a configuration.
+    ByConfigurations,
+    /// `proof 2`: each row is for a class.
+    ByClasses,
+    /// `proof 3`: each row is for all configurations that the document's maps take to one another.
+    UpToSymmetries,
+}
+
+/// The version that the first line of `text` says; without such a line it is that by
+/// configurations.
+pub fn version_of(text: &[u8]) -> DocumentVersion
+    ensures { BeginsAs result text.now }
+{
+    if text.starts_with(b"proof 2\n") {
+        DocumentVersion::ByClasses
+    } else if text.starts_with(b"proof 3\n") {
+        DocumentVersion::UpToSymmetries
+    } else {
+        DocumentVersion::ByConfigurations
+    }
 }
 
 /// A verdict, and the line that says it.
@@ -57,25 +90,27 @@ pub fn check_joined_text(
 
 /// The verdict on the document for `board` whose text is `text`, and its line.
 ///
-/// A document by classes may be for a board of any size, any other for one of at most
-/// `MAX_CONFIGURATIONS` configurations.
+/// A document by configurations is for a board of at most `MAX_CONFIGURATIONS` configurations, any
+/// other may be for one of any size.
 pub fn check_text(
     rt: &(impl Threads + Sync),
     alloc: Global,
     board: &Board,
     text: &[u8],
 ) -> Result<VerdictLine, RunFault>
+    requires board { IsBoard board.now }
     ensures checked { IfOk result (λ answer. IsChecked board.now text.now answer.verdict
         (string_bytes answer.line)) }
     ensures fault { IfErr result (HasNoProof board.now text.now) }
 {
-    if text.starts_with(b"proof 2\n") {
-        return check_by_classes(rt, alloc, board, text);
+    match version_of(text) {
+        DocumentVersion::ByClasses => check_by_classes(rt, alloc, board, text),
+        DocumentVersion::UpToSymmetries => check_up_to_symmetries(rt, alloc, board, text),
+        DocumentVersion::ByConfigurations if is_small(board) => {
+            check_by_ranks(rt, alloc, board, text)
+        }
+        DocumentVersion::ByConfigurations => Err(RunFault::TooLarge),
     }
-    if !is_small(board) {
-        return Err(RunFault::TooLarge);
-    }
-    check_by_ranks(rt, alloc, board, text)
 }
 
 /// The verdict on the document by classes whose text is `text`, and its line.
@@ -85,7 +120,7 @@ fn check_by_classes(
     board: &Board,
     text: &[u8],
 ) -> Result<VerdictLine, RunFault>
-    requires begins { IsByClasses text.now }
+    requires begins { BeginsAs versions.ByClasses text.now }
     ensures checked { IfOk result (λ answer. IsChecked board.now text.now answer.verdict
         (string_bytes answer.line)) }
     ensures fault { IfErr result (HasNoProof board.now text.now) }
@@ -115,6 +150,50 @@ fn class_verdict_on(
     }
 }
 
+/// The verdict on the document up to symmetries whose text is `text`, and its line.
+fn check_up_to_symmetries(
+    rt: &(impl Threads + Sync),
+    alloc: Global,
+    board: &Board,
+    text: &[u8],
+) -> Result<VerdictLine, RunFault>
+    requires board { IsBoard board.now }
+    requires begins { BeginsAs versions.UpToSymmetries text.now }
+    ensures checked { IfOk result (λ answer. IsChecked board.now text.now answer.verdict
+        (string_bytes answer.line)) }
+    ensures fault { IfErr result (HasNoProof board.now text.now) }
+{
+    let proof = parse_symmetric(alloc, board, text)?;
+    let numbers = ClassNumbers::of(alloc, board, &proof.rows)?;
+    let verdict = symmetry_verdict_on(rt, alloc, board, &proof, &numbers)?;
+    let line = line(alloc, board, verdict)?;
+    Ok(VerdictLine { verdict, line })
+}
+
+/// The verdict on the document up to symmetries, whose rows have these `numbers`.
+fn symmetry_verdict_on(
+    rt: &(impl Threads + Sync),
+    alloc: Global,
+    board: &Board,
+    proof: &SymmetryProof,
+    numbers: &ClassNumbers,
+) -> Result<Verdict, RunFault>
+    requires document { IsSymmetryDocument board.now proof.now }
+    requires numbers { AreNumbersOfRows board.now proof.now.rows numbers.now }
+    ensures verdict { IfOk result
+        (IsSymmetryVerdict board.now (plain_symmetry_proof board.now proof.now)) }
+    ensures named { IfOk result (NamesRows board.now) }
+    ensures memory { IfErr result IsMemory }
+{
+    match check_symmetric(rt, alloc, board, proof, numbers) {
+        Ok(()) => Ok(Verdict::Accepted(Shown {
+            claim: proof.rows.claim,
+        })),
+        Err(SymmetryFault::Memory) => Err(RunFault::Memory),
+        Err(fault) => Ok(Verdict::RefusedUpToSymmetries(fault)),
+    }
+}
+
 /// The verdict on the document by configurations whose text is `text`, and its line.
 fn check_by_ranks(
     rt: &(impl Threads + Sync),
@@ -123,7 +202,7 @@ fn check_by_ranks(
     text: &[u8],
 ) -> Result<VerdictLine, RunFault>
     requires few { configurations board.now ≤ MAX_CONFIGURATIONS }
-    requires begins { IsByClasses text.now → ⊥ }
+    requires begins { BeginsAs versions.ByConfigurations text.now }
     ensures checked { IfOk result (λ answer. IsChecked board.now text.now answer.verdict
         (string_bytes answer.line)) }
     ensures fault { IfErr result (HasNoProof board.now text.now) }

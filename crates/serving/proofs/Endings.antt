@@ -19,13 +19,14 @@ use Rattle.serving.specs.declared.outcome.Outcome.{Outcome}
 use Rattle.serving.specs.declared.outcome.Outcome.TheVariants.{Broken}
 use Rattle.runs.specs.declared.verdicts.Verdict.{Verdict}
 use Rattle.runs.specs.declared.verdicts.Verdict.TheVariants.{Accepted as AcceptedAs, Refused as RefusedFor}
-use Rattle.runs.specs.declared.verdicts.Verdict.TheVariants.{RefusedByClasses}
+use Rattle.runs.specs.declared.verdicts.Verdict.TheVariants.{RefusedByClasses, RefusedUpToSymmetries}
 
 -- a check whose outcome is broken gave this fault
 pub broken_check : (r : Result Verdict RunFault) (fault : RunFault) → outcome_of_check r ≡ Broken fault → r ≡ Err fault
 broken_check (Ok (AcceptedAs shown)) fault is = cc
 broken_check (Ok (RefusedFor why)) fault is = cc
 broken_check (Ok (RefusedByClasses why)) fault is = cc
+broken_check (Ok (RefusedUpToSymmetries why)) fault is = cc
 broken_check (Err why) fault is = let same : why ≡ fault = cc in ap (λ f. Err f) same
 
 -- a run whose outcome is broken gave this fault

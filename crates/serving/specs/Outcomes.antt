@@ -10,12 +10,14 @@ use Rattle.runs.specs.declared.verdicts.Verdict.{Verdict}
 use Rattle.runs.specs.declared.verdicts.Verdict.TheVariants.{Accepted as AcceptedAs}
 use Rattle.runs.specs.declared.verdicts.Verdict.TheVariants.{Refused as RefusedFor}
 use Rattle.runs.specs.declared.verdicts.Verdict.TheVariants.{RefusedByClasses}
+use Rattle.runs.specs.declared.verdicts.Verdict.TheVariants.{RefusedUpToSymmetries}
 
 -- the outcome of a check
 abbrev pub outcome_of_check : Result Verdict RunFault → Outcome
 outcome_of_check (Ok (AcceptedAs shown)) = Done
 outcome_of_check (Ok (RefusedFor fault)) = Refused
 outcome_of_check (Ok (RefusedByClasses fault)) = Refused
+outcome_of_check (Ok (RefusedUpToSymmetries fault)) = Refused
 outcome_of_check (Err fault) = Broken fault
 
 -- the outcome of any other run

@@ -25,7 +25,11 @@ impl Outcome {
     {
         match checked {
             Ok(Verdict::Accepted(_)) => Outcome::Done,
-            Ok(Verdict::Refused(_) | Verdict::RefusedByClasses(_)) => Outcome::Refused,
+            Ok(
+                Verdict::Refused(_)
+                | Verdict::RefusedByClasses(_)
+                | Verdict::RefusedUpToSymmetries(_),
+            ) => Outcome::Refused,
             Err(fault) => Outcome::Broken(fault),
         }
     }

@@ -7,8 +7,9 @@ use Rattle.proof_text.specs.Documents.{IsClassDocument}
 use Rattle.proof_text.specs.declared.class_proof.LabellerClassRow.{LabellerClassRow}
 use Rattle.proof_text.specs.declared.class_proof.AdversaryClassRow.{AdversaryClassRow}
 use Rattle.proof_text.specs.declared.class_proof.ClassProof.{ClassProof}
-use Rattle.symmetries.specs.Elements.{KeepsLabels, least_by}
-use Rattle.symmetries.specs.declared.least_places.Images.{Images}
+use Rattle.proof_text.specs.Images.{KeepsLabels}
+use Rattle.symmetries.specs.Elements.{least_by}
+use Rattle.proof_text.specs.declared.symmetry_proof.Images.{Images}
 use Rattle.proof_check.specs.ClassFaults.{order_refusals}
 use Rattle.proof_check.specs.ClassNumbers.{AreNumbersOfRows}
 use Rattle.proof_check.specs.Refusals.{Refusals}

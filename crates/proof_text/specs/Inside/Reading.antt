@@ -14,6 +14,7 @@ use Rattle.proof_text.specs.RowWords.{AreRequestWords, answer_words_line}
 use Rattle.proof_text.specs.RowWords.{request_words_line}
 use Rattle.proof_text.specs.RowWords.{ClassRequestWords, AreClassRequestWords}
 use Rattle.proof_text.specs.RowWords.{class_request_words_line}
+use Rattle.proof_text.specs.RowWords.{AreMapWords, map_words_line}
 use Rattle.proof_text.specs.RowFaults.{SpellsTurns}
 use Rattle.proof_text.specs.declared.row_words.AnswerValues.{AnswerValues}
 use Rattle.proof_text.specs.declared.row_words.RequestValues.{RequestValues}
@@ -69,6 +70,13 @@ TakesAnswerWords pebbles labels bound claim (Some values) at answers old new =
     (words : AnswerWords) × AreAnswerWords pebbles labels bound words
     × (old ≡ answer_words_line words ++ new)
     × AnswerSpelled labels bound claim words values at answers
+
+-- The words of a map were taken, with the labels that they spell, if they do.
+abbrev pub TakesMapWords : ℕ → Option (Bool × List ℕ) → List ℕ → List ℕ → Type 0
+TakesMapWords labels None old new = Lacks (AreMapWords labels) map_words_line old
+TakesMapWords labels (Some (are, images)) old new =
+    (words : List (List ℕ)) × AreMapWords labels words × (old ≡ map_words_line words ++ new)
+    × SpellPlaces labels labels words are images
 
 -- the words of an adversary's row spell these values, as far as they spell any
 pub record RequestSpelled (labels bound pebbles : ℕ) (words : RequestWords) (values : RequestValues)

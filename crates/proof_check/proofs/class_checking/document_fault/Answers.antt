@@ -4,7 +4,7 @@ use Rattle.proof_text.specs.ClassProof.{plain_class_proof}
 use Rattle.proof_text.specs.Positions.{Positions, normal_positions}
 use Rattle.proof_text.specs.Rules.{MeetsRequests, MeetsAnswers}
 use Rattle.symmetries.specs.Elements.{least_by}
-use Rattle.proof_check.specs.Inside.ClassChecker.{IsClassReady, refusals_by}
+use Rattle.proof_check.specs.Inside.ClassChecker.{refusals_by}
 use Rattle.proof_check.specs.Refusals.{StartServes, IsWrongAnswer, IsWrongRequest}
 use Rattle.proof_check.proofs.CheckedRows.{answering, requesting}
 use Rattle.proof_check.proofs.DocumentFaults.{by_adversary}

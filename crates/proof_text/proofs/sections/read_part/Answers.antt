@@ -1,4 +1,4 @@
-use Rattle.std.proofs.Common.{rules, ◌≡◌, ◌+◌, ◌++◌, ◌∷◌, List, [], ℕ, length, refl, sym, ap, ◌∙◌, arith}
+use Rattle.std.proofs.Common.{rules, ◌≡◌, ◌+◌, ◌++◌, ◌∷◌, List, [], ℕ, length, refl, sym, ap, ◌∙◌, arith, inr}
 use Rattle.std.proofs.lemmas.List.{length_push}
 use Rattle.std.proofs.lemmas.Result.{err_from_is_err_and}
 use Rattle.board_text.specs.LineForms.{number_line}
@@ -24,6 +24,9 @@ returns-in-Err-clause-fault g c =
           i.come (omega (arith, i.number, c.loop-come-test.true)) (omega (arith, i.number)) i.from c.in-Err.ensures,
     )
 
+pub read-requires : goal.read-requires
+read-requires g c = c.loop-come.invariant.start
+
 pub loop-come-preserved : goal.loop-come-preserved
 loop-come-preserved g c =
     let board = g.B.BoardOfRows.board c.args.board.now in
@@ -38,6 +41,7 @@ loop-come-preserved g c =
       number = ap length items ∙ length_push c.loop-come.rows.items c.in-Ok.row ∙ ap (λ (n : ℕ). n + 1) i.number;
       from = step.1;
       least = omega (arith, next.3);
+      start = inr (c.in-Ok.row, next.2);
     }
 
 pub returns-in_err-rows-clause-fault : goal.returns-in_err-rows-clause-fault

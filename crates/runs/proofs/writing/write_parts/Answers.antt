@@ -1,4 +1,4 @@
-use Rattle.std.proofs.Common.{◌≡◌, ◌+◌, ◌<◌, ◌++◌, ℕ, List, Vec, Global, take, drop, length, get_or, ap, sym}
+use Rattle.std.proofs.Common.{◌+◌, ◌++◌, ℕ, List, Vec, Global, take, drop, ap, sym}
 use Rattle.std.proofs.Common.{◌∙◌, subst}
 use Rattle.std.specs.Io.KnownBytes.{Appends}
 use Rattle.std.specs.List.{flat_map}

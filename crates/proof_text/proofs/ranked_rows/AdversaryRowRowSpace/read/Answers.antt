@@ -52,5 +52,5 @@ returns c =
     c.in-Some-left.left _ rank c.in-Some-left.is c.pebbles-pebbles.ensures.value
     c.rank-rank.ensures.rank in
     row_next (adversary_reading c.args.space.now c.args._claim) c.args.least.now read _ refl rank
-    (sym (rank_of-configuration_at c.args.space.now rank c.rank-rank.ensures.below)) tt
+    (sym (rank_of-configuration_at c.args.space.now rank c.rank-rank.ensures.below)) refl tt
     (omega (arith, c.rank-rank.ensures.below, c.pebbles-pebbles.ensures.few)) c.if-number-least.false

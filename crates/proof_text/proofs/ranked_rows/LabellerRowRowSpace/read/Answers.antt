@@ -18,5 +18,5 @@ returns c =
     let read = ranked_answer c.args.space.now c.args.claim c.in_ok-row.row _ _ rank c.in_ok-row.ensures
     (rw c.pebbles.ensures.value at c.rank-rank.ensures.rank) in
     row_next (labeller_reading c.args.space.now c.args.claim) c.args.least.now read _ refl rank
-    (sym (rank_of-configuration_at c.args.space.now rank c.rank-rank.ensures.below)) tt
+    (sym (rank_of-configuration_at c.args.space.now rank c.rank-rank.ensures.below)) refl tt
     (omega (arith, c.rank-rank.ensures.below, c.pebbles.ensures.few)) c.if-number-least.false
