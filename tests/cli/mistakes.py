@@ -5,10 +5,11 @@ import subprocess
 from contextlib import contextmanager, suppress
 from dataclasses import dataclass, field, replace
 from functools import partial
+from math import comb
 
 from board_texts import chain, empty, text as board_text
 from harness import BOARDS, PROGRAM, TOP, Check
-from program import LONGEST, Ran, board, differs, fault, shown, written
+from program import LONGEST, Ran, board, differs, fault, run, shown, text_of, written
 
 CHAIN = os.path.join(BOARDS, 'chain-of-three.board')
 CHAIN_PROOF = os.path.join(BOARDS, 'chain-of-three.proof')
@@ -139,11 +140,19 @@ def prompted(words, given, told):
     return differs(run_at_terminals(words, given), Ran(piped.status, piped.output, lines)) or differs(at_one, Ran(piped.status, piped.output))
 
 
-def noticed(words, told):
-    """None if a person whose standard error is a terminal is told this line before the work, and nothing is told elsewhere."""
-    piped = quiet(words, b'')
-    at_one = run_at_terminal(Mistake('', words, Ran(), '', ''))
+def noticed(words, told, given=b''):
+    """None if a person whose standard error is a terminal is told these lines beside the work, and nothing is told elsewhere."""
+    piped = quiet(words, given)
+    at_one = run_at_terminal(Mistake('', words, Ran(), '', '', given=given))
     return differs(piped, Ran(output=piped.output)) or differs(at_one, Ran(output=piped.output, errors=told.encode()))
+
+
+def greeted_and_counted(given, rows):
+    """None if a person who types an accepted document after its board is greeted, and told this line after the verdict."""
+    at_both = run_at_terminals([], given + b'\x04')
+    lines = at_both.errors.decode().splitlines()
+    same = differs(Ran(at_both.status, at_both.output), Ran(output=quiet([], given).output))
+    return same or (None if len(lines) == 2 and 'Ctrl-D' in lines[0] and lines[1] == rows else f'{lines!r}')
 
 
 def prompted_in_turn(words, told):
@@ -443,15 +452,36 @@ def of_typed_lines(work):
     for words, told in (([*asks, CHAIN], pebbles), ([*answers, CHAIN], first), (['climb', '3'], 'type a pebble')):
         yield Check(f'typed: the choices in turn, in {" ".join(words[:3])}', partial(prompted_in_turn, words, told))
     large = written(work, 'noticed.board', chain(17, 5))
-    for words, told in ((['report', '--large', CHAIN], ''),
-                        (['report', '--large', large], 'a large board: its 4845 gaps are solved, which can take seconds\n')):
+    # a gap whose greatest label is the n-th from above closes in round n, counted from 0
+    opened = [comb(20 - number, 4) for number in range(1, 18)]
+    rounds = ''.join(f'round {number}: {count} {"gap is" if count == 1 else "gaps are"} open\n' for number, count in enumerate(opened, 1))
+    size = 'a large board: its 4845 gaps, about 0.1 MB, are solved, which can take seconds\n'
+    for words, told in ((['report', '--large', CHAIN], ''), (['report', '--large', large], size + rounds),
+                        (['report', '--large', '--workers', '4', large], size + rounds), (['solve', '--large', large], size + rounds),
+                        (['play', '--large', '--side', 'adversary', large], size + rounds), (['chains', CHAIN], '')):
         yield Check(f'the notice of {" ".join(words[:-1])} {os.path.basename(words[-1])}', partial(noticed, words, told))
     for words in ([*asks, faulty], [*answers, os.path.join(work, 'missing.board')]):
         yield Check(f'typed: no greeting for {os.path.basename(words[-1])}', partial(ungreeted, words))
 
 
+def of_rows(work):
+    """Accepted documents of both versions, whose rows are told after the verdict, and only to a person at a terminal."""
+    documents = [('seven rows', CHAIN, text_of(CHAIN_PROOF), '7 rows were checked\n'),
+                 ('no row', CHAIN, b'proof 1\nleast 0\nlabeller 0\nend\n', '0 rows were checked\n'),
+                 ('one row', board('one-label-two-pebbles'), b'proof 1\nvalue 0\nlabeller 0\nadversary 1\nat 0 0 for 0 ask 0\nend\n',
+                  '1 row was checked\n')]
+    by_classes = run(['solve', '--large', CHAIN]).output
+    documents.append(('rows by classes', CHAIN, by_classes, f'{by_classes.count(b"at ")} rows were checked\n'))
+    for name, path, document, told in documents:
+        proof = written(work, f'counted {name}.proof', document)
+        yield Check(f'the number of rows: {name}', partial(noticed, ['check', path, proof], told))
+        yield Check(f'the number of rows of a joined input: {name}', partial(noticed, [], told, given=text_of(path) + document))
+    yield Check('the number of rows of a typed input', partial(greeted_and_counted, text_of(CHAIN) + documents[0][2], '7 rows were checked'))
+
+
 def checks(work):
     """All checks, which write what they need into `work`."""
+    yield from of_rows(work)
     for subject in (of_boards, of_files, of_documents, of_streams, of_permissions, of_words):
         for mistake in subject(work):
             yield Check(f'a mistake: {mistake.name}', partial(explained, mistake))

@@ -25,8 +25,10 @@ const TOO_MANY_GAPS: &str = "board 1\nlabels 144\npebbles 6\nstart 0 0 0 0 0 0\n
 const REPORT: &str = "report 1\nlabels 33\npebbles 4\nconfigurations 1185921\nstart value 0\n\
     value 0: 1185921\nforever: 0\nend\n";
 
-/// The line for a person who waits for that report.
-const NOTICE: &[u8] = b"a large board: its 6545 gaps are solved, which can take seconds\n";
+/// The lines for a person who waits for that report: in round 0 all gaps close.
+const TOLD: &[u8] =
+    b"a large board: its 6545 gaps, about 0.1 MB, are solved, which can take seconds\n\
+    round 1: 0 gaps are open\n";
 
 /// The play on it of a person who answers.
 const TRANSCRIPT: &[u8] = b"value 0\nat 0 0 0 0\nask 0\nno label for pebble 0 after 0 requests\n";
@@ -99,11 +101,11 @@ fn a_person_is_told_of_the_size(rt: HostRuntime) {
     if outcome.answer == Err(RunFault::Memory) {
         assert_refused(&rt, "a report", &outcome, NOTHING);
         let told = errors.taken();
-        let wanted = if told.is_empty() { NOTHING } else { NOTICE };
+        let wanted = TOLD.get(..told.len()).unwrap_or(NOTHING);
         assert_text(&rt, "a notice without memory", told, wanted);
         (outcome, errors) = notice_outcome(&rt, alloc);
     }
-    assert_text(&rt, "a notice", errors.taken(), NOTICE);
+    assert_text(&rt, "a notice", errors.taken(), TOLD);
     assert_outcome(&rt, "a report", &outcome, Ok(()), REPORT.as_bytes());
 }
 

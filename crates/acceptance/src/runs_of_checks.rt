@@ -23,9 +23,12 @@ const REFUSED: &[u8] = b"refused labeller start missing\n";
 
 type Checked = Result<Verdict, RunFault>;
 
-const SHOWN: Checked = Ok(Verdict::Accepted(Shown {
-    claim: Claim::AtLeast(2),
-}));
+const SHOWN: Checked = Ok(Verdict::Accepted {
+    shown: Shown {
+        claim: Claim::AtLeast(2),
+    },
+    rows: 3,
+});
 
 /// The parts of a joined text, and the number of calls of each end that go well.
 #[derive(Clone, Copy)]

@@ -83,7 +83,7 @@ impl<'a> Note<'a> {
     /// accepted.
     pub fn of_check(checked: Result<Verdict, RunFault>, inputs: &Inputs<'a, '_>) -> Note<'a> {
         match checked {
-            Ok(Verdict::Accepted(_)) => Note::empty(),
+            Ok(Verdict::Accepted { .. }) => Note::empty(),
             Ok(Verdict::Refused(fault)) => refused(refusal_hint(fault), inputs),
             Ok(Verdict::RefusedByClasses(fault)) => refused(class_refusal_hint(fault), inputs),
             Ok(Verdict::RefusedUpToSymmetries(fault)) => {

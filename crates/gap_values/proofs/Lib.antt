@@ -10,6 +10,7 @@ mod ClosingSteps
 mod TellingSteps
 mod Words
 mod RoundSteps
+mod OpenCounts
 mod BestAnswers
 mod Weighing
 mod ClassCounts

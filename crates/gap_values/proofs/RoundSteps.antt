@@ -24,7 +24,7 @@ use Rattle.gap_values.proofs.Words.{before-from, before-to, gap_at-index, result
 
 -- ---- words that agree before a round
 
-abbrev Agree : ℕ → List ℕ → List ℕ → Type 0
+abbrev pub Agree : ℕ → List ℕ → List ℕ → Type 0
 Agree round old new =
     (n b : ℕ) → b ≤ round
     → IsClosedBefore (round_of_word (get_or old n 0)) b ↔ IsClosedBefore (round_of_word (get_or new n 0)) b
@@ -141,14 +141,14 @@ module _ (board : PlainBoard) (is_board : IsBoard board) (some : 2 ≤ board.peb
       (passed.passed n (omega arith) n_low)
 
   -- no word but those of open gaps changed
-  changed : (n : ℕ)
+  pub changed : (n : ℕ)
       → (get_or new n 0 ≡ get_or old n 0) ⊎ ((get_or old n 0 ≡ 4294967295) × (get_or new n 0 ≡ round))
   changed n = elim (cases_lt n (gap_count board)) [
     | inl n_low ↦ (passed-at n n_low).changed
     | inr past ↦ inl (passed.behind n past)
   ]
 
-  agree : Agree round old new
+  pub agree : Agree round old new
   agree n b most = elim (changed n) [
     | inl same ↦ (
       subst (λ w. IsClosedBefore (round_of_word w) b) (sym same),
@@ -166,7 +166,7 @@ module _ (board : PlainBoard) (is_board : IsBoard board) (some : 2 ≤ board.peb
     | inr closes ↦ closes.0
   ]
 
-  is-gap : (n : ℕ) → n < gap_count board → IsClass (places board) (board.pebbles - 1) (gap_with board n)
+  pub is-gap : (n : ℕ) → n < gap_count board → IsClass (places board) (board.pebbles - 1) (gap_with board n)
   is-gap n n_low = (with-is (places board) (board.pebbles - 1) n n_low).is
 
   shut-is : (n : ℕ) → n < gap_count board → get_or old n 0 ≡ 4294967295
@@ -175,7 +175,7 @@ module _ (board : PlainBoard) (is_board : IsBoard board) (some : 2 ≤ board.peb
       shut-closes board old round sets (gap_with board n) is_board some at.tell (is-gap n n_low)
       (ap (λ k. get_or old k 0) (with-is (places board) (board.pebbles - 1) n n_low).number_is ∙ open_word)
 
-  new-words : (n : ℕ) → n < gap_count board → (get_or new n 0 < round + 1) ⊎ (get_or new n 0 ≡ 4294967295)
+  pub new-words : (n : ℕ) → n < gap_count board → (get_or new n 0 < round + 1) ⊎ (get_or new n 0 ≡ 4294967295)
   new-words n n_low = elim (changed n) [
     | inl same ↦ elim (at.words_are n n_low) [
       | inl less ↦ inl (omega (arith, same))

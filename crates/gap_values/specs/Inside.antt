@@ -4,5 +4,6 @@ pub mod Families
 pub mod FamilyWeights
 pub mod Sets
 pub mod Closing
+pub mod OpenWords
 pub mod Table
 pub mod Words

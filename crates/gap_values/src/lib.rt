@@ -18,7 +18,7 @@ mod values;
 mod ways_table;
 mod weight;
 
-pub use counting::{count_gaps, has_few_gaps};
+pub use counting::{count_gaps, has_few_gaps, kept_bytes};
 pub use gap_numbers::GapNumbers;
 pub use laws::gap_tables_have_values;
 pub use rounds::MAX_GAPS;

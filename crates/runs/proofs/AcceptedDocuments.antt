@@ -18,7 +18,7 @@ use Rattle.proof_text.proofs.Cited.{one_document, no_fault as faultless_document
 use Rattle.positions.specs.Claim.{claim_of}
 use Rattle.strategies.proofs.Cited.{is_formed, breaks_no_rule}
 use Rattle.runs.specs.CheckRun.{RanCheck}
-use Rattle.runs.specs.Verdicts.{IsChecked, IsProofOf, IsVerdict, IsVerdictOf, text_of_proof}
+use Rattle.runs.specs.Verdicts.{IsAcceptance, IsChecked, IsProofOf, IsVerdict, IsVerdictOf, text_of_proof}
 use Rattle.runs.specs.Run.{Bytes, Ran}
 use Rattle.runs.specs.SolveRun.{IsSolution, IsSolved}
 use Rattle.runs.specs.Texts.{BeginsAs, HasFaultAs, HasNoBoard, HasNoProof, IsBoardAmong, IsBoardWithin, IsMemory}
@@ -44,8 +44,9 @@ use Rattle.runs.specs.declared.verdicts.Verdict.TheVariants.{RefusedUpToSymmetri
 verdict_of : (board : PlainBoard) (proof : PlainProof) (value : Value) (verdict : Verdict)
     → BreaksNoRule configuration_positions board proof
     → proof.claim ≡ claim_of value → IsVerdict board proof verdict
-    → verdict ≡ Accepted (record { claim = claim_of value })
-verdict_of board proof value (Accepted shown) rules claim is = ap (λ c. Accepted (record { claim = c })) (is.0 ∙ claim)
+    → IsAcceptance (claim_of value) verdict
+verdict_of board proof value (Accepted shown rows) rules claim is =
+    (rows, ap (λ c. Accepted (record { claim = c }) rows) (is.0 ∙ claim))
 verdict_of board proof value (RefusedByClasses fault) rules claim is = absurd is
 verdict_of board proof value (RefusedUpToSymmetries fault) rules claim is = absurd is
 verdict_of board proof value (Refused fault) rules claim is = absurd (is.1 (only_memory board proof fault rules is.0))
@@ -54,7 +55,7 @@ module _ (board : PlainBoard) (value : Value) (text : List ℕ) (is_board : IsBo
     (few : configurations board ≤ MAX_CONFIGURATIONS) (solved : IsSolved board value text) where
   pub accepts : (proof : PlainProof) (verdict : Verdict) → IsProof board proof → text ≡ proof_text board proof
       → IsVerdict board proof verdict
-      → verdict ≡ Accepted (record { claim = claim_of value })
+      → IsAcceptance (claim_of value) verdict
   accepts proof verdict is_proof spelled is =
       let document = solved.document in
       let found = solved.is_document in
@@ -120,7 +121,7 @@ module _ (text written : List ℕ) (value : Value) (solution : IsSolution text v
     accepts_of : (version : DocumentVersion) (proof : PlainSymmetryProof) (verdict : Verdict)
         → version ≡ ByConfigurations → IsProofOf version board proof
         → written ≡ text_of_proof version board proof → IsVerdictOf version board proof verdict
-        → verdict ≡ Accepted (record { claim = claim_of value })
+        → IsAcceptance (claim_of value) verdict
     accepts_of version proof verdict same is_proof spelled is =
         let formed : IsProofOf ByConfigurations board proof = subst (λ v. IsProofOf v board proof) same is_proof in
         accepts board value written small.is_board small.few solved proof.rows verdict formed.1
@@ -128,7 +129,7 @@ module _ (text written : List ℕ) (value : Value) (solution : IsSolution text v
         (subst (λ v. IsVerdictOf v board proof verdict) same is)
 
     pub accepts_text : (verdict : Verdict) (line : List ℕ) → IsChecked board written verdict line
-        → verdict ≡ Accepted (record { claim = claim_of value })
+        → IsAcceptance (claim_of value) verdict
     accepts_text verdict line is =
         accepts_of is.version is.proof verdict
         (one_version written is.version ByConfigurations (begins_as is.version written board is.proof is.text_is) ranked)
@@ -174,7 +175,7 @@ pub runs_agree : (limit board_limit proof_limit : ℕ) (bytes text : List ℕ)
     (record { old = Some []; new = Some text }) value
     → RanCheck board_limit proof_limit (record { old = Some bytes; new = board_left })
     (record { old = Some text; new = proof_left }) written verdict
-    → verdict ≡ Accepted (record { claim = claim_of value })
+    → IsAcceptance (claim_of value) verdict
 runs_agree limit board_limit proof_limit bytes text solve_left board_left proof_left written value verdict
     (read, gave, (printed, solution, wrote))
     (board, (other, gave_too, is), (read_proof, gave_proof, (line, checked, wrote_line))) =

@@ -69,10 +69,10 @@ tree_of_least board number (inr (depth, least, value)) =
 module _ (text : List ℕ) (number : ℕ) (board : PlainBoard) (rest : List ℕ) (few : number ≤ MOST_TURNS)
     (begins : BeginsWithBoard text board rest) where
   -- an accepted document whose claim holds, and which isn't by configurations
-  accepted_as : (claim : Claim) (shown : Shown) → IsClaim claim → shown.claim ≡ claim → Holds board claim
-      → with_line_feed (codes "accepted least " ++ decimal number) ≡ line_of board (Accepted shown)
+  accepted_as : (claim : Claim) (shown : Shown) (rows : ℕ) → IsClaim claim → shown.claim ≡ claim → Holds board claim
+      → with_line_feed (codes "accepted least " ++ decimal number) ≡ line_of board (Accepted shown rows)
       → ¬ BeginsAs ByConfigurations rest → CanAnswer text number
-  accepted_as claim shown is same holds line other =
+  accepted_as claim shown rows is same holds line other =
       let least = least_only shown.claim number (subst IsClaim (sym same) is) few (sym line) in
       record {
         board = board;
@@ -84,11 +84,12 @@ module _ (text : List ℕ) (number : ℕ) (board : PlainBoard) (rest : List ℕ)
       }
 
   -- an accepted document of any version
-  accepted : (version : DocumentVersion) (proof : PlainSymmetryProof) (shown : Shown) → IsProofOf version board proof
-      → rest ≡ text_of_proof version board proof → IsVerdictOf version board proof (Accepted shown)
-      → with_line_feed (codes "accepted least " ++ decimal number) ≡ line_of board (Accepted shown)
+  accepted : (version : DocumentVersion) (proof : PlainSymmetryProof) (shown : Shown) (rows : ℕ)
+      → IsProofOf version board proof
+      → rest ≡ text_of_proof version board proof → IsVerdictOf version board proof (Accepted shown rows)
+      → with_line_feed (codes "accepted least " ++ decimal number) ≡ line_of board (Accepted shown rows)
       → CanAnswer text number
-  accepted ByConfigurations proof shown (small, is) spelled verdict line =
+  accepted ByConfigurations proof shown rows (small, is) spelled verdict line =
       let claim : shown.claim ≡ proof.rows.claim = verdict.0 in
       let least = least_only shown.claim number (subst IsClaim (sym claim) is.claim) few (sym line) in
       let shows : Shows board proof.rows.labeller proof.rows.adversary (AtLeast number) =
@@ -101,11 +102,11 @@ module _ (text : List ℕ) (number : ℕ) (board : PlainBoard) (rest : List ℕ)
         tree = tree_from_answers board proof.rows.labeller number board.start shows;
         answers = λ ranked. (proof.rows.labeller, shows);
       }
-  accepted ByClasses proof shown is spelled verdict line =
-      accepted_as proof.rows.claim shown is.claim verdict.0 verdict.2 line (λ ranked.
+  accepted ByClasses proof shown rows is spelled verdict line =
+      accepted_as proof.rows.claim shown rows is.claim verdict.0 verdict.2 line (λ ranked.
       ranked (inl (begins_as ByClasses rest board proof spelled)))
-  accepted UpToSymmetries proof shown is spelled verdict line =
-      accepted_as proof.rows.claim shown is.rows.claim verdict.0 verdict.2 line (λ ranked.
+  accepted UpToSymmetries proof shown rows is spelled verdict line =
+      accepted_as proof.rows.claim shown rows is.rows.claim verdict.0 verdict.2 line (λ ranked.
       ranked (inr (begins_as UpToSymmetries rest board proof spelled)))
 
   can_answer_by : (verdict : Verdict)
@@ -116,8 +117,8 @@ module _ (text : List ℕ) (number : ℕ) (board : PlainBoard) (rest : List ℕ)
       absurd (refused_differs (class_fault_words board fault) number (sym is.line_is))
   can_answer_by (RefusedUpToSymmetries fault) is =
       absurd (refused_differs (symmetry_fault_words board fault) number (sym is.line_is))
-  can_answer_by (Accepted shown) is =
-      accepted is.version is.proof shown is.is_proof is.text_is is.verdict_is is.line_is
+  can_answer_by (Accepted shown rows) is =
+      accepted is.version is.proof shown rows is.is_proof is.text_is is.verdict_is is.line_is
 
 pub can_answer : (text : List ℕ) (number : ℕ) → AcceptsLeast text number → CanAnswer text number
 can_answer text number (
@@ -126,15 +127,15 @@ can_answer text number (
   (board, rest, begins, is),
 ) = can_answer_by text number board rest few begins verdict is
 
-pub claim_holds : (board : PlainBoard) (proof : PlainProof) (shown : Shown) → IsBoard board
-    → IsVerdict board proof (Accepted shown) → Holds board shown.claim
-claim_holds board proof shown is (claim, rules, shows) =
+pub claim_holds : (board : PlainBoard) (proof : PlainProof) (shown : Shown) (rows : ℕ) → IsBoard board
+    → IsVerdict board proof (Accepted shown rows) → Holds board shown.claim
+claim_holds board proof shown rows is (claim, rules, shows, many) =
     subst (Holds board) (sym claim) (shown_holds board proof.labeller proof.adversary proof.claim is.start shows)
 
-pub class_claim_holds : (board : PlainBoard) (proof : PlainProof) (shown : Shown)
-    → IsClassVerdict board proof (Accepted shown) → Holds board shown.claim
-class_claim_holds board proof shown (claim, rules, holds, each) = subst (Holds board) (sym claim) holds
+pub class_claim_holds : (board : PlainBoard) (proof : PlainProof) (shown : Shown) (rows : ℕ)
+    → IsClassVerdict board proof (Accepted shown rows) → Holds board shown.claim
+class_claim_holds board proof shown rows (claim, rules, holds, each, many) = subst (Holds board) (sym claim) holds
 
-pub symmetry_claim_holds : (board : PlainBoard) (proof : PlainSymmetryProof) (shown : Shown)
-    → IsSymmetryVerdict board proof (Accepted shown) → Holds board shown.claim
-symmetry_claim_holds board proof shown (claim, rules, holds, each) = subst (Holds board) (sym claim) holds
+pub symmetry_claim_holds : (board : PlainBoard) (proof : PlainSymmetryProof) (shown : Shown) (rows : ℕ)
+    → IsSymmetryVerdict board proof (Accepted shown rows) → Holds board shown.claim
+symmetry_claim_holds board proof shown rows (claim, rules, holds, each, many) = subst (Holds board) (sym claim) holds

@@ -26,7 +26,7 @@ use Rattle.runs.specs.ClassSolveRun.{HasLongDocument, IsClassSolution, IsSolvedB
 use Rattle.runs.specs.Texts.{BeginsAs, HasFaultAs, HasNoProof, IsBoardAmong, IsBoardWithin, IsMemory, IsWrongWithin}
 use Rattle.runs.specs.Texts.{OfAnySize}
 use Rattle.runs.specs.declared.checking.TheConstants.{MAX_PROOF_BYTES}
-use Rattle.runs.specs.Verdicts.{IsChecked, IsClassVerdict, IsProofOf, IsVerdictOf, text_of_proof}
+use Rattle.runs.specs.Verdicts.{IsAcceptance, IsChecked, IsClassVerdict, IsProofOf, IsVerdictOf, text_of_proof}
 use Rattle.runs.specs.declared.fault.RunFault.{RunFault}
 use Rattle.runs.specs.declared.fault.RunFault.TheVariants.{Board, TooLarge, Proof, Memory, Worker, Read, Write, Limit}
 use Rattle.runs.specs.declared.fault.RunFault.TheVariants.{DocumentTooLarge, TooManyChains}
@@ -167,12 +167,15 @@ module _ (text written : List ℕ) (value : Value) (solution : IsClassSolution t
   by_class = begins_as ByClasses written board (without_maps solved.document) solved.text_is
 
   verdict_of : (proof : PlainProof) (verdict : Verdict) → solved.document ≡ proof → IsClassVerdict board proof verdict
-      → verdict ≡ Accepted (record { claim = claim_of value })
-  verdict_of proof (Accepted shown) same told =
+      → IsAcceptance (claim_of value) verdict
+  verdict_of proof (Accepted shown rows) same told =
       let worth : solved.is_document.value ≡ value =
       same_value board board.start solved.is_document.value value solved.is_document.has_value solved.has_value in
-      ap (λ c. Accepted (record { claim = c })) (told.0 ∙ ap (λ (p : PlainProof). p.claim) (sym same)
-      ∙ solved.is_document.claim ∙ ap claim_of worth)
+      (
+        rows,
+        ap (λ c. Accepted (record { claim = c }) rows) (told.0 ∙ ap (λ (p : PlainProof). p.claim) (sym same)
+            ∙ solved.is_document.claim ∙ ap claim_of worth),
+      )
   verdict_of proof (Refused fault) same told = absurd told
   verdict_of proof (RefusedUpToSymmetries fault) same told = absurd told
   verdict_of proof (RefusedByClasses fault) same told =
@@ -183,7 +186,7 @@ module _ (text written : List ℕ) (value : Value) (solution : IsClassSolution t
   accepts_of : (version : DocumentVersion) (proof : PlainSymmetryProof) (verdict : Verdict) → version ≡ ByClasses
       → IsProofOf version board proof → written ≡ text_of_proof version board proof
       → IsVerdictOf version board proof verdict
-      → verdict ≡ Accepted (record { claim = claim_of value })
+      → IsAcceptance (claim_of value) verdict
   accepts_of version proof verdict same is_proof spelled told =
       let spelled_so : written ≡ class_text board proof.rows =
       subst (λ v. written ≡ text_of_proof v board proof) same spelled in
@@ -192,7 +195,7 @@ module _ (text written : List ℕ) (value : Value) (solution : IsClassSolution t
       (subst (λ v. IsVerdictOf v board proof verdict) same told)
 
   pub class_document_accepted : (verdict : Verdict) (line : List ℕ) → IsChecked board written verdict line
-      → verdict ≡ Accepted (record { claim = claim_of value })
+      → IsAcceptance (claim_of value) verdict
   class_document_accepted verdict line checked =
       accepts_of checked.version checked.proof verdict
       (one_version written checked.version ByClasses

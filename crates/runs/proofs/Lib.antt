@@ -8,6 +8,7 @@ pub mod WrongTexts
 pub mod DocumentKinds
 pub mod OneVerdict
 pub mod AcceptedLines
+pub mod RowCounts
 pub mod Headlines
 pub mod ReportCounts
 pub mod CountSums
@@ -16,6 +17,7 @@ pub mod Solutions
 pub mod OneOutcome
 pub mod ClassSolutions
 pub mod ToldNotices
+pub mod ToldChains
 pub mod PlayFaults
 pub mod ChainTexts
 pub mod Cited

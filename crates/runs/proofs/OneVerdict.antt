@@ -11,6 +11,7 @@ use Rattle.command_line.specs.declared.asked.BoardLimit.TheVariants.{Small}
 use Rattle.proof_text.specs.Documents.{IsClassProof}
 use Rattle.proof_text.specs.SymmetryProof.{PlainSymmetryProof}
 use Rattle.proof_text.specs.declared.fault.ProofKind.TheVariants.{Memory as OutOfMemory}
+use Rattle.positions.specs.declared.claim.Claim.{Claim}
 use Rattle.proof_text.specs.Arranged.{arranged}
 use Rattle.proof_text.specs.Proof.{PlainProof}
 use Rattle.proof_text.specs.declared.fault.ProofFault.{ProofFault}
@@ -31,37 +32,43 @@ use Rattle.runs.proofs.DocumentKinds.{begins_as, one_version}
 
 -- ---- verdicts
 
+same_acceptance : (claim other : Claim) (rows more : ℕ) → claim ≡ other → rows ≡ more
+    → Accepted (record { claim = claim }) rows ≡ Accepted (record { claim = other }) more
+same_acceptance claim other rows more same counted =
+    ap (λ c. Accepted (record { claim = c }) rows) same
+    ∙ ap (λ n. Accepted (record { claim = other }) n) counted
+
 same_verdict : (board : PlainBoard) (proof : PlainProof) (verdict other : Verdict) → IsVerdict board proof verdict
     → IsVerdict board proof other → verdict ≡ other
-same_verdict board proof (Accepted shown) (Accepted other) is also =
-    ap (λ c. Accepted (record { claim = c })) (is.0 ∙ sym also.0)
-same_verdict board proof (Accepted shown) (Refused fault) is also =
+same_verdict board proof (Accepted shown rows) (Accepted other more) is also =
+    same_acceptance shown.claim other.claim rows more (is.0 ∙ sym also.0) (is.3 ∙ sym also.3)
+same_verdict board proof (Accepted shown rows) (Refused fault) is also =
     absurd (also.1 (only_memory board proof fault is.1 also.0))
-same_verdict board proof (Accepted shown) (RefusedByClasses fault) is also = absurd also
-same_verdict board proof (Refused fault) (Accepted shown) is also =
+same_verdict board proof (Accepted shown rows) (RefusedByClasses fault) is also = absurd also
+same_verdict board proof (Refused fault) (Accepted shown rows) is also =
     absurd (is.1 (only_memory board proof fault also.1 is.0))
 same_verdict board proof (Refused fault) (Refused other) is also =
     ap Refused (one_check_fault board proof fault other is.1 also.1 is.0 also.0)
 same_verdict board proof (Refused fault) (RefusedByClasses other) is also = absurd also
-same_verdict board proof (Accepted shown) (RefusedUpToSymmetries other) is also = absurd also
+same_verdict board proof (Accepted shown rows) (RefusedUpToSymmetries other) is also = absurd also
 same_verdict board proof (Refused fault) (RefusedUpToSymmetries other) is also = absurd also
 same_verdict board proof (RefusedByClasses fault) other is also = absurd is
 same_verdict board proof (RefusedUpToSymmetries fault) other is also = absurd is
 
 same_class_verdict : (board : PlainBoard) (proof : PlainProof) (verdict other : Verdict)
     → IsClassVerdict board proof verdict → IsClassVerdict board proof other → verdict ≡ other
-same_class_verdict board proof (Accepted shown) (Accepted other) is also =
-    ap (λ c. Accepted (record { claim = c })) (is.0 ∙ sym also.0)
-same_class_verdict board proof (Accepted shown) (Refused fault) is also = absurd also
-same_class_verdict board proof (Accepted shown) (RefusedByClasses fault) is also =
+same_class_verdict board proof (Accepted shown rows) (Accepted other more) is also =
+    same_acceptance shown.claim other.claim rows more (is.0 ∙ sym also.0) (is.4 ∙ sym also.4)
+same_class_verdict board proof (Accepted shown rows) (Refused fault) is also = absurd also
+same_class_verdict board proof (Accepted shown rows) (RefusedByClasses fault) is also =
     absurd (no_class_fault (arranged board.labels) board proof fault is.1 also)
-same_class_verdict board proof (RefusedByClasses fault) (Accepted shown) is also =
+same_class_verdict board proof (RefusedByClasses fault) (Accepted shown rows) is also =
     absurd (no_class_fault (arranged board.labels) board proof fault also.1 is)
 same_class_verdict board proof (RefusedByClasses fault) (Refused other) is also = absurd also
 same_class_verdict board proof (RefusedByClasses fault) (RefusedByClasses other) is also =
     ap RefusedByClasses (one_class_fault (arranged board.labels) board proof fault other is also)
 same_class_verdict board proof (Refused fault) other is also = absurd is
-same_class_verdict board proof (Accepted shown) (RefusedUpToSymmetries other) is also = absurd also
+same_class_verdict board proof (Accepted shown rows) (RefusedUpToSymmetries other) is also = absurd also
 same_class_verdict board proof (RefusedByClasses fault) (RefusedUpToSymmetries other) is also = absurd also
 same_class_verdict board proof (RefusedUpToSymmetries fault) other is also = absurd is
 
@@ -69,17 +76,17 @@ module _ (board : PlainBoard) (proof : PlainSymmetryProof) (start : IsConfigurat
     (is_proof : IsClassProof board proof.rows) where
   same_symmetry_verdict : (verdict other : Verdict) → IsSymmetryVerdict board proof verdict
       → IsSymmetryVerdict board proof other → verdict ≡ other
-  same_symmetry_verdict (Accepted shown) (Accepted other) is also =
-      ap (λ c. Accepted (record { claim = c })) (is.0 ∙ sym also.0)
-  same_symmetry_verdict (Accepted shown) (RefusedUpToSymmetries fault) is also =
+  same_symmetry_verdict (Accepted shown rows) (Accepted other more) is also =
+      same_acceptance shown.claim other.claim rows more (is.0 ∙ sym also.0) (is.4 ∙ sym also.4)
+  same_symmetry_verdict (Accepted shown rows) (RefusedUpToSymmetries fault) is also =
       absurd (also.1 (only_symmetry_memory board proof (has_places board proof.rows is_proof) start fault is.1 also.0))
-  same_symmetry_verdict (RefusedUpToSymmetries fault) (Accepted shown) is also =
+  same_symmetry_verdict (RefusedUpToSymmetries fault) (Accepted shown rows) is also =
       absurd (is.1 (only_symmetry_memory board proof (has_places board proof.rows is_proof) start fault also.1 is.0))
   same_symmetry_verdict (RefusedUpToSymmetries fault) (RefusedUpToSymmetries other) is also =
       ap RefusedUpToSymmetries (one_symmetry_fault board proof (has_places board proof.rows is_proof) start fault other
       is.1 also.1 is.0 also.0)
-  same_symmetry_verdict (Accepted shown) (Refused fault) is also = absurd also
-  same_symmetry_verdict (Accepted shown) (RefusedByClasses fault) is also = absurd also
+  same_symmetry_verdict (Accepted shown rows) (Refused fault) is also = absurd also
+  same_symmetry_verdict (Accepted shown rows) (RefusedByClasses fault) is also = absurd also
   same_symmetry_verdict (RefusedUpToSymmetries fault) (Refused other) is also = absurd also
   same_symmetry_verdict (RefusedUpToSymmetries fault) (RefusedByClasses other) is also = absurd also
   same_symmetry_verdict (Refused fault) other is also = absurd is

@@ -1,14 +1,18 @@
 -- When the notice of a large board is told.
-use Rattle.std.proofs.Common.{◌≡◌, ◌<◌, ◌≤◌, Bool, List, ℕ, [], ◌++◌, ap, append_assoc, false, inl, inr, ◌⊎◌}
-use Rattle.std.proofs.Common.{le-ltb}
-use Rattle.std.proofs.Common.{lt-ltb}
-use Rattle.std.proofs.Common.{refl, subst, sym, true}
+use Rattle.std.proofs.Common.{◌≡◌, ◌∙◌, ◌<◌, ◌≤◌, ◌⊎◌, Bool, true, false, List, [], ◌∷◌, ◌++◌, ℕ, suc, ap, append-nil}
+use Rattle.std.proofs.Common.{inl, inr, le-ltb, lt-ltb, refl, subst, sym}
 use Rattle.std.proofs.lemmas.Bool.{cases_lt}
-use Rattle.std.specs.Prelude.{Err, IfErr, IfOk, Ok, Result, if◌then◌else◌}
+use Rattle.std.specs.Prelude.{codes, Err, IfErr, IfOk, MatchResult, Ok, OnErr, OnOk, is_err, Option, Result, if◌then◌else◌}
 use Rattle.board_text.specs.PlainBoard.{PlainBoard}
+use Rattle.board_text.specs.declared.memory.Memory.{Memory as MemoryFault}
+use Rattle.console.specs.Showing.{IsMore}
+use Rattle.console.proofs.Cited.{none_more, then_more, told_lines}
+use Rattle.console.specs.Watching.{AreTold, lines_of}
+use Rattle.gap_values.specs.OpenGaps.{AreOpenCounts}
 use Rattle.positions.specs.Ranks.{configurations}
 use Rattle.positions.specs.declared.space.TheConstants.{MAX_CONFIGURATIONS}
-use Rattle.runs.specs.Notices.{IsNoticedInRun, IsNoticedOfText, notice_for, size_notice}
+use Rattle.runs.specs.Notices.{AreAllRounds, AreRoundsTold, IsNoticedInRun, IsNoticedOfText, is_told_of, notice_for}
+use Rattle.runs.specs.Notices.{bytes_words, round_line, size_notice, tenths_of, tenths_words}
 use Rattle.runs.specs.Run.{Bytes, Fails, Gave, Ran}
 use Rattle.runs.specs.SolveRun.{CannotSolve, IsSolution}
 use Rattle.runs.specs.Texts.{HasNoneWithin, IsBoardWithin}
@@ -21,6 +25,22 @@ use Rattle.runs.specs.declared.fault.RunFault.TheVariants.{Read}
 use Rattle.runs.specs.declared.fault.RunFault.TheVariants.{TooLarge, Worker, Write}
 use Rattle.runs.specs.declared.reading.TheConstants.{MAX_BOARD_BYTES}
 
+-- ---- the number of bytes
+
+pub few_bytes : (bytes : ℕ) → bytes < 1000000000
+    → tenths_words (tenths_of 100000 bytes) ++ codes " MB" ≡ bytes_words bytes
+few_bytes bytes few =
+    sym (ap (λ b. if b then tenths_words (tenths_of 100000 bytes) ++ codes " MB"
+    else tenths_words (tenths_of 100000000 bytes) ++ codes " GB") (lt-ltb bytes 1000000000 few))
+
+pub many_bytes : (bytes : ℕ) → 1000000000 ≤ bytes
+    → tenths_words (tenths_of 100000000 bytes) ++ codes " GB" ≡ bytes_words bytes
+many_bytes bytes many =
+    sym (ap (λ b. if b then tenths_words (tenths_of 100000 bytes) ++ codes " MB"
+    else tenths_words (tenths_of 100000000 bytes) ++ codes " GB") (le-ltb bytes 1000000000 many))
+
+-- ---- when the notice is told
+
 -- it isn't, where nobody is there to see it
 pub nobody_sees : (shows : Bool) (board : PlainBoard) → shows ≡ false → [] ≡ notice_for shows board
 nobody_sees shows board nobody = sym (ap (λ b. notice_for b board) nobody)
@@ -31,6 +51,16 @@ pub small_board : (shows : Bool) (board : PlainBoard) → configurations board �
 small_board true board small =
     sym (ap (λ b. if b then size_notice board else []) (le-ltb MAX_CONFIGURATIONS (configurations board) small))
 small_board false board small = refl
+
+-- so that nothing is told of its rounds
+pub untold : (shows : Bool) (board : PlainBoard) → configurations board ≤ MAX_CONFIGURATIONS
+    → is_told_of shows board ≡ false
+untold true board small = le-ltb MAX_CONFIGURATIONS (configurations board) small
+untold false board small = refl
+
+pub small_rounds : (shows : Bool) (board : PlainBoard) → configurations board ≤ MAX_CONFIGURATIONS
+    → AreAllRounds (is_told_of shows board) board []
+small_rounds shows board small = subst (λ b. AreAllRounds b board []) (sym (untold shows board small)) refl
 
 -- and it is, of a large one
 pub large_board : (shows : Bool) (board : PlainBoard) → shows ≡ true
@@ -45,9 +75,91 @@ large_board true board shows large =
     ]
 large_board false board shows large = cc
 
--- three texts as one
-pub three : (a b c : List ℕ) → a ++ (b ++ c) ≡ a ++ b ++ c
-three a b c = sym (append_assoc a b c)
+-- ---- the lines of the rounds
+
+-- no lines
+none_of : (step : ℕ) (counts : List ℕ) → lines_of (λ step count. []) step counts ≡ []
+none_of step [] = refl
+none_of step (count ∷ counts) = none_of (suc step) counts
+
+module _ {E : Type 0} (known : E → Option (List ℕ)) (failed : E → Bool) where
+  rounds_by : (shows : Bool) (board : PlainBoard) (counts : List ℕ) (old new : E) → AreOpenCounts board counts
+      → IsMore known failed old new
+      (lines_of (λ round count. if shows then round_line round count else []) 1 counts)
+      → (told : List ℕ) × AreAllRounds shows board told × IsMore known failed old new told
+  rounds_by true board counts old new are more = (lines_of round_line 1 counts, (counts, are, refl), more)
+  rounds_by false board counts old new are more =
+      ([], refl, subst (IsMore known failed old new) (none_of 1 counts) more)
+
+  -- the values were found, and all rounds were told of; or they weren't, and nothing was told
+  pub rounds_told : {Values Fault : Type 0} (shows shown : Bool) (board : PlainBoard) (old new : E)
+      (result : Result Values Fault) → shown ≡ shows
+      → OnOk result ((counts : List ℕ) × AreOpenCounts board counts
+      × AreTold (λ old new round count. IsMore known failed old new (if shown then round_line round count else []))
+      1 counts old new)
+      → OnErr result (new ≡ old)
+      → (told : List ℕ) × MatchResult result (λ values. AreAllRounds shows board told) (λ fault. told ≡ [])
+      × IsMore known failed old new told
+  rounds_told shows shown board old new (Ok values) same told untold =
+      rounds_by shows board told.0 old new told.1
+      (subst (λ b. IsMore known failed old new
+      (lines_of (λ round count. if b then round_line round count else []) 1 told.0)) same
+      (told_lines known failed (λ round count. if shown then round_line round count else []) 1 told.0 old new told.2))
+  rounds_told shows shown board old new (Err fault) same told untold =
+      ([], refl, subst (λ e. IsMore known failed old e []) (sym untold) (none_more known failed old))
+
+-- what was told of rounds may belong to another result, if memory is refused in that too
+pub other_result : {Answer Other : Type 0} (shows : Bool) (board : PlainBoard) (result : Result Answer RunFault)
+    (other : Result Other RunFault) → (result ≡ Err Memory → other ≡ Err Memory) → (rounds : List ℕ)
+    → AreRoundsTold shows board result rounds → AreRoundsTold shows board other rounds
+other_result shows board result other to rounds (inl (refused, none)) = inl (to refused, none)
+other_result shows board result other to rounds (inr all) = inr all
+
+-- a fault that is told of one answer is told of another
+pub err_again : {Answer Other : Type 0} (result : Result Answer RunFault) (fault : RunFault) → result ≡ Err fault
+    → result ≡ Err Memory → ◌≡◌ {A = Result Other RunFault} (Err fault) (Err Memory)
+err_again result fault broke refused = let same : fault ≡ Memory = cc in ap Err same
+
+-- the notice of the board with this text, and its rounds, in a run that ends so
+pub noticed_text : {Answer Other : Type 0} (limit : BoardLimit) (text : List ℕ) (shows : Bool) (board : PlainBoard)
+    → IsBoardWithin limit text board → (result : Result Answer RunFault) (other : Result Other RunFault)
+    → (result ≡ Err Memory → other ≡ Err Memory) → (rounds : List ℕ) → AreRoundsTold shows board result rounds
+    → IsNoticedOfText limit text shows other (notice_for shows board ++ rounds)
+noticed_text limit text shows board within result other to rounds are =
+    inl (board, within, rounds, other_result shows board result other to rounds are, refl)
+
+-- what was told of the rounds that find values belongs to a run in which memory is refused, if it is for these
+pub rounds_of_run : {Values Answer : Type 0} (shows : Bool) (board : PlainBoard) (values : Result Values MemoryFault)
+    (result : Result Answer RunFault) → (is_err values ≡ true → result ≡ Err Memory) → (rounds : List ℕ)
+    → MatchResult values (λ found. AreAllRounds (is_told_of shows board) board rounds) (λ memory. rounds ≡ [])
+    → AreRoundsTold shows board result rounds
+rounds_of_run shows board (Ok found) result to rounds all = inr all
+rounds_of_run shows board (Err memory) result to rounds none = inl (to refl, none)
+
+-- the values were found, so all rounds were told of
+pub rounds_found : {Values : Type 0} (shows : Bool) (board : PlainBoard) (values : Result Values MemoryFault)
+    (found : Values) → values ≡ Ok found → (rounds : List ℕ)
+    → MatchResult values (λ found. AreAllRounds (is_told_of shows board) board rounds) (λ memory. rounds ≡ [])
+    → AreAllRounds (is_told_of shows board) board rounds
+rounds_found shows board values found same rounds all =
+    subst (λ (r : Result _ MemoryFault). MatchResult r (λ found. AreAllRounds (is_told_of shows board) board rounds)
+    (λ memory. rounds ≡ [])) same all
+
+-- memory for them was refused, so nothing was
+pub rounds_none : {Values : Type 0} (shows : Bool) (board : PlainBoard) (values : Result Values MemoryFault)
+    (fault : MemoryFault) → values ≡ Err fault → (rounds : List ℕ)
+    → MatchResult values (λ found. AreAllRounds (is_told_of shows board) board rounds) (λ memory. rounds ≡ [])
+    → rounds ≡ []
+rounds_none shows board values fault same rounds all =
+    subst (λ (r : Result _ MemoryFault). MatchResult r (λ found. AreAllRounds (is_told_of shows board) board rounds)
+    (λ memory. rounds ≡ [])) same all
+
+pub untold_more : {E : Type 0} (known : E → Option (List ℕ)) (failed : E → Bool) (old middle new : E)
+    (notice rounds : List ℕ) → IsMore known failed old middle notice → rounds ≡ []
+    → IsMore known failed middle new rounds → IsMore known failed old new notice
+untold_more known failed old middle new notice rounds first none second =
+    subst (IsMore known failed old new) (append-nil notice)
+    (then_more known failed old middle new notice [] first (subst (IsMore known failed middle new) none second))
 
 -- ---- of a board that is read
 
@@ -59,7 +171,14 @@ module _ {Answer Other : Type 0} (limit : BoardLimit) (read : Bytes) (text : Lis
   noticed_then answer ok other = by is
     where
       by : IsNoticedOfText limit text shows result told → IsNoticedInRun limit read shows other told
-      by (inl (board, within, told_is)) = inl (board, (text, gave, within), told_is)
+      by (inl (board, within, rounds, are, told_is)) =
+          inl (
+            board,
+            (text, gave, within),
+            rounds,
+            other_result shows board result other (λ refused. let bad : ⊥ = cc in absurd bad) rounds are,
+            told_is,
+          )
       by (inr (fault, broke, missing, none)) = cc
 
   pub noticed_before : (fault : RunFault) → result ≡ Err fault
@@ -71,7 +190,15 @@ module _ {Answer Other : Type 0} (limit : BoardLimit) (read : Bytes) (text : Lis
 
       by : IsNoticedOfText limit text shows result told
           → IsNoticedInRun {Answer = Other} limit read shows (Err fault) told
-      by (inl (board, within, told_is)) = inl (board, (text, gave, within), told_is)
+      by (inl (board, within, rounds, are, told_is)) =
+          inl (
+            board,
+            (text, gave, within),
+            rounds,
+            other_result {Other = Other} shows board result (Err fault) (λ refused. ap Err (sym (one Memory refused)))
+                rounds are,
+            told_is,
+          )
       by (inr (other, same, missing, none)) =
           inr (fault, refl, inr (text, gave, subst (HasNoneWithin limit text) (one other same) missing), none)
 
@@ -93,7 +220,9 @@ unsolved workers text Limit cannot = inl cannot
 module _ (read : Bytes) (shows : Bool) where
   of_board : (result : Result Value RunFault) (text : List ℕ) (board : PlainBoard) → Gave MAX_BOARD_BYTES read text
       → IsBoardWithin Small text board → IsNoticedInRun Small read shows result []
-  of_board result text board gave within = inl (board, (text, gave, within), small_board shows board within.few)
+  of_board result text board gave within =
+      inl (board, (text, gave, within), [], inr (small_rounds shows board within.few),
+      small_board shows board within.few ∙ sym (append-nil (notice_for shows board)))
 
   pub solved_unnoticed : (workers : ℕ) (written : Bytes) (result : Result Value RunFault)
       → IfOk result (Ran IsSolution MAX_BOARD_BYTES read written)

@@ -3,3 +3,4 @@ pub mod Verdicts
 pub mod Counting
 pub mod Faults
 pub mod SolveRun
+pub mod Chaining

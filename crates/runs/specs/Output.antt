@@ -94,7 +94,7 @@ symmetry_fault_words board symmetry_faults.Memory = []
 
 -- the line of a verdict
 abbrev pub line_of : PlainBoard → Verdict → List ℕ
-line_of board (Accepted shown) = with_line_feed (codes "accepted " ++ claim_words shown.claim)
+line_of board (Accepted shown rows) = with_line_feed (codes "accepted " ++ claim_words shown.claim)
 line_of board (Refused fault) = with_line_feed (codes "refused " ++ fault_words board fault)
 line_of board (RefusedByClasses fault) =
     with_line_feed (codes "refused " ++ class_fault_words board fault)

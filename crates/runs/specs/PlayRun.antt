@@ -11,7 +11,7 @@ use Rattle.positions.specs.declared.side.Side.{Side}
 use Rattle.positions.specs.declared.side.Side.TheVariants.{Labeller, Adversary}
 use Rattle.runs.specs.BoardRun.{FailsOn, GaveBoard, GaveNoBoard, RanOn}
 use Rattle.runs.specs.Faults.{fault_of_play}
-use Rattle.runs.specs.Notices.{notice_for}
+use Rattle.runs.specs.Notices.{AreAllRounds, is_told_of, notice_for}
 use Rattle.runs.specs.Run.{Bytes}
 use Rattle.runs.specs.Texts.{IsWithinLimit}
 use Rattle.command_line.specs.declared.asked.BoardLimit.{BoardLimit}
@@ -52,8 +52,9 @@ run_of_play (Ok end) = Ok end
 run_of_play (Err fault) = Err (fault_of_play fault)
 
 -- what a person is told in the run of a play: nothing, if there was no board; else the notice of
--- the board, and then the prompts of the play on it, or none, if memory for its values was refused.
--- Without a board or its values nothing else is touched
+-- the board, then the rounds that find its values, and then the prompts of the play on it; or after
+-- the notice nothing, if memory for the values was refused. Without a board or its values nothing
+-- else is touched
 abbrev pub IsToldInRun : BoardLimit → Side → ℕ → Type 0 → Bytes → Bytes → Bytes → Bool → Bool
     → Result PlayEnd RunFault → List ℕ → Type 0
 IsToldInRun limit side most_bytes IsUntouched board lines written sees_size sees_choices result
@@ -61,9 +62,11 @@ IsToldInRun limit side most_bytes IsUntouched board lines written sees_size sees
     ((fault : RunFault) × (result ≡ Err fault) × GaveNoBoard limit most_bytes board fault
     × IsUntouched × (told ≡ []))
     ⊎ ((b : PlainBoard) × GaveBoard limit most_bytes board b
-    × (prompts : List ℕ) × (told ≡ notice_for sees_size b ++ prompts)
-    × (((result ≡ Err Memory) × IsUntouched × (prompts ≡ []))
-    ⊎ ((played : Result PlayEnd PlayFault) × (result ≡ run_of_play played)
+    × (later : List ℕ) × (told ≡ notice_for sees_size b ++ later)
+    × (((result ≡ Err Memory) × IsUntouched × (later ≡ []))
+    ⊎ ((rounds prompts : List ℕ) × (later ≡ rounds ++ prompts)
+    × AreAllRounds (is_told_of sees_size b) b rounds
+    × (played : Result PlayEnd PlayFault) × (result ≡ run_of_play played)
     × ArePrompts sees_choices (game_played side b) lines.old lines.new written.old written.new
     played
     prompts)))

@@ -1,5 +1,5 @@
 -- The answer to the text of a document, and to a joined text: its verdict and its line.
-use Rattle.std.specs.Prelude.{◌≡◌, ◌≢◌, ℕ, List, ◌++◌, take}
+use Rattle.std.specs.Prelude.{◌≡◌, ◌≢◌, ℕ, ◌+◌, List, ◌++◌, length, take}
 use Rattle.board_text.specs.PlainBoard.{PlainBoard, IsBoard, IsConfiguration}
 use Rattle.board_text.specs.BoardText.{board_text}
 use Rattle.board_text.specs.BoardFaults as board_faults
@@ -32,26 +32,35 @@ use Rattle.runs.specs.declared.verdicts.Verdict.TheVariants.{RefusedUpToSymmetri
 use Rattle.runs.specs.declared.fault.RunFault.{RunFault}
 use Rattle.runs.specs.declared.fault.RunFault.TheVariants.{Board, Memory}
 
--- the board's document is accepted only where it breaks no rule and
+-- the number of rows of a document, of both sides
+abbrev pub row_count : PlainProof → ℕ
+row_count proof = length proof.labeller + length proof.adversary
+
+-- the board's document is accepted, with the number of its rows, only where it breaks no rule and
 -- shows its claim, and refused with its first fault
 abbrev pub IsVerdict : PlainBoard → PlainProof → Verdict → Type 0
-IsVerdict board proof (Accepted shown) =
+IsVerdict board proof (Accepted shown rows) =
     (shown.claim ≡ proof.claim) × BreaksNoRule configuration_positions board proof
-    × Shows board proof.labeller proof.adversary proof.claim
+    × Shows board proof.labeller proof.adversary proof.claim × (rows ≡ row_count proof)
 IsVerdict board proof (Refused fault) =
     IsCheckFault board proof fault × (fault ≢ check_faults.Memory)
 IsVerdict board proof verdict = ⊥
 
--- the board's document by classes is accepted only where it breaks no rule, and its claim holds of
--- each start of the class; it is refused with its first fault
+-- the board's document by classes is accepted, with the number of its rows, only where it breaks no
+-- rule, and its claim holds of each start of the class; it is refused with its first fault
 abbrev pub IsClassVerdict : PlainBoard → PlainProof → Verdict → Type 0
-IsClassVerdict board proof (Accepted shown) =
+IsClassVerdict board proof (Accepted shown rows) =
     (shown.claim ≡ proof.claim) × BreaksNoRule (class_positions board.labels) board proof
     × Holds board proof.claim
     × ((configuration : List ℕ) → IsConfiguration board configuration
     → class_of configuration ≡ class_of board.start → HoldsAt board configuration proof.claim)
+    × (rows ≡ row_count proof)
 IsClassVerdict board proof (RefusedByClasses fault) = IsFirstClassFault board proof fault
 IsClassVerdict board proof verdict = ⊥
+
+-- the document was accepted, with this claim
+abbrev pub IsAcceptance : Claim → Verdict → Type 0
+IsAcceptance claim verdict = (rows : ℕ) × (verdict ≡ Accepted (record { claim = claim }) rows)
 
 -- the claim holds of each configuration that is alike to the start by what the maps make
 abbrev pub HoldsOfAlike : PlainBoard → List (List ℕ) → Claim → Type 0
@@ -60,12 +69,13 @@ HoldsOfAlike board maps claim =
     → (configuration : List ℕ) → IsConfiguration board configuration
     → AreAlike board.labels group board.start configuration → HoldsAt board configuration claim
 
--- the board's document up to symmetries is accepted only where it breaks no rule, and its claim
--- holds of the start and of all that is alike to it; it is refused with its first fault
+-- the board's document up to symmetries is accepted, with the number of its rows, only where it
+-- breaks no rule, and its claim holds of the start and of all that is alike to it; it is refused with
+-- its first fault
 abbrev pub IsSymmetryVerdict : PlainBoard → PlainSymmetryProof → Verdict → Type 0
-IsSymmetryVerdict board proof (Accepted shown) =
+IsSymmetryVerdict board proof (Accepted shown rows) =
     (shown.claim ≡ proof.rows.claim) × BreaksNoRuleUpTo board proof × Holds board proof.rows.claim
-    × HoldsOfAlike board proof.maps proof.rows.claim
+    × HoldsOfAlike board proof.maps proof.rows.claim × (rows ≡ row_count proof.rows)
 IsSymmetryVerdict board proof (RefusedUpToSymmetries fault) =
     IsFirstSymmetryFault board proof fault × (fault ≢ symmetry_faults.Memory)
 IsSymmetryVerdict board proof verdict = ⊥

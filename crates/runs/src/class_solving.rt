@@ -20,7 +20,6 @@ use crate::work::Work;
 use crate::writing::write_parts;
 use board_text::{Memory, Sink, Source};
 use command_line::BoardLimit;
-use gap_values::GapValues;
 use positions::Value;
 use proof_text::print_classes_in_parts;
 use round_workers::MAX_WORKERS;
@@ -63,7 +62,7 @@ impl Work {
     }
 
     /// The value of the start of the board whose text is `text`, and the text of its document by
-    /// classes, with the notice.
+    /// classes, with the notice and the lines of its rounds.
     fn large_solution<E: Sink>(
         self,
         rt: &(impl Threads + Sync),
@@ -81,7 +80,7 @@ impl Work {
     {
         let board = board_within(alloc, BoardLimit::Large, text)?;
         tell_size(&board, self.shows_size, errors);
-        let values = GapValues::of_by(rt, alloc, &board, self.workers)?;
+        let values = self.values(rt, alloc, &board, errors)?;
         let moves = GapMoves::new(&board, &values);
         class_solution(rt, alloc, &moves, self.workers)
     }

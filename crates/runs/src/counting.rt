@@ -1,19 +1,22 @@
 //! Counting the configurations of a board by their values.
 
-ghost use Rattle.std.specs.Prelude.{◌≡◌, ◌-◌, ◌<◌, ◌≤◌, IfOk, IfErr};
+ghost use Rattle.std.specs.Prelude.{◌≡◌, ◌-◌, ◌<◌, ◌≤◌, ℕ, IfOk, IfErr, List};
 ghost use Rattle.board_text.specs.PlainBoard.{places};
 ghost use Rattle.board_text.specs.Ranges.{InRange};
 ghost use Rattle.classes.specs.Numbers.{ways};
+ghost use Rattle.console.specs.Showing.{IsMore};
 ghost use Rattle.gap_values.specs.Sizes.{AreValueCounts};
 ghost use Rattle.positions.specs.Ranks.{configurations};
 ghost use Rattle.runs.specs.Inside.Counting.{IsBoardCounted};
 ghost use Rattle.runs.specs.Inside.SolveRun.{IsRefused};
-ghost use Rattle.runs.specs.Texts.{IsWithinLimit};
+ghost use Rattle.runs.specs.Notices.{AreRoundsTold};
+ghost use Rattle.runs.specs.Texts.{IsMemory, IsWithinLimit};
 ghost use Rattle.command_line.specs.declared.asked.BoardLimit.TheVariants.{Small};
 
 use crate::fault::RunFault;
 use crate::solving::numbered_by;
-use board_text::{Board, Memory};
+use crate::work::Work;
+use board_text::{Board, Memory, Sink};
 use command_line::BoardLimit;
 use gap_values::{GapValues, MAX_GAPS, Sizes};
 use positions::{MAX_CONFIGURATIONS, Value};
@@ -30,42 +33,53 @@ pub(crate) struct Counted {
     pub(crate) sizes: Sizes,
 }
 
-/// What is counted of `board`, which is within the `limit`, by this number of `workers`. Several
-/// share the rounds over the graph of a small board; of any other they close the gaps of a round.
-pub(crate) fn count(
-    rt: &(impl Threads + Wait + Sync),
-    alloc: Global,
-    limit: BoardLimit,
-    workers: u8,
-    board: &Board,
-) -> Result<Counted, RunFault>
-    requires within { IsWithinLimit limit board.now }
-    requires gaps { ways (board.now.pebbles - 1) (places board.now) ≤ MAX_GAPS }
-    requires workers { InRange 1 MAX_WORKERS workers }
-    ensures counted { IfOk result (IsBoardCounted board.now) }
-    ensures refused { IfErr result (IsRefused limit workers board.now) }
-{
-    match limit {
-        BoardLimit::Small if workers > 1 => count_by_classes(rt, alloc, workers, board),
-        _ => Ok(count_by_gaps(rt, alloc, workers, board)?),
+impl Work {
+    /// What is counted of `board`, which is within the limit. Several workers share the rounds over
+    /// the graph of a small board; of any other they close the gaps of a round, and a person is
+    /// told of it.
+    pub(crate) fn count<E: Sink>(
+        self,
+        rt: &(impl Threads + Wait + Sync),
+        alloc: Global,
+        board: &Board,
+        errors: &mut E,
+    ) -> Result<Counted, RunFault>
+        requires within { IsWithinLimit self.limit board.now }
+        requires gaps { ways (board.now.pebbles - 1) (places board.now) ≤ MAX_GAPS }
+        requires workers { InRange 1 MAX_WORKERS self.workers }
+        ensures counted { IfOk result (IsBoardCounted board.now) }
+        ensures refused { IfErr result (IsRefused self.limit self.workers board.now) }
+        ensures rounds { (told : List ℕ) × AreRoundsTold self.shows_size board.now result told
+            × IsMore E.contents E.has_failed errors.old errors.new told }
+    {
+        match self.limit {
+            BoardLimit::Small if self.workers > 1 => {
+                count_by_classes(rt, alloc, self.workers, board)
+            }
+            _ => self.count_by_gaps(rt, alloc, board, errors),
+        }
     }
-}
 
-/// What is counted of `board` by its gaps, by this number of `workers`.
-fn count_by_gaps(
-    rt: &(impl Threads + Sync),
-    alloc: Global,
-    workers: u8,
-    board: &Board,
-) -> Result<Counted, Memory>
-    requires gaps { ways (board.now.pebbles - 1) (places board.now) ≤ MAX_GAPS }
-    requires workers { 1 ≤ workers }
-    ensures { IfOk result (IsBoardCounted board.now) }
-{
-    let values = GapValues::of_by(rt, alloc, board, workers)?;
-    let start = values.value(board.start());
-    let sizes = values.sizes_by(rt, alloc, workers)?;
-    Ok(Counted { start, sizes })
+    /// What is counted of `board` by its gaps.
+    fn count_by_gaps<E: Sink>(
+        self,
+        rt: &(impl Threads + Sync),
+        alloc: Global,
+        board: &Board,
+        errors: &mut E,
+    ) -> Result<Counted, RunFault>
+        requires gaps { ways (board.now.pebbles - 1) (places board.now) ≤ MAX_GAPS }
+        requires workers { 1 ≤ self.workers }
+        ensures counted { IfOk result (IsBoardCounted board.now) }
+        ensures memory { IfErr result IsMemory }
+        ensures rounds { (told : List ℕ) × AreRoundsTold self.shows_size board.now result told
+            × IsMore E.contents E.has_failed errors.old errors.new told }
+    {
+        let values = self.values(rt, alloc, board, errors)?;
+        let start = values.value(board.start());
+        let sizes = values.sizes_by(rt, alloc, self.workers)?;
+        Ok(Counted { start, sizes })
+    }
 }
 
 /// What is counted of `board`, on this thread.

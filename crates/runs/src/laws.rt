@@ -11,7 +11,8 @@ ghost use Rattle.proof_text.specs.ProofText.{proof_text};
 ghost use Rattle.proof_check.specs.declared.checking.Shown.{Shown as ShownClaim};
 ghost use Rattle.positions.specs.declared.value.Value.{Value as ValueData};
 ghost use Rattle.proof_text.specs.SymmetryProof.{PlainSymmetryProof as SymmetryProofData};
-ghost use Rattle.runs.specs.Verdicts.{IsChecked, IsClassVerdict, IsSymmetryVerdict, IsVerdict};
+ghost use Rattle.runs.specs.Verdicts.{IsAcceptance, IsChecked, IsClassVerdict};
+ghost use Rattle.runs.specs.Verdicts.{IsSymmetryVerdict, IsVerdict};
 ghost use Rattle.runs.specs.Headline.{ShowsValue, IsAccepted};
 ghost use Rattle.strategies.specs.Meaning.{Means};
 ghost use Rattle.runs.specs.Report.{Report as CountReport, IsReport, IsReportOf, IsReportOfText};
@@ -75,14 +76,15 @@ pub fn report_or_fault()
 pub fn accepted_claims_hold()
     ensures least { (text : List ℕ) → (number : ℕ) → AcceptsLeast text number
         → CanAnswer text number }
-    ensures holds { (board : PlainBoard) → (proof : PlainProof) → (shown : ShownClaim)
+    ensures holds { (board : PlainBoard) → (proof : PlainProof) → (shown : ShownClaim) → (rows : ℕ)
         → IsBoard board
-        → IsVerdict board proof (Accepted shown) → Holds board shown.claim }
+        → IsVerdict board proof (Accepted shown rows) → Holds board shown.claim }
     ensures by_classes { (board : PlainBoard) → (proof : PlainProof) → (shown : ShownClaim)
-        → IsClassVerdict board proof (Accepted shown) → Holds board shown.claim }
+        → (rows : ℕ)
+        → IsClassVerdict board proof (Accepted shown rows) → Holds board shown.claim }
     ensures up_to_symmetries { (board : PlainBoard) → (proof : SymmetryProofData)
-        → (shown : ShownClaim)
-        → IsSymmetryVerdict board proof (Accepted shown) → Holds board shown.claim }
+        → (shown : ShownClaim) → (rows : ℕ)
+        → IsSymmetryVerdict board proof (Accepted shown rows) → Holds board shown.claim }
 {}
 
 /// The value that a solved board is given is the greatest number of requests that a labeller can
@@ -117,12 +119,12 @@ pub fn printed_documents_are_accepted()
         → configurations board ≤ MAX_CONFIGURATIONS
         → IsSolved board value text → (proof : PlainProof) → (verdict : VerdictData)
         → IsProof board proof → text ≡ proof_text board proof
-        → IsVerdict board proof verdict → verdict ≡ Accepted (record { claim = claim_of value }) }
+        → IsVerdict board proof verdict → IsAcceptance (claim_of value) verdict }
     ensures text { (text : List ℕ) → (written : List ℕ) → (value : ValueData)
         → (board : PlainBoard) → (verdict : VerdictData) → (line : List ℕ)
         → IsSolution text value written → IsSmallBoard text board
         → IsChecked board written verdict line
-        → verdict ≡ Accepted (record { claim = claim_of value }) }
+        → IsAcceptance (claim_of value) verdict }
     ensures faultless_board { (text : List ℕ) → (written : List ℕ) → (value : ValueData)
         → IsSolution text value written
         → (fault : Fault) → HasNoBoard text fault → IsMemory fault }
@@ -138,7 +140,7 @@ pub fn printed_documents_are_accepted()
         (record { old = Some []; new = Some text }) value
         → RanCheck board_limit proof_limit (record { old = Some bytes; new = board_left })
         (record { old = Some text; new = proof_left }) written verdict
-        → verdict ≡ Accepted (record { claim = claim_of value }) }
+        → IsAcceptance (claim_of value) verdict }
 {}
 
 /// What is written for a board that is solved by classes claims the value of its start, and a check
@@ -149,7 +151,7 @@ pub fn class_solutions_are_accepted()
         → IsClassSolution text value written → (board : PlainBoard)
         → IsBoardAmong OfAnySize text board
         → (verdict : VerdictData) → (line : List ℕ) → IsChecked board written verdict line
-        → verdict ≡ Accepted (record { claim = claim_of value }) }
+        → IsAcceptance (claim_of value) verdict }
     ensures faultless_document { (text : List ℕ) → (written : List ℕ) → (value : ValueData)
         → IsClassSolution text value written → (board : PlainBoard)
         → IsBoardAmong OfAnySize text board

@@ -17,11 +17,12 @@ mod playing;
 mod reading;
 mod reporting;
 mod solving;
+mod told_values;
 mod verdicts;
 mod work;
 mod writing;
 
-pub use chaining::run_chains;
+pub use chaining::Chaining;
 pub use checking::{
     JoinedRun, MAX_JOINED_BYTES, MAX_PROOF_BYTES, run_check, run_joined, run_keeping_text,
 };

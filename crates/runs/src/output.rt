@@ -26,7 +26,7 @@ pub(crate) fn line(alloc: Global, board: &Board, verdict: Verdict) -> Result<Str
 {
     let mut text = String::new(alloc);
     match verdict {
-        Verdict::Accepted(shown) => {
+        Verdict::Accepted { shown, .. } => {
             text.push_str("accepted ")?;
             write_claim(&mut text, shown.claim)?;
         }

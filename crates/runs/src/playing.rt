@@ -18,7 +18,6 @@ use crate::notices::tell_size;
 use crate::reading::{MAX_BOARD_BYTES, read_board};
 use board_text::{Sink, Source, Through};
 use command_line::BoardLimit;
-use gap_values::GapValues;
 use nested_cycles::MAX_LEVELS;
 use player::{AsAdversary, AsClimber, AsLabeller, PlayEnd, PlayFault, play};
 use positions::Side;
@@ -117,7 +116,7 @@ impl Playing {
     {
         let board = read_board(alloc, self.limit, board)?;
         tell_size(&board, self.shows_size, errors);
-        let values = GapValues::of(alloc, &board)?;
+        let values = self.values(alloc, &board, errors)?;
         let moves = GapMoves::new(&board, &values);
         Ok(self.play(alloc, &moves, lines, writer, errors)?)
     }

@@ -15,7 +15,7 @@ ghost use Rattle.runs.specs.SolveRun.{CannotSolve};
 ghost use Rattle.runs.specs.Texts.{HasNoBoard};
 
 use crate::boards::{board_within, small_board};
-use crate::counting::{Counted, count, count_alone};
+use crate::counting::{Counted, count_alone};
 use crate::fault::RunFault;
 use crate::notices::tell_size;
 use crate::reading::{MAX_BOARD_BYTES, read_text};
@@ -96,7 +96,7 @@ impl Work {
         write_text(writer, &report)
     }
 
-    /// The report of the board whose text is `text`, with the notice.
+    /// The report of the board whose text is `text`, with the notice and the lines of its rounds.
     fn report_text<E: Sink>(
         self,
         rt: &(impl Threads + Wait + Sync),
@@ -114,7 +114,7 @@ impl Work {
     {
         let board = board_within(alloc, self.limit, text)?;
         tell_size(&board, self.shows_size, errors);
-        let counted = count(rt, alloc, self.limit, self.workers, &board)?;
+        let counted = self.count(rt, alloc, &board, errors)?;
         Ok(report_of(alloc, &board, &counted)?)
     }
 }

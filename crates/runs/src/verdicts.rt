@@ -1,6 +1,6 @@
 //! The answer to a text: its verdict and its line.
 
-ghost use Rattle.std.specs.Prelude.{◌≡◌, ◌≤◌, IfOk, IfErr, string_bytes};
+ghost use Rattle.std.specs.Prelude.{◌≡◌, ◌+◌, ◌≤◌, IfOk, IfErr, length, string_bytes};
 ghost use Rattle.board_text.specs.PlainBoard.{IsBoard};
 ghost use Rattle.proof_text.specs.Documents.{IsClassDocument, IsDocument, IsSymmetryDocument};
 ghost use Rattle.proof_text.specs.ClassProof.{plain_class_proof};
@@ -24,15 +24,17 @@ use proof_check::{
     CheckFault, ClassFault, ClassNumbers, Shown, SymmetryFault, check, check_classes,
     check_symmetric,
 };
-use proof_text::{ClassProof, Proof, SymmetryProof, parse, parse_classes, parse_symmetric};
+use proof_text::{
+    ClassProof, MAX_CLASS_ROWS, Proof, SymmetryProof, parse, parse_classes, parse_symmetric,
+};
 use std::alloc::Global;
 use std::thread::Threads;
 
 /// The verdict of a check on a document.
 #[derive(Clone, Copy, Debug, PartialEq, Eq)]
 pub enum Verdict {
-    /// The document shows its claim.
-    Accepted(Shown),
+    /// The document, which has this number of rows, shows its claim.
+    Accepted { shown: Shown, rows: u64 },
     /// The document breaks a rule; the first fault. It is never out of memory.
     Refused(CheckFault),
     /// The document by classes breaks a rule; the first fault.
@@ -145,7 +147,10 @@ fn class_verdict_on(
     ensures named { NamesRows board.now result }
 {
     match check_classes(rt, board, proof, numbers) {
-        Ok(()) => Verdict::Accepted(Shown { claim: proof.claim }),
+        Ok(()) => Verdict::Accepted {
+            shown: Shown { claim: proof.claim },
+            rows: count_rows(&proof.labeller, &proof.adversary),
+        },
         Err(fault) => Verdict::RefusedByClasses(fault),
     }
 }
@@ -186,9 +191,12 @@ fn symmetry_verdict_on(
     ensures memory { IfErr result IsMemory }
 {
     match check_symmetric(rt, alloc, board, proof, numbers) {
-        Ok(()) => Ok(Verdict::Accepted(Shown {
-            claim: proof.rows.claim,
-        })),
+        Ok(()) => Ok(Verdict::Accepted {
+            shown: Shown {
+                claim: proof.rows.claim,
+            },
+            rows: count_rows(&proof.rows.labeller, &proof.rows.adversary),
+        }),
         Err(SymmetryFault::Memory) => Err(RunFault::Memory),
         Err(fault) => Ok(Verdict::RefusedUpToSymmetries(fault)),
     }
@@ -228,8 +236,20 @@ fn verdict_on(
     ensures memory { IfErr result IsMemory }
 {
     match check(rt, alloc, board, proof) {
-        Ok(shown) => Ok(Verdict::Accepted(shown)),
+        Ok(shown) => Ok(Verdict::Accepted {
+            shown,
+            rows: count_rows(&proof.labeller, &proof.adversary),
+        }),
         Err(CheckFault::Memory) => Err(RunFault::Memory),
         Err(fault) => Ok(Verdict::Refused(fault)),
     }
+}
+
+/// The number of rows of both sides of a document.
+fn count_rows<A, R>(labeller: &[A], adversary: &[R]) -> u64
+    requires labeller { length labeller.now ≤ MAX_CLASS_ROWS }
+    requires adversary { length adversary.now ≤ MAX_CLASS_ROWS }
+    ensures { result ≡ length labeller.now + length adversary.now }
+{
+    labeller.len() as u64 + adversary.len() as u64
 }

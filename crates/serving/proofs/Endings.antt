@@ -23,7 +23,7 @@ use Rattle.runs.specs.declared.verdicts.Verdict.TheVariants.{RefusedByClasses, R
 
 -- a check whose outcome is broken gave this fault
 pub broken_check : (r : Result Verdict RunFault) (fault : RunFault) → outcome_of_check r ≡ Broken fault → r ≡ Err fault
-broken_check (Ok (AcceptedAs shown)) fault is = cc
+broken_check (Ok (AcceptedAs shown rows)) fault is = cc
 broken_check (Ok (RefusedFor why)) fault is = cc
 broken_check (Ok (RefusedByClasses why)) fault is = cc
 broken_check (Ok (RefusedUpToSymmetries why)) fault is = cc

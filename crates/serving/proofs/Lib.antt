@@ -7,3 +7,4 @@ pub mod BoardEnds
 pub mod Greetings
 pub mod Untold
 pub mod OneServing
+pub mod RowLines

@@ -1,6 +1,6 @@
 -- Where standard error is no terminal, a person is told nothing.
-use Rattle.std.proofs.Common.{◌≡◌, ℕ, ◌&&◌, Bool, true, false, List, [], inl, inr, refl, subst, ◌∙◌}
-use Rattle.std.specs.Prelude.{◌⊎◌, Err, Result}
+use Rattle.std.proofs.Common.{◌≡◌, ℕ, suc, ◌&&◌, Bool, true, false, List, [], ◌∷◌, ◌++◌, ap, inl, inr, refl, subst, ◌∙◌}
+use Rattle.std.specs.Prelude.{◌⊎◌, Err, Ok, Result, if◌then◌else◌}
 use Rattle.command_line.specs.declared.asked.BoardLimit.{BoardLimit}
 use Rattle.command_line.specs.declared.asked.Job.{Job}
 use Rattle.command_line.specs.declared.asked.Job.TheVariants.{Joined, Check, Nested, Solve, Report, Chains}
@@ -12,14 +12,20 @@ use Rattle.player.specs.declared.end.PlayEnd.{PlayEnd}
 use Rattle.player.specs.declared.end.PlayFault.{PlayFault}
 use Rattle.player.proofs.Cited.{nothing_told}
 use Rattle.positions.specs.declared.side.Side.{Side}
-use Rattle.runs.specs.Notices.{IsNoticedInRun}
+use Rattle.runs.specs.CheckRun.{RanCheck}
+use Rattle.console.specs.Watching.{lines_of}
+use Rattle.runs.specs.Notices.{IsNoticedInRun, IsToldOfChains, notice_of_length}
 use Rattle.runs.specs.PlayRun.{IsToldInRun, game_played, run_of_play}
-use Rattle.runs.specs.Run.{Bytes, Stream}
+use Rattle.runs.specs.Run.{Bytes, Ran, Stream}
+use Rattle.runs.specs.Verdicts.{IsAnswered}
+use Rattle.runs.specs.declared.checking.TheConstants.{MAX_JOINED_BYTES, MAX_PROOF_BYTES}
 use Rattle.runs.specs.declared.fault.RunFault.{RunFault}
 use Rattle.runs.specs.declared.fault.RunFault.TheVariants.{Memory}
 use Rattle.runs.specs.declared.reading.TheConstants.{MAX_BOARD_BYTES}
+use Rattle.runs.specs.declared.verdicts.Verdict.{Verdict}
+use Rattle.runs.specs.declared.verdicts.Verdict.TheVariants.{Accepted, Refused, RefusedByClasses}
 use Rattle.serving.specs.Folders.{File}
-use Rattle.serving.specs.Telling.{IsToldInJob, OpensAndTells, types_and_sees}
+use Rattle.serving.specs.Telling.{IsToldAfterCheck, IsToldInJob, OpensAndTells, rows_line, rows_told, types_and_sees}
 use Rattle.serving.proofs.Greetings.{ungreeted}
 use Rattle.serving.specs.declared.outcome.Outcome.{Outcome}
 
@@ -31,23 +37,45 @@ unseen false sees off = refl
 unnoticed : {Answer : Type 0} (limit : BoardLimit) (read : Bytes) (shows : Bool) → shows ≡ false
     → (result : Result Answer RunFault) (told : List ℕ) → IsNoticedInRun limit read shows result told → told ≡ []
 unnoticed limit read true off result told is = cc
-unnoticed limit read false off result told (inl (board, given, is)) = is
+unnoticed limit read false off result told (inl (board, given, rounds, inl (refused, none), is)) = is ∙ none
+unnoticed limit read false off result told (inl (board, given, rounds, inr none, is)) = is ∙ none
 unnoticed limit read false off result told (inr (fault, broke, missing, none)) = none
 
 unprompted : (limit : BoardLimit) (side : Side) (most_bytes : ℕ) (Untouched : Type 0) (board lines written : Bytes)
     (result : Result PlayEnd RunFault) (told : List ℕ)
     → IsToldInRun limit side most_bytes Untouched board lines written false false result told → told ≡ []
 unprompted limit side most_bytes Untouched board lines written result told (inl none) = none.4
-unprompted limit side most_bytes Untouched board lines written result told (inr (b, gave, prompts, is, how)) =
-    is ∙ by how
-  where
-    by : ((result ≡ Err Memory) × Untouched × (prompts ≡ []))
-        ⊎ ((played : Result PlayEnd PlayFault) × (result ≡ run_of_play played)
-        × ArePrompts false (game_played side b) lines.old lines.new written.old written.new played prompts)
-        → prompts ≡ []
-    by (inl (refused, kept, none)) = none
-    by (inr (played, same, are)) =
-        nothing_told (game_played side b) prompts lines.old lines.new written.old written.new played are
+unprompted limit side most_bytes Untouched board lines written result told
+    (inr (b, gave, later, is, inl (refused, kept, none))) =
+    is ∙ none
+unprompted limit side most_bytes Untouched board lines written result told
+    (inr (b, gave, later, is, inr (rounds, prompts, both, none, played, same, are))) =
+    is ∙ both ∙ ap (λ r. r ++ prompts) none
+    ∙ nothing_told (game_played side b) prompts lines.old lines.new written.old written.new played are
+
+-- nor of lengths of many chains
+no_lines : (shows : Bool) → shows ≡ false → (step : ℕ) (counts : List ℕ)
+    → lines_of (notice_of_length shows) step counts ≡ []
+no_lines true off step counts = cc
+no_lines false off step [] = refl
+no_lines false off step (count ∷ counts) = no_lines false refl (suc step) counts
+
+no_lengths : (most : ℕ) (read : Bytes) (shows : Bool) → shows ≡ false → (result : Result (Unit {0}) RunFault)
+    (told : List ℕ) → IsToldOfChains most read shows result told → told ≡ []
+no_lengths most read shows off result told (inl (board, gave, counts, are, complete, is)) =
+    is ∙ no_lines shows off 1 counts
+no_lengths most read shows off result told (inr (fault, broke, missing, none)) = none
+
+-- nor of the rows of a document
+no_rows : (shows : Bool) → shows ≡ false → (result : Result Verdict RunFault) → rows_told shows result ≡ []
+no_rows shows off (Ok (Accepted shown rows)) = ap (λ b. if b then rows_line rows else []) off
+no_rows shows off (Ok (Refused fault)) = refl
+no_rows shows off (Ok (RefusedByClasses fault)) = refl
+no_rows shows off (Err fault) = refl
+
+uncounted : (shows : Bool) → shows ≡ false → (IsOfRun : Verdict → Type 0) (outcome : Outcome) (told : List ℕ)
+    → IsToldAfterCheck shows IsOfRun outcome told → told ≡ []
+uncounted shows off IsOfRun outcome told (result, same, ran, is) = is ∙ no_rows shows off result
 
 unopened : {Answer : Type 0} (file : File) (Tells : Bytes → Result Answer RunFault → List ℕ → Type 0)
     (outcome : Outcome) (told : List ℕ)
@@ -70,12 +98,18 @@ module _ (at : List ℕ → File) (terminals : Terminals) (off : terminals.error
       (λ read result tells. unnoticed limit read terminals.errors off result told tells) is
 
   pub nothing_in_job : (job : Job) (told : List ℕ) → IsToldInJob at terminals input output outcome job told → told ≡ []
-  nothing_in_job Joined told is = is ∙ ungreeted terminals unseen_here
-  nothing_in_job (Check board proof) told is = is
+  nothing_in_job Joined told (rows, after, is) =
+      is ∙ ap (λ greeting. greeting ++ rows) (ungreeted terminals unseen_here)
+      ∙ uncounted terminals.errors off (Ran IsAnswered MAX_JOINED_BYTES input.bytes output.bytes) outcome rows after
+  nothing_in_job (Check board proof) told (inl (fails, is)) = is
+  nothing_in_job (Check board proof) told (inr (b, p, opens, opens_too, after)) =
+      uncounted terminals.errors off (RanCheck MAX_BOARD_BYTES MAX_PROOF_BYTES b p output.bytes) outcome told after
   nothing_in_job (Nested levels pebbles) told is = is
   nothing_in_job (Solve workers limit board) told is = size_untold limit (at board.now) told is
   nothing_in_job (Report workers limit board) told is = size_untold limit (at board.now) told is
-  nothing_in_job (Chains workers most board) told is = is
+  nothing_in_job (Chains workers most board) told is =
+      unopened {Answer = Unit {0}} (at board.now) (λ read. IsToldOfChains most read terminals.errors) outcome told
+      (λ read result tells. no_lengths most read terminals.errors off result told tells) is
   nothing_in_job (Play side limit board) told is =
       unopened {Answer = PlayEnd} (at board.now)
       (λ read. IsToldInRun limit side MAX_BOARD_BYTES (input.IsKept × output.IsKept) read input.bytes output.bytes

@@ -14,7 +14,7 @@ use Rattle.runs.specs.declared.verdicts.Verdict.TheVariants.{RefusedUpToSymmetri
 
 -- the outcome of a check
 abbrev pub outcome_of_check : Result Verdict RunFault → Outcome
-outcome_of_check (Ok (AcceptedAs shown)) = Done
+outcome_of_check (Ok (AcceptedAs shown rows)) = Done
 outcome_of_check (Ok (RefusedFor fault)) = Refused
 outcome_of_check (Ok (RefusedByClasses fault)) = Refused
 outcome_of_check (Ok (RefusedUpToSymmetries fault)) = Refused

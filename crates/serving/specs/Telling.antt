@@ -1,6 +1,8 @@
 -- What a person is told while a job is done.
 use Rattle.std.specs.Prelude.{◌≡◌, ℕ, ◌⊎◌, ◌&&◌, ◌++◌, if◌then◌else◌, Bool, List, [], Result}
-use Rattle.std.specs.Prelude.{codes}
+use Rattle.std.specs.Prelude.{codes, nat_eq, IfOk, Ok}
+use Rattle.std.specs.Fmt.{decimal}
+use Rattle.board_text.specs.LineForms.{with_line_feed}
 use Rattle.command_line.specs.declared.asked.Job.{Job}
 use Rattle.command_line.specs.declared.asked.Job.TheVariants.{Joined, Check, Nested, Solve, Report}
 use Rattle.command_line.specs.declared.asked.Job.TheVariants.{Chains}
@@ -11,13 +13,18 @@ use Rattle.player.specs.Transcript.{PersonClimbs}
 use Rattle.player.specs.declared.end.PlayEnd.{PlayEnd}
 use Rattle.player.specs.declared.end.PlayFault.{PlayFault}
 use Rattle.positions.specs.declared.value.Value.{Value}
-use Rattle.runs.specs.Notices.{IsNoticedInRun}
+use Rattle.runs.specs.CheckRun.{RanCheck}
+use Rattle.runs.specs.Notices.{IsNoticedInRun, IsToldOfChains}
 use Rattle.runs.specs.PlayRun.{IsToldInRun, run_of_play}
-use Rattle.runs.specs.Run.{Bytes, Stream}
+use Rattle.runs.specs.Run.{Bytes, Ran, Stream}
+use Rattle.runs.specs.Verdicts.{IsAnswered}
+use Rattle.runs.specs.declared.checking.TheConstants.{MAX_JOINED_BYTES, MAX_PROOF_BYTES}
 use Rattle.runs.specs.declared.fault.RunFault.{RunFault}
 use Rattle.runs.specs.declared.reading.TheConstants.{MAX_BOARD_BYTES}
+use Rattle.runs.specs.declared.verdicts.Verdict.{Verdict}
+use Rattle.runs.specs.declared.verdicts.Verdict.TheVariants.{Accepted}
 use Rattle.serving.specs.Folders.{File, OpensWith, CanFail}
-use Rattle.serving.specs.Outcomes.{outcome_of_run}
+use Rattle.serving.specs.Outcomes.{outcome_of_check, outcome_of_run}
 use Rattle.serving.specs.declared.outcome.Outcome.{Outcome}
 
 -- a person types at a terminal, and sees what is told at another
@@ -30,6 +37,35 @@ joined_greeting terminals =
     if types_and_sees terminals then shown_line (codes "type or paste a board and a strategy "
     ++ codes "document, and Ctrl-D; `pebbles --help` lists the commands")
     else []
+
+-- the line with a number of rows
+abbrev pub rows_line : ℕ → List ℕ
+rows_line rows = with_line_feed (if nat_eq rows 1 then codes "1 row was checked"
+    else decimal rows ++ codes " rows were checked")
+
+-- after a verdict that accepts, the number of rows, if a person sees it; else nothing
+abbrev pub rows_told : Bool → Result Verdict RunFault → List ℕ
+rows_told shows (Ok (Accepted shown rows)) = if shows then rows_line rows else []
+rows_told shows result = []
+
+-- this was told after a check with the outcome, whose verdict, if there is one, is of such a run
+abbrev pub IsToldAfterCheck : Bool → (Verdict → Type 0) → Outcome → List ℕ → Type 0
+IsToldAfterCheck shows IsOfRun outcome told = (result : Result Verdict RunFault)
+    × (outcome ≡ outcome_of_check result) × IfOk result IsOfRun × (told ≡ rows_told shows result)
+
+-- the same of a check of the document in one file for the board in another; nothing was told if one
+-- of them can't be opened
+abbrev pub IsToldOfFiles : Bool → File → File → Bytes → Outcome → List ℕ → Type 0
+IsToldOfFiles shows board proof written outcome told =
+    ((CanFail board ⊎ CanFail proof) × (told ≡ []))
+    ⊎ ((b p : Bytes) × OpensWith board b.old × OpensWith proof p.old
+    × IsToldAfterCheck shows (RanCheck MAX_BOARD_BYTES MAX_PROOF_BYTES b p written) outcome told)
+
+-- the same of a joined check, after the greeting
+abbrev pub IsToldOfJoined : Terminals → Bytes → Bytes → Outcome → List ℕ → Type 0
+IsToldOfJoined terminals read written outcome told = (rows : List ℕ)
+    × IsToldAfterCheck terminals.errors (Ran IsAnswered MAX_JOINED_BYTES read written) outcome rows
+    × (told ≡ joined_greeting terminals ++ rows)
 
 -- nothing was told, since the file can't be opened; or it was, and what was told belongs to the
 -- result of the run on it
@@ -48,17 +84,21 @@ IsToldInClimb shows levels lines written outcome told = (played : Result PlayEnd
 
 module _ (at : List ℕ → File) (terminals : Terminals) (input output : Stream)
     (outcome : Outcome) where
-  -- the greeting of a joined check, the notice of a large board if a person sees it, the prompts of
-  -- a play if a person types too, each in its place; else nothing
+  -- the greeting of a joined check and the prompts of a play, if a person types and sees it; the
+  -- notice of a large board and its rounds, the lengths of many chains, and the number of rows that
+  -- were checked, if a person sees it; each in its place, and else nothing
   abbrev pub IsToldInJob : Job → List ℕ → Type 0
-  IsToldInJob Joined told = told ≡ joined_greeting terminals
-  IsToldInJob (Check board proof) told = told ≡ []
+  IsToldInJob Joined told = IsToldOfJoined terminals input.bytes output.bytes outcome told
+  IsToldInJob (Check board proof) told =
+      IsToldOfFiles terminals.errors (at board.now) (at proof.now) output.bytes outcome told
   IsToldInJob (Nested levels pebbles) told = told ≡ []
   IsToldInJob (Solve workers limit board) told = OpensAndTells {Answer = Value} (at board.now)
       (λ read. IsNoticedInRun limit read terminals.errors) outcome told
   IsToldInJob (Report workers limit board) told = OpensAndTells {Answer = Unit {0}} (at board.now)
       (λ read. IsNoticedInRun limit read terminals.errors) outcome told
-  IsToldInJob (Chains workers most board) told = told ≡ []
+  IsToldInJob (Chains workers most board) told =
+      OpensAndTells {Answer = Unit {0}} (at board.now)
+      (λ read. IsToldOfChains most read terminals.errors) outcome told
   IsToldInJob (Play side limit board) told = OpensAndTells {Answer = PlayEnd} (at board.now)
       (λ read. IsToldInRun limit side MAX_BOARD_BYTES (input.IsKept × output.IsKept) read
       input.bytes output.bytes terminals.errors (types_and_sees terminals)) outcome told

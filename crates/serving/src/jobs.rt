@@ -8,7 +8,7 @@ ghost use Rattle.command_line.specs.Reading.{IsInRange};
 ghost use Rattle.console.specs.Showing.{IsMore};
 ghost use Rattle.player.specs.declared.end.PlayEnd.{PlayEnd as EndData};
 ghost use Rattle.positions.specs.declared.value.Value.{Value as ValueData};
-ghost use Rattle.runs.specs.Notices.{IsNoticedInRun};
+ghost use Rattle.runs.specs.Notices.{IsNoticedInRun, IsToldOfChains};
 ghost use Rattle.runs.specs.PlayRun.{IsToldInRun};
 ghost use Rattle.runs.specs.Run.{bytes_of, stream_of};
 ghost use Rattle.serving.specs.Consoles.{IsReady};
@@ -16,8 +16,9 @@ ghost use Rattle.serving.specs.Folders.{CanFail};
 ghost use Rattle.serving.specs.Jobs.{IsDone, Checks, ChecksJoined, Climbs, Counts, CountsChains};
 ghost use Rattle.serving.specs.Jobs.{Plays, Solves};
 ghost use Rattle.serving.specs.Jobs.{TellsReads, TellsWrites, WritesNested};
-ghost use Rattle.serving.specs.Telling.{IsToldInClimb, IsToldInJob, OpensAndTells};
-ghost use Rattle.serving.specs.Telling.{joined_greeting, types_and_sees};
+ghost use Rattle.serving.specs.Telling.{IsToldInClimb, IsToldInJob, IsToldOfFiles, IsToldOfJoined};
+ghost use Rattle.serving.specs.Telling.{OpensAndTells, joined_greeting, rows_line, rows_told};
+ghost use Rattle.serving.specs.Telling.{types_and_sees};
 
 use crate::files::Files;
 use crate::folder::Folder;
@@ -26,11 +27,11 @@ use crate::watched::Watched;
 use board_text::{MAX_PEBBLES, Sink, Source};
 use chains::MAX_LENGTH;
 use command_line::{BoardLimit, Job, MAX_WORKERS};
-use console::{Console, Terminals, write_line};
+use console::{Console, Terminals, write_digits, write_line, write_more};
 use explanations::{Inputs, Note, Origin};
 use nested_cycles::{MAX_BOARD_LEVELS, MAX_LEVELS};
 use runs::{
-    JoinedRun, MAX_BOARD_BYTES, Playing, RunFault, Work, run_chains, run_check, run_climb,
+    Chaining, JoinedRun, MAX_BOARD_BYTES, Playing, RunFault, Verdict, Work, run_check, run_climb,
     run_keeping_text, run_nested,
 };
 use std::alloc::Global;
@@ -93,7 +94,7 @@ impl<'a> Ended<'a> {
 /// Does the job, and says how it ended.
 ///
 /// The first bytes of files are kept if faults are explained. A person who sees standard error is
-/// told there that a large board is solved, and one who types too what can be typed.
+/// told there of large boards, long walks and rows, and one who types too what can be typed.
 /// With several workers it may wait for them.
 pub(crate) fn carry_out<'a, F: Folder, I: Source, O: Sink, E: Sink>(
     rt: &(impl Threads + Wait + Sync),
@@ -117,7 +118,7 @@ pub(crate) fn carry_out<'a, F: Folder, I: Source, O: Sink, E: Sink>(
     let shows_size = console.terminals.errors;
     match *job {
         Job::Joined => check_joined(rt, alloc, files, console),
-        Job::Check { board, proof } => check(rt, alloc, files, board, proof, &mut console.output),
+        Job::Check { board, proof } => check(rt, alloc, files, board, proof, console),
         Job::Nested { levels, pebbles } => {
             write_nested(alloc, levels, pebbles, &mut console.output)
         }
@@ -149,7 +150,14 @@ pub(crate) fn carry_out<'a, F: Folder, I: Source, O: Sink, E: Sink>(
             workers,
             most,
             board,
-        } => chains(rt, alloc, workers, most, files, board, &mut console.output),
+        } => {
+            let chaining = Chaining {
+                workers,
+                most,
+                shows_lengths: console.terminals.errors,
+            };
+            chains(rt, alloc, chaining, files, board, console)
+        }
         Job::Play { side, limit, board } => {
             let playing = Playing {
                 side,
@@ -188,8 +196,10 @@ fn check_joined<F: Folder, I: Source, O: Sink, E: Sink>(
         (stream_of O.contents O.has_failed console.old.output console.new.output) result.outcome }
     ensures reads { TellsReads
         (stream_of I.remaining I.has_failed console.old.input console.new.input) result.outcome }
-    ensures told { IsMore E.contents E.has_failed console.old.errors console.new.errors
-        (joined_greeting console.old.terminals) }
+    ensures told { (told : List ℕ) × IsToldOfJoined console.old.terminals
+        (bytes_of I.remaining console.old.input console.new.input)
+        (bytes_of O.contents console.old.output console.new.output) result.outcome told
+        × IsMore E.contents E.has_failed console.old.errors console.new.errors told }
 {
     greet(console.terminals, &mut console.errors);
     let JoinedRun { result, text } = run_keeping_text(
@@ -198,6 +208,7 @@ fn check_joined<F: Folder, I: Source, O: Sink, E: Sink>(
         &mut console.input,
         &mut console.output,
     );
+    tell_rows(result, console.terminals.errors, &mut console.errors);
     let trouble = files.trouble_of(INPUT_PATH, &console.input);
     Ended {
         outcome: Outcome::of_check(result),
@@ -205,24 +216,53 @@ fn check_joined<F: Folder, I: Source, O: Sink, E: Sink>(
     }
 }
 
+/// Says how many rows were checked, if the document was accepted and `shows` says that a person is
+/// there.
+fn tell_rows<E: Sink>(checked: Result<Verdict, RunFault>, shows: bool, errors: &mut E)
+    ensures { IsMore E.contents E.has_failed errors.old errors.new (rows_told shows checked) }
+{
+    if let Ok(Verdict::Accepted { rows, .. }) = checked {
+        if shows {
+            write_rows(rows, errors);
+        }
+    }
+}
+
+/// Writes the line that says that this number of `rows` was checked.
+fn write_rows<E: Sink>(rows: u64, errors: &mut E)
+    ensures { IsMore E.contents E.has_failed errors.old errors.new (rows_line rows) }
+{
+    if rows == 1 {
+        write_more(errors, "1 row was checked\n");
+    } else {
+        write_digits(errors, rows);
+        write_more(errors, " rows were checked\n");
+    }
+}
+
 /// Checks the document at a path for the board at another. Both are opened before one is read.
-fn check<'a, F: Folder, O: Sink>(
+fn check<'a, F: Folder, I: Source, O: Sink, E: Sink>(
     rt: &(impl Threads + Sync),
     alloc: Global,
     files: &Files<'_, F>,
     board: &'a str,
     proof: &'a str,
-    output: &mut O,
+    console: &mut Console<I, O, E>,
 ) -> Ended<'a>
-    requires output_ready { O.has_failed output.old ≡ false }
+    requires output_ready { O.has_failed console.old.output ≡ false }
+    ensures kept { console.new.input ≡ console.old.input }
     ensures done { Checks (F.at files.now.folder.now board.now)
         (F.at files.now.folder.now proof.now)
-        (stream_of O.contents O.has_failed output.old output.new) result.outcome }
-    ensures writes { TellsWrites (stream_of O.contents O.has_failed output.old output.new)
-        result.outcome }
+        (stream_of O.contents O.has_failed console.old.output console.new.output) result.outcome }
+    ensures writes { TellsWrites
+        (stream_of O.contents O.has_failed console.old.output console.new.output) result.outcome }
     ensures unread { result.outcome ≡ Broken Read
         → CanFail (F.at files.now.folder.now board.now)
         ⊎ CanFail (F.at files.now.folder.now proof.now) }
+    ensures told { (told : List ℕ) × IsToldOfFiles console.old.terminals.errors
+        (F.at files.now.folder.now board.now) (F.at files.now.folder.now proof.now)
+        (bytes_of O.contents console.old.output console.new.output) result.outcome told
+        × IsMore E.contents E.has_failed console.old.errors console.new.errors told }
 {
     let Ok(mut reader) = files.open(alloc, board) else {
         return Ended::unopened(files, board);
@@ -230,7 +270,14 @@ fn check<'a, F: Folder, O: Sink>(
     let Ok(mut other) = files.open(alloc, proof) else {
         return Ended::unopened(files, proof);
     };
-    let checked = run_check(rt, alloc, &mut reader, &mut other, output);
+    let checked = run_check(
+        rt,
+        alloc,
+        &mut reader,
+        &mut other,
+        &mut console.output,
+    );
+    tell_rows(checked, console.terminals.errors, &mut console.errors);
     let trouble = files.trouble_of(board, &reader);
     let first = Origin::board(board, reader.text(), reader.count(), trouble);
     let trouble = files.trouble_of(proof, &other);
@@ -327,28 +374,38 @@ fn report<'a, F: Folder, I: Source, O: Sink, E: Sink>(
 }
 
 /// Counts the chains of the board at a path.
-fn chains<'a, F: Folder, O: Sink>(
+fn chains<'a, F: Folder, I: Source, O: Sink, E: Sink>(
     rt: &(impl Threads + Sync),
     alloc: Global,
-    workers: u8,
-    most: u8,
+    chaining: Chaining,
     files: &Files<'_, F>,
     board: &'a str,
-    output: &mut O,
+    console: &mut Console<I, O, E>,
 ) -> Ended<'a>
-    requires workers { InRange 1 MAX_WORKERS workers }
-    requires most { InRange 1 MAX_LENGTH most }
-    requires output_ready { O.has_failed output.old ≡ false }
-    ensures done { CountsChains most (F.at files.now.folder.now board.now)
-        (stream_of O.contents O.has_failed output.old output.new) result.outcome }
-    ensures writes { TellsWrites (stream_of O.contents O.has_failed output.old output.new)
-        result.outcome }
+    requires workers { InRange 1 MAX_WORKERS chaining.workers }
+    requires most { InRange 1 MAX_LENGTH chaining.most }
+    requires output_ready { O.has_failed console.old.output ≡ false }
+    ensures kept { console.new.input ≡ console.old.input }
+    ensures done { CountsChains chaining.most (F.at files.now.folder.now board.now)
+        (stream_of O.contents O.has_failed console.old.output console.new.output) result.outcome }
+    ensures writes { TellsWrites
+        (stream_of O.contents O.has_failed console.old.output console.new.output) result.outcome }
     ensures unread { result.outcome ≡ Broken Read → CanFail (F.at files.now.folder.now board.now) }
+    ensures told { (told : List ℕ) × OpensAndTells {Answer = Unit {0}}
+        (F.at files.now.folder.now board.now)
+        (λ read. IsToldOfChains chaining.most read chaining.shows_lengths) result.outcome told
+        × IsMore E.contents E.has_failed console.old.errors console.new.errors told }
 {
     let Ok(mut reader) = files.open(alloc, board) else {
         return Ended::unopened(files, board);
     };
-    let counted = run_chains(rt, alloc, workers, most, &mut reader, output);
+    let counted = chaining.run(
+        rt,
+        alloc,
+        &mut reader,
+        &mut console.output,
+        &mut console.errors,
+    );
     Ended::of_board(
         Outcome::of_run(counted),
         BoardLimit::Large,

@@ -24,7 +24,7 @@ impl Outcome {
         ensures { result ≡ outcome_of_check checked }
     {
         match checked {
-            Ok(Verdict::Accepted(_)) => Outcome::Done,
+            Ok(Verdict::Accepted { .. }) => Outcome::Done,
             Ok(
                 Verdict::Refused(_)
                 | Verdict::RefusedByClasses(_)

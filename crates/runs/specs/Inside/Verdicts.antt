@@ -12,7 +12,7 @@ use Rattle.runs.specs.declared.verdicts.Verdict.TheVariants.{RefusedUpToSymmetri
 
 -- the rows that the verdict names are of the board's ranks, which are few, or of its classes
 abbrev pub NamesRows : PlainBoard → Verdict → Type 0
-NamesRows board (Accepted shown) = Unit {0}
+NamesRows board (Accepted shown rows) = Unit {0}
 NamesRows board (Refused fault) =
     (configurations board ≤ MAX_CONFIGURATIONS) × NamesRanks board fault
 NamesRows board (RefusedByClasses fault) = NamesClass board fault

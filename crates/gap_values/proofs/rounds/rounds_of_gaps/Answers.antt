@@ -1,9 +1,13 @@
 use Rattle.std.proofs.Common.{◌≡◌, ◌∙◌, ◌<◌, ◌≤◌, ◌+◌, ◌-◌, ℕ, List, length, replicate, drop, get_or, sym, ap}
-use Rattle.std.proofs.Common.{subst, arith, ◌↔◌, ◌⊎◌, ◌≢◌, ◌++◌, inl, inr, Bool, IsTrue}
+use Rattle.std.proofs.Common.{subst, arith, ◌↔◌, ◌⊎◌, ◌≢◌, ◌++◌, [], ◌∷◌, inl, inr, Bool, IsTrue}
 use Rattle.std.proofs.lemmas.List.{take_at}
+use Rattle.std.proofs.lemmas.Result.{err_from_is_err_and}
 use Rattle.board_text.specs.PlainBoard.{places}
 use Rattle.classes.specs.Numbers.{ways}
+use Rattle.gap_values.specs.Inside.OpenWords.{open_below}
 use Rattle.gap_values.specs.Inside.Sets.{ArePassed, AreToldTo, TellClosed}
+use Rattle.console.proofs.Cited.{none_told, nothing_told, told_more}
+use Rattle.gap_values.proofs.OpenCounts.{all-rounds, lone-counts, none-so-far, one-more}
 use Rattle.gap_values.proofs.RoundSteps.{IsAtRound, gap_count, first-round, last-round, lone-rounds, next-round}
 use Rattle.gap_values.proofs.RoundSteps.{all-told, first-kept}
 use Rattle.gap_values.proofs.RoundSteps.{some-closed, telling-begins}
@@ -19,12 +23,13 @@ words-open g c =
     let count : c.gaps.result ≡ gap_count c.args.board.now = c.gaps.ensures.value ∙ ap gap_count c.requires.board in
     c.in_ok-words.ensures.items_if_clones_equal (λ y e. e) ∙ ap (λ n. replicate n 4294967295) count
 
-pub returns-then-pebbles-eq1 : goal.returns-then-pebbles-eq1
-returns-then-pebbles-eq1 g c =
+pub returns-then-pebbles-eq1-clause-rounds : goal.returns-then-pebbles-eq1-clause-rounds
+returns-then-pebbles-eq1-clause-rounds g c =
     let one = c.if-pebbles-eq1.true in
     record {
       words = lone-rounds c.args.board.now c.in_ok-words.words.items c.pebbles.ensures.is_board
-          (sym c.pebbles.ensures.value ∙ one) (words-open g (goal.at.returns-then-pebbles-eq1 g c).In_ok-words);
+          (sym c.pebbles.ensures.value ∙ one)
+          (words-open g (goal.at.returns-then-pebbles-eq1-clause-rounds g c).In_ok-words);
       first = λ some. absurd (omega (arith, some, one, c.pebbles.ensures.value));
       closed = λ some. absurd (omega (arith, some, one, c.pebbles.ensures.value));
     }
@@ -41,6 +46,11 @@ loop-round-init g c =
           c.below.ensures c.pebbles.ensures.is_board;
       none = λ begun. c.in_ok-first.ensures.items;
       first = λ some. absurd (omega arith);
+      told = (
+        [],
+        none-so-far c.args.board.now c.in_ok-words.words.items,
+        none_told (g.W.Watch.tells c.args.watch.now) 1 c.args.told.now,
+      );
     }
 
 -- the gaps of the round were passed
@@ -98,9 +108,9 @@ first-told g c first sets tell (inr later) =
     (let differs = later.0 in omega (arith, differs))
     (c.loop-round.invariant.first (let differs = later.0 in omega (arith, differs))))
 
-pub returns-then-not-goes_on : goal.returns-then-not-goes_on
-returns-then-not-goes_on g c =
-    let at = (goal.at.returns-then-not-goes_on g c).After-close-words in
+pub returns-then-not-goes_on-clause-rounds : goal.returns-then-not-goes_on-clause-rounds
+returns-then-not-goes_on-clause-rounds g c =
+    let at = (goal.at.returns-then-not-goes_on-clause-rounds g c).After-close-words in
     let b = c.args.board.now in
     let any = told g at c.tell_round-goes_on.result _ c.deref-in-loop-round.ensures.value
     c.tell_round-goes_on.ensures.any in
@@ -160,6 +170,10 @@ loop-round-preserved g c =
     c.tell_round-goes_on.new.sets
     (subst (λ (l : List ℕ). AreToldTo b l c.loop-round.round (gap_count b) c.tell_round-goes_on.new.sets)
     c.deref-in-loop-round.ensures.value c.tell_round-goes_on.ensures.sets) in
+    let so_far = c.loop-round.invariant.told in
+    let tells = g.W.Watch.tells c.args.watch.now in
+    let opened : ℕ = open_below (new g at) (length (new g at)) in
+    let next : c.loop-round.round + 1 ≡ 1 + length so_far.0 = omega (arith, so_far.1.size) in
     record {
       at = subst (λ (l : List (List ℕ)). IsAtRound b (c.loop-round.round + 1) (new g at) l)
           (sym (take_at c.tell_round-goes_on.new.sets
@@ -183,4 +197,50 @@ loop-round-preserved g c =
             )
             | else-round-eq0 w ↦ inr (w.if-round-eq0.false, ap (λ v. v.items) w.first-is)
           ]);
+      told = (
+        so_far.0 ++ opened ∷ [],
+        one-more b c.pebbles.ensures.is_board (some g at) c.loop-round.round (old g at) (new g at)
+            c.loop-round.closed.items (low g at) c.loop-round.invariant.at (passed g at) so_far.0 so_far.1
+            (any.0 (let no_none = c.if-not-goes_on.false in cc)),
+        told_more tells 1 so_far.0 opened c.args.told.now c.loop-round.told c.tell_open.new.told so_far.2
+            (subst (λ k. tells c.loop-round.told c.tell_open.new.told k opened) next
+            (subst (λ (l : List ℕ). tells c.loop-round.told c.tell_open.new.told (c.loop-round.round + 1)
+            (open_below l (length l))) c.deref-in-loop-round-2.ensures.value c.tell_open.ensures)),
+      );
     }
+
+pub returns-then-pebbles-eq1-clause-told : goal.returns-then-pebbles-eq1-clause-told
+returns-then-pebbles-eq1-clause-told g c =
+    let open_words = words-open g (goal.at.returns-then-pebbles-eq1-clause-told g c).In_ok-words in (
+      [],
+      lone-counts c.args.board.now c.in_ok-words.words.items open_words
+          (lone-rounds c.args.board.now c.in_ok-words.words.items c.pebbles.ensures.is_board
+          (sym c.pebbles.ensures.value ∙ c.if-pebbles-eq1.true) open_words),
+      none_told (g.W.Watch.tells c.args.watch.now) 1 c.args.told.now,
+    )
+
+pub returns-in_err-extend_from_slice-clause-untold : goal.returns-in_err-extend_from_slice-clause-untold
+returns-in_err-extend_from_slice-clause-untold g c =
+    let so_far = c.loop-round.invariant.told in
+    let same = nothing_told (g.W.Watch.tells c.args.watch.now) 1 so_far.0 c.args.told.now c.loop-round.told
+    (omega (arith, so_far.1.size, c.if-round-eq0.true)) so_far.2 in
+    let p = err_from_is_err_and c.from_residual-in_err-extend_from_slice.result
+    c.from_residual-in_err-extend_from_slice.ensures.1 in
+    rw (p.1, p.2) same
+
+pub returns-then-not-goes_on-clause-told : goal.returns-then-not-goes_on-clause-told
+returns-then-not-goes_on-clause-told g c =
+    let at = (goal.at.returns-then-not-goes_on-clause-told g c).After-close-words in
+    let b = c.args.board.now in
+    let any = told g at c.tell_round-goes_on.result _ c.deref-in-loop-round.ensures.value
+    c.tell_round-goes_on.ensures.any in
+    let so_far = c.loop-round.invariant.told in (
+      so_far.0,
+      all-rounds b c.pebbles.ensures.is_board (some g at) c.loop-round.round (old g at) (new g at)
+          c.loop-round.closed.items (low g at) c.loop-round.invariant.at (passed g at) so_far.0 so_far.1
+          (λ n n_low closed.
+          let yes = any.1 (n, n_low, closed) in
+          let no_one = c.if-not-goes_on.true in
+          let bad : ⊥ = cc in bad),
+      so_far.2,
+    )

@@ -1,5 +1,7 @@
-use Rattle.std.proofs.Common.{◌≡◌, ◌≤◌, []}
+use Rattle.std.proofs.Common.{◌≡◌, ◌≤◌, ℕ, List, []}
+use Rattle.console.specs.Watching.{AreTold}
 use Rattle.gap_values.specs.Inside.Sets.{TellClosed, open_count}
+use Rattle.gap_values.proofs.OpenCounts.{AreOpenSoFar}
 use Rattle.gap_values.proofs.RoundSteps.{IsAtRound}
 use Rattle.gap_values.proofs.rounds.rounds_of_gaps.Given as goal
 
@@ -8,6 +10,8 @@ invariant-loop-round g l = record {
   at : IsAtRound l.board l.round l.words.items l.closed.items;
   none : l.round ≡ 0 → l.first.items ≡ [];
   first : 1 ≤ l.round → TellClosed l.board l.words.items 1 l.first.items;
+  told : (counts : List ℕ) × AreOpenSoFar l.board l.round l.words.items counts
+      × AreTold (g.W.Watch.tells l.watch) 1 counts l.fn.told l.told;
 }
 
 abbrev pub decreases-loop-round : goal.decreases-loop-round

@@ -32,9 +32,9 @@ returns-in-Climb-clause-done g c =
 pub returns-in-Check-clause-done : goal.returns-in-Check-clause-done
 returns-in-Check-clause-done g c =
     rw c.in-Check.is record {
-      does = (c.check.ensures.done, refl);
+      does = (c.check.ensures.done, c.check.ensures.kept);
       writes = c.check.ensures.writes;
-      reads = (λ failed. absurd (true≢false (sym failed ∙ c.requires.ready.input)));
+      reads = (λ failed. absurd (true≢false (sym (rw c.check.ensures.kept at failed) ∙ c.requires.ready.input)));
       unread = c.check.ensures.unread;
     }
 
@@ -68,26 +68,24 @@ returns-in-Report-clause-done g c =
 pub returns-in-Chains-clause-done : goal.returns-in-Chains-clause-done
 returns-in-Chains-clause-done g c =
     rw c.in-Chains.is record {
-      does = (c.chains.ensures.done, refl);
+      does = (c.chains.ensures.done, c.chains.ensures.kept);
       writes = c.chains.ensures.writes;
-      reads = (λ failed. absurd (true≢false (sym failed ∙ c.requires.ready.input)));
+      reads = (λ failed. absurd (true≢false (sym (rw c.chains.ensures.kept at failed) ∙ c.requires.ready.input)));
       unread = c.chains.ensures.unread;
     }
 
 pub returns-in-Joined-clause-told : goal.returns-in-Joined-clause-told
-returns-in-Joined-clause-told g c = rw c.in-Joined.is (_, refl, c.check_joined.ensures.told)
+returns-in-Joined-clause-told g c = rw c.in-Joined.is c.check_joined.ensures.told
 
 pub returns-in-Check-clause-told : goal.returns-in-Check-clause-told
-returns-in-Check-clause-told g c =
-    rw c.in-Check.is ([], refl, none_more g.E.Sink.contents g.E.Sink.has_failed c.args.console.now.errors)
+returns-in-Check-clause-told g c = rw c.in-Check.is c.check.ensures.told
 
 pub returns-in-Nested-clause-told : goal.returns-in-Nested-clause-told
 returns-in-Nested-clause-told g c =
     rw c.in-Nested.is ([], refl, none_more g.E.Sink.contents g.E.Sink.has_failed c.args.console.now.errors)
 
 pub returns-in-Chains-clause-told : goal.returns-in-Chains-clause-told
-returns-in-Chains-clause-told g c =
-    rw c.in-Chains.is ([], refl, none_more g.E.Sink.contents g.E.Sink.has_failed c.args.console.now.errors)
+returns-in-Chains-clause-told g c = rw c.in-Chains.is c.chains.ensures.told
 
 pub returns-in-Solve-clause-told : goal.returns-in-Solve-clause-told
 returns-in-Solve-clause-told g c = rw c.in-Solve.is c.solve.ensures.told

@@ -1,4 +1,5 @@
-use Rattle.std.proofs.Common.{refl, ◌∙◌}
+use Rattle.std.proofs.Common.{[], inl, inr, refl, ◌∙◌}
+use Rattle.console.proofs.Cited.{none_more}
 use Rattle.runs.specs.ChainText.{CannotCountChains, SaysChains}
 use Rattle.runs.specs.Run.{stream_of}
 use Rattle.runs.specs.declared.fault.RunFault.TheVariants.{Read}
@@ -8,13 +9,26 @@ use Rattle.serving.proofs.jobs.chains.Goals as goal
 
 pub returns-clause-unread : goal.returns-clause-unread
 returns-clause-unread g c broke =
-    c.in-Ok.ensures.sound _ ((told_as outcome_of_run broken_run c.run_chains-counted.result c.of_board.result.outcome
-    (c.of_board.ensures ∙ c.of_run.ensures) Read refl _ c.run_chains-counted.ensures.streams.failures.read).1 broke)
+    c.in-Ok.ensures.sound _ ((told_as outcome_of_run broken_run c.run-counted.result c.of_board.result.outcome
+    (c.of_board.ensures ∙ c.of_run.ensures) Read refl _ c.run-counted.ensures.streams.failures.read).1 broke)
 
 pub returns-clause-done : goal.returns-clause-done
 returns-clause-done g c =
-    opened_board (SaysChains c.args.most) (CannotCountChains c.args.most)
+    opened_board (SaysChains c.args.chaining.most) (CannotCountChains c.args.chaining.most)
     (g.F.Folder.at c.args.files.now.folder.now c.args.board.now) _ c.in-Ok.ensures.opened
-    (stream_of g.O.Sink.contents g.O.Sink.has_failed c.args.output.now c.run_chains-counted.new.writer)
-    c.run_chains-counted.result c.of_board.result.outcome (c.of_board.ensures ∙ c.of_run.ensures)
-    c.run_chains-counted.ensures.ok c.run_chains-counted.ensures.fault c.run_chains-counted.ensures.streams.unwritten
+    (stream_of g.O.Sink.contents g.O.Sink.has_failed c.args.console.now.output c.run-counted.new.writer)
+    c.run-counted.result c.of_board.result.outcome (c.of_board.ensures ∙ c.of_run.ensures)
+    c.run-counted.ensures.ok c.run-counted.ensures.fault c.run-counted.ensures.streams.unwritten
+
+pub returns-clause-told : goal.returns-clause-told
+returns-clause-told g c =
+    let told = c.run-counted.ensures.lengths in
+    let same = c.of_board.ensures ∙ c.of_run.ensures in
+    (told.0, inr (_, c.in-Ok.ensures.opened, c.run-counted.result, same, told.1), told.2)
+
+pub returns-in_default-clause-told : goal.returns-in_default-clause-told
+returns-in_default-clause-told g c = (
+  [],
+  inl (c.in_default.ensures.shut, refl),
+  none_more g.E.Sink.contents g.E.Sink.has_failed c.args.console.now.errors,
+)

@@ -1,5 +1,7 @@
-use Rattle.std.proofs.Common.{inl, inr, refl}
+use Rattle.std.proofs.Common.{[], inl, inr, refl}
+use Rattle.console.proofs.Cited.{none_more}
 use Rattle.serving.specs.Outcomes.{outcome_of_check}
+use Rattle.serving.specs.Telling.{rows_told}
 use Rattle.runs.specs.Run.{stream_of}
 use Rattle.runs.specs.declared.fault.RunFault.TheVariants.{Read}
 use Rattle.serving.proofs.Endings.{broken_check, opened_both, told_as}
@@ -9,7 +11,7 @@ pub returns-clause-done : goal.returns-clause-done
 returns-clause-done g c =
     opened_both (g.F.Folder.at c.args.files.now.folder.now c.args.board.now)
     (g.F.Folder.at c.args.files.now.folder.now c.args.proof.now) _ _ c.in-Ok.ensures.opened c.in-Ok-open.ensures.opened
-    (stream_of g.O.Sink.contents g.O.Sink.has_failed c.args.output.now c.run_check-checked.new.writer)
+    (stream_of g.O.Sink.contents g.O.Sink.has_failed c.args.console.now.output c.run_check-checked.new.writer)
     c.run_check-checked.result c.of_check.result c.of_check.ensures c.run_check-checked.ensures.ok _
     (λ same. rw same refl)
     c.run_check-checked.ensures.fault c.run_check-checked.ensures.streams.unwritten
@@ -22,3 +24,30 @@ returns-clause-unread g c broke =
       | inl first ↦ inl (c.in-Ok.ensures.sound _ first)
       | inr second ↦ inr (c.in-Ok-open.ensures.sound _ second)
     ]
+
+pub returns-clause-told : goal.returns-clause-told
+returns-clause-told g c = (
+  rows_told c.args.console.now.terminals.errors c.run_check-checked.result,
+  inr (
+    _,
+    _,
+    c.in-Ok.ensures.opened,
+    c.in-Ok-open.ensures.opened,
+    (c.run_check-checked.result, c.of_check.ensures, c.run_check-checked.ensures.ok, refl),
+  ),
+  c.tell_rows.ensures,
+)
+
+pub returns-in_default-clause-told : goal.returns-in_default-clause-told
+returns-in_default-clause-told g c = (
+  [],
+  inl (inl c.in_default.ensures.shut, refl),
+  none_more g.E.Sink.contents g.E.Sink.has_failed c.args.console.now.errors,
+)
+
+pub returns-in_default-open-clause-told : goal.returns-in_default-open-clause-told
+returns-in_default-open-clause-told g c = (
+  [],
+  inl (inr c.in_default-open.ensures.shut, refl),
+  none_more g.E.Sink.contents g.E.Sink.has_failed c.args.console.now.errors,
+)

@@ -5,13 +5,14 @@ use Rattle.std.proofs.lemmas.Result.{err_from_is_err_and}
 use Rattle.console.proofs.Cited.{none_more, then_more}
 use Rattle.runs.specs.Notices.{notice_for}
 use Rattle.runs.proofs.BoardLimits.{few_gaps}
+use Rattle.runs.proofs.ToldNotices.{rounds_found, rounds_none, untold_more}
 use Rattle.runs.specs.PlayRun.{run_of_play}
 use Rattle.runs.proofs.playing.Playing.run.Goals as goal
 
-pub of-requires : goal.of-requires
-of-requires g c =
+pub values-requires : goal.values-requires
+values-requires g c =
     let found = c.in_ok-board.ensures.found.2 in
-    few_gaps c.args.self.limit c.in_ok-board.board found.is_board found.few
+    record { gaps = few_gaps c.args.self.limit c.in_ok-board.board found.is_board found.few }
 
 pub returns-clause-ok : goal.returns-clause-ok
 returns-clause-ok g c = (
@@ -52,31 +53,53 @@ pub returns-in_err-play-clause-prompts : goal.returns-in_err-play-clause-prompts
 returns-in_err-play-clause-prompts g c =
     let p = err_from_is_err_and c.from_residual-in_err-play.result c.from_residual-in_err-play.ensures.1 in
     let notice = notice_for c.args.self.shows_size c.in_ok-board.board in
+    let rounds = c.values.ensures.rounds in
     let told = rw c.new-moves.ensures at c.play.ensures.prompts in (
-      notice ++ told.0,
+      notice ++ (rounds.0 ++ told.0),
       rw (p.1, p.2) (inr (
         c.in_ok-board.board,
         c.in_ok-board.ensures.found,
-        told.0,
+        rounds.0 ++ told.0,
         refl,
-        inr (c.play.result, ap run_of_play (sym c.in_err-play.was), told.1),
+        inr (
+          rounds.0,
+          told.0,
+          refl,
+          rounds_found c.args.self.shows_size c.in_ok-board.board c.values.result c.in_ok-values.values
+              c.in_ok-values.was rounds.0 rounds.1,
+          c.play.result,
+          ap run_of_play (sym c.in_err-play.was),
+          told.1,
+        ),
       )),
-      then_more g.E.Sink.contents g.E.Sink.has_failed _ _ _ notice told.0 c.tell_size.ensures told.2,
+      then_more g.E.Sink.contents g.E.Sink.has_failed _ _ _ notice (rounds.0 ++ told.0) c.tell_size.ensures
+          (then_more g.E.Sink.contents g.E.Sink.has_failed _ _ _ rounds.0 told.0 rounds.2 told.2),
     )
 
 pub returns-clause-prompts : goal.returns-clause-prompts
 returns-clause-prompts g c =
     let notice = notice_for c.args.self.shows_size c.in_ok-board.board in
+    let rounds = c.values.ensures.rounds in
     let told = rw c.new-moves.ensures at c.play.ensures.prompts in (
-      notice ++ told.0,
+      notice ++ (rounds.0 ++ told.0),
       inr (
         c.in_ok-board.board,
         c.in_ok-board.ensures.found,
-        told.0,
+        rounds.0 ++ told.0,
         refl,
-        inr (c.play.result, ap run_of_play (sym c.in_ok-play.was), told.1),
+        inr (
+          rounds.0,
+          told.0,
+          refl,
+          rounds_found c.args.self.shows_size c.in_ok-board.board c.values.result c.in_ok-values.values
+              c.in_ok-values.was rounds.0 rounds.1,
+          c.play.result,
+          ap run_of_play (sym c.in_ok-play.was),
+          told.1,
+        ),
       ),
-      then_more g.E.Sink.contents g.E.Sink.has_failed _ _ _ notice told.0 c.tell_size.ensures told.2,
+      then_more g.E.Sink.contents g.E.Sink.has_failed _ _ _ notice (rounds.0 ++ told.0) c.tell_size.ensures
+          (then_more g.E.Sink.contents g.E.Sink.has_failed _ _ _ rounds.0 told.0 rounds.2 told.2),
     )
 
 pub returns-in_err-board-clause-prompts : goal.returns-in_err-board-clause-prompts
@@ -99,5 +122,7 @@ returns-in_err-values-clause-prompts g c =
         sym (append-nil notice),
         inl (refl, (refl, refl), refl),
       )),
-      c.tell_size.ensures,
+      untold_more g.E.Sink.contents g.E.Sink.has_failed _ _ _ notice c.values.ensures.rounds.0 c.tell_size.ensures
+          (rounds_none c.args.self.shows_size c.in_ok-board.board c.values.result _ c.in_err-values.was
+          c.values.ensures.rounds.0 c.values.ensures.rounds.1) c.values.ensures.rounds.2,
     )

@@ -1,6 +1,10 @@
-use Rattle.std.proofs.Common.{[], inr, refl}
+use Rattle.std.proofs.Common.{[], ◌++◌, inl, inr, refl}
 use Rattle.std.proofs.lemmas.Result.{err_from_is_err_and}
-use Rattle.console.proofs.Cited.{none_more}
+use Rattle.std.specs.Prelude.{Err}
+use Rattle.console.proofs.Cited.{none_more, then_more}
+use Rattle.runs.specs.Notices.{notice_for}
+use Rattle.runs.specs.declared.fault.RunFault.TheVariants.{Memory}
+use Rattle.runs.proofs.ToldNotices.{rounds_found, rounds_of_run}
 use Rattle.runs.proofs.work.Work.large_solution.Goals as goal
 
 pub returns-in_err-board-clause-notice : goal.returns-in_err-board-clause-notice
@@ -9,4 +13,40 @@ returns-in_err-board-clause-notice g c =
       [],
       rw (p.1, p.2) (inr (c.in_err-board.field-0.0, refl, c.in_err-board.ensures.fault, refl)),
       none_more g.E.Sink.contents g.E.Sink.has_failed c.args.errors.now,
+    )
+
+pub returns-in_err-values-clause-notice : goal.returns-in_err-values-clause-notice
+returns-in_err-values-clause-notice g c =
+    let p = err_from_is_err_and c.from_residual-in_err-values.result c.from_residual-in_err-values.ensures.1 in
+    let shows = c.args.self.shows_size in
+    let notice = notice_for shows c.in_ok-board.board in
+    let rounds = c.values.ensures.rounds in (
+      notice ++ rounds.0,
+      rw (p.1, p.2) (inl (
+        c.in_ok-board.board,
+        c.in_ok-board.ensures.found,
+        rounds.0,
+        rounds_of_run shows c.in_ok-board.board c.values.result (Err Memory) (λ err. refl) rounds.0 rounds.1,
+        refl,
+      )),
+      then_more g.E.Sink.contents g.E.Sink.has_failed c.args.errors.now c.tell_size.new.errors c.values.new.errors
+          notice rounds.0 c.tell_size.ensures rounds.2,
+    )
+
+pub returns-clause-notice : goal.returns-clause-notice
+returns-clause-notice g c =
+    let shows = c.args.self.shows_size in
+    let notice = notice_for shows c.in_ok-board.board in
+    let rounds = c.values.ensures.rounds in (
+      notice ++ rounds.0,
+      inl (
+        c.in_ok-board.board,
+        c.in_ok-board.ensures.found,
+        rounds.0,
+        inr (rounds_found shows c.in_ok-board.board c.values.result c.in_ok-values.values c.in_ok-values.was rounds.0
+            rounds.1),
+        refl,
+      ),
+      then_more g.E.Sink.contents g.E.Sink.has_failed c.args.errors.now c.tell_size.new.errors c.values.new.errors
+          notice rounds.0 c.tell_size.ensures rounds.2,
     )

@@ -1,8 +1,9 @@
-use Rattle.std.proofs.Common.{suc, ◌+◌, ◌≤◌, refl, arith}
+use Rattle.std.proofs.Common.{suc, ◌≡◌, ◌+◌, ◌-◌, ◌≤◌, get_or, refl, arith, rules}
+use Rattle.classes.specs.Numbers.{ways}
 use Rattle.board_text.specs.PlainBoard.{places}
 use Rattle.classes.proofs.Cited.{ways-fit}
 use Rattle.classes.proofs.Cited.{row-begins, row-first, row-more}
-use Rattle.gap_values.proofs.counting.count_gaps.Goals as goal
+use Rattle.gap_values.proofs.counting.count_without.Goals as goal
 
 pub loop-pebble-init : goal.loop-pebble-init
 loop-pebble-init c =
@@ -20,7 +21,7 @@ overflow_add-ways-in-loop-greatest c =
     let step = row-more (places board) c.loop-pebble.pebble c.loop-greatest.greatest _ c.loop-greatest.ways few
     (omega (arith, c.loop-greatest-test.true, c.places-places.ensures.value)) refl c.loop-greatest.invariant in
     let fit = ways-fit board (suc c.loop-pebble.pebble) (c.loop-greatest.greatest + 1) c.places-places.ensures.is_board
-    (omega (arith, c.loop-pebble-test.true, c.pebbles-pebble-end.ensures.value))
+    (omega (arith, c.loop-pebble-test.true, c.saturating_sub-pebble-end.ensures, c.pebbles.ensures.value))
     (omega (arith, c.loop-greatest-test.true, c.places-places.ensures.value)) in
     omega (arith, step.0, fit)
 
@@ -30,3 +31,13 @@ loop-greatest-preserved c =
     let few : places board ≤ 257 = omega (arith, c.places-places.ensures.few, c.places-places.ensures.value) in
     (row-more (places board) c.loop-pebble.pebble c.loop-greatest.greatest _ c.loop-greatest.ways few
     (omega (arith, c.loop-greatest-test.true, c.places-places.ensures.value)) refl c.loop-greatest.invariant).1
+
+pub returns-clause-fits : goal.returns-clause-fits
+returns-clause-fits c =
+    let board = c.args.board.now in
+    let fit = ways-fit board (board.pebbles - c.args.fewer) (places board) c.places-places.ensures.is_board
+    (omega arith) (omega arith) in
+    let value : get_or c.loop-pebble.ways c.places-places.result 0
+    ≡ ways (board.pebbles - c.args.fewer) (places board) =
+    search rules in
+    omega (arith, fit, value)
