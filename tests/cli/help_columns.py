@@ -4,7 +4,7 @@ from functools import partial
 from program import Check, run
 
 COLUMNS = 80
-COMMANDS = ('solve', 'check', 'report', 'chains', 'nested', 'play', 'climb')
+COMMANDS = ('solve', 'check', 'report', 'starts', 'chains', 'nested', 'play', 'climb')
 
 
 def fits(words):

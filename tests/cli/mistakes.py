@@ -405,7 +405,7 @@ def of_words(work):
     """Words of no command: the message is clap's."""
     wrong = Ran(2, b'', b'error: ..')
     general, path, workers = '`pebbles --help` lists', 'the name of a command comes before a path', '`--workers` comes with a number'
-    options, version, large = '`--explain`, `--help` and `--version`; a path that begins', '`--version` stands alone', 'only `solve`, `report` and `play` have `--large`'
+    options, version, large = '`--explain`, `--help` and `--version`; a path that begins', '`--version` stands alone', 'only `solve`, `report`, `starts` and `play` have `--large`'
     told = [(['--workers', '0'], workers), (['slove', 'board'], general), ([CHAIN], path), (['c.board'], path), (['check', CHAIN], general),
             (['solve', '-w', '4', CHAIN], options), (['solve', '--json', CHAIN], options), (['solve', '-q', CHAIN], options),
             (['solve', '-j', '4', CHAIN], options), (['solve', '--version'], version), (['solve', '--workers', 'x', CHAIN], workers),
@@ -414,8 +414,8 @@ def of_words(work):
             (['solve', '--workers', '17', CHAIN], workers), (['solve', '--workers'], workers), (['report', '--workers', '4', '-q', CHAIN], options), (['play', 'labeller', CHAIN], general),
             (['solve', '--workers', '1.5', CHAIN], workers), (['solve', '--workers', '-1', CHAIN], workers),
             (['solve', '--workers', '2', '--workers', '3', CHAIN], '`--workers` is given once, with a number from 1 to 16'),
-            (['check', '--workers', '2', CHAIN, CHAIN], 'only `solve`, `report` and `chains` have `--workers`'),
-            (['solve', '--most', '3', CHAIN], 'only `chains` has `--most`'), (['report', '--most=3', CHAIN], 'only `chains` has `--most`'),
+            (['check', '--workers', '2', CHAIN, CHAIN], 'only `solve`, `report`, `starts` and `chains` have `--workers`'),
+            (['solve', '--most', '3', CHAIN], 'only `chains` has `--most`'), (['starts', '--most', '3', CHAIN], 'only `chains` has `--most`'), (['report', '--most=3', CHAIN], 'only `chains` has `--most`'),
             (['report', '--side', 'labeller', CHAIN], 'only `play` has `--side`'), (['climb', '--side=adversary', '3'], 'only `play` has `--side`'),
             (['climb', '--large', '3'], large), (['check', CHAIN, CHAIN, '--large'], large), (['solve', '--large', '--large', CHAIN], general),
             (['play', '--large', CHAIN], general), (['play', '--side', 'both', CHAIN], general), (['nested', '7', '3'], general), (['climb', '25'], general), (['help', 'solv'], general)]
@@ -457,7 +457,8 @@ def of_typed_lines(work):
     rounds = ''.join(f'round {number}: {count} {"gap is" if count == 1 else "gaps are"} open\n' for number, count in enumerate(opened, 1))
     size = 'a large board: its 4845 gaps, about 0.1 MB, are solved, which can take seconds\n'
     for words, told in ((['report', '--large', CHAIN], ''), (['report', '--large', large], size + rounds),
-                        (['report', '--large', '--workers', '4', large], size + rounds), (['solve', '--large', large], size + rounds),
+                        (['report', '--large', '--workers', '4', large], size + rounds), (['starts', '--large', CHAIN], ''),
+                        (['starts', '--large', large], size + rounds), (['solve', '--large', large], size + rounds),
                         (['play', '--large', '--side', 'adversary', large], size + rounds), (['chains', CHAIN], '')):
         yield Check(f'the notice of {" ".join(words[:-1])} {os.path.basename(words[-1])}', partial(noticed, words, told))
     for words in ([*asks, faulty], [*answers, os.path.join(work, 'missing.board')]):

@@ -14,24 +14,27 @@ named text name has = (
 )
 
 abbrev pub all_names : List ℕ
-all_names = codes "solve, check, report, chains, nested, play, climb\n"
+all_names = codes "solve, check, report, starts, chains, nested, play, climb\n"
 
 pub all_named : NamesCommands all_names
 all_named = (
-  ([], codes ", check, report, chains, nested, play, climb\n", refl),
+  ([], codes ", check, report, starts, chains, nested, play, climb\n", refl),
   (
-    (codes "solve, ", codes ", report, chains, nested, play, climb\n", refl),
+    (codes "solve, ", codes ", report, starts, chains, nested, play, climb\n", refl),
     (
-      (codes "solve, check, ", codes ", chains, nested, play, climb\n", refl),
+      (codes "solve, check, ", codes ", starts, chains, nested, play, climb\n", refl),
       (
-        (codes "solve, check, report, ", codes ", nested, play, climb\n", refl),
+        (codes "solve, check, report, ", codes ", chains, nested, play, climb\n", refl),
         (
-          (codes "solve, check, report, chains, ", codes ", play, climb\n", refl),
+          (codes "solve, check, report, starts, ", codes ", nested, play, climb\n", refl),
           (
-            (codes "solve, check, report, chains, nested, ", codes ", climb\n", refl),
+            (codes "solve, check, report, starts, chains, ", codes ", play, climb\n", refl),
             (
-              (codes "solve, check, report, chains, nested, play, ", codes "\n", refl),
-              tt,
+              (codes "solve, check, report, starts, chains, nested, ", codes ", climb\n", refl),
+              (
+                (codes "solve, check, report, starts, chains, nested, play, ", codes "\n", refl),
+                tt,
+              ),
             ),
           ),
         ),

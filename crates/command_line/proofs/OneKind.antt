@@ -515,7 +515,8 @@ clear_words [] other = sure refl
 clear_words (name ∷ []) other = sure refl
 clear_words (name ∷ word ∷ rest) other =
     clear_walk (built program).top (names_of (built program)) word rest top_requests
-    (named (names_of (built program)) word (refl, (refl, (refl, (refl, (refl, (refl, (refl, (refl, tt)))))))) other)
+    (named (names_of (built program)) word
+    (refl, (refl, (refl, (refl, (refl, (refl, (refl, (refl, (refl, tt))))))))) other)
 
 -- the kinds for words whose first isn't `help`
 clear_program : (words : List Text) → asks_for_help words ≡ false → IsClear (fault_of program words)

@@ -219,6 +219,22 @@ report_row = record {
   );
 }
 
+starts_row : IsCommand rows.starts
+starts_row = record {
+  plain = refl;
+  good = (
+    (refl, inl (refl, omega arith)),
+    (
+      (refl, inr (inl (refl, omega arith))),
+      ((refl, inl (refl, omega arith)), ((refl, inr (inl (refl, omega arith))), ((refl, inr (inr refl)), tt))),
+    ),
+  );
+  arguments = (
+    (inr (omega arith), refl, inl (refl, inr (inl (MAX_WORKERS, refl)))),
+    (word_given (codes "large"), ((inl refl, refl, inl (refl, inl refl)), (word_given (codes "explain"), tt))),
+  );
+}
+
 chains_row : IsCommand rows.chains
 chains_row = record {
   plain = refl;
@@ -282,14 +298,17 @@ are_commands = (
     (
       report_row,
       (
-        chains_row,
+        starts_row,
         (
-          nested_row,
+          chains_row,
           (
-            play_row,
+            nested_row,
             (
-              climb_row,
-              tt,
+              play_row,
+              (
+                climb_row,
+                tt,
+              ),
             ),
           ),
         ),

@@ -54,6 +54,9 @@ check = command (codes "check") (path (codes "board") ∷ path (codes "proof") �
 abbrev pub report : Shape
 report = command (codes "report") (workers ∷ large ∷ path (codes "board") ∷ explain ∷ [])
 
+abbrev pub starts : Shape
+starts = command (codes "starts") (workers ∷ large ∷ path (codes "board") ∷ explain ∷ [])
+
 -- the option for the greatest length of chains, which is the greatest of all if the option isn't
 -- given
 abbrev pub most : Rule
@@ -99,6 +102,7 @@ commands_among words =
     solve
     ∷ check
     ∷ report
+    ∷ starts
     ∷ chains
     ∷ nested
     ∷ play_among words

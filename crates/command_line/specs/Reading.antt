@@ -65,6 +65,10 @@ AsksFor name rows (jobs.Report workers limit board) = (name ≡ codes "report")
     × HasNumber rows (codes "workers") MAX_WORKERS workers
     × HasFlag rows (codes "large") (is_large limit)
     × (first_of (codes "board") rows ≡ Some board.now)
+AsksFor name rows (jobs.Starts workers limit board) = (name ≡ codes "starts")
+    × HasNumber rows (codes "workers") MAX_WORKERS workers
+    × HasFlag rows (codes "large") (is_large limit)
+    × (first_of (codes "board") rows ≡ Some board.now)
 AsksFor name rows (jobs.Chains workers most board) = (name ≡ codes "chains")
     × HasNumber rows (codes "workers") MAX_WORKERS workers
     × HasNumber rows (codes "most") MAX_LENGTH most
@@ -90,6 +94,7 @@ IsInRange (jobs.Nested levels pebbles) =
     (1 ≤ levels) × (levels ≤ MAX_BOARD_LEVELS) × (1 ≤ pebbles) × (pebbles ≤ MAX_PEBBLES)
 IsInRange (jobs.Solve workers limit board) = (1 ≤ workers) × (workers ≤ MAX_WORKERS)
 IsInRange (jobs.Report workers limit board) = (1 ≤ workers) × (workers ≤ MAX_WORKERS)
+IsInRange (jobs.Starts workers limit board) = (1 ≤ workers) × (workers ≤ MAX_WORKERS)
 IsInRange (jobs.Chains workers most board) =
     (1 ≤ workers) × (workers ≤ MAX_WORKERS) × (1 ≤ most) × (most ≤ MAX_LENGTH)
 IsInRange (jobs.Play side limit board) = Unit {0}
@@ -115,7 +120,7 @@ abbrev pub version_text : List ℕ
 version_text = with_line_feed (codes "pebbles 1.1.0")
     ++ with_line_feed
     (codes "reads `board 1`, `board 2`, `proof 1`, `proof 2` and `proof 3`, writes the first four, "
-    ++ codes "`report 1` and `chains 1`")
+    ++ codes "`report 1`, `starts 1` and `chains 1`")
 
 -- the name stands in the text
 abbrev pub Names : List ℕ → Text → Type 0

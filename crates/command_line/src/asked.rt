@@ -47,6 +47,13 @@ pub enum Job<'a> {
         limit: BoardLimit,
         board: &'a str,
     },
+    /// Solve the board, a path, with 1 to `MAX_WORKERS` workers, and write the value with all
+    /// pebbles on each label.
+    Starts {
+        workers: u8,
+        limit: BoardLimit,
+        board: &'a str,
+    },
     /// Count the chains of the board, a path, with 1 to `MAX_WORKERS` workers: of each length up to
     /// the first with a chain that no label dominates, or up to `most`, 1 to `MAX_LENGTH`.
     Chains {

@@ -18,7 +18,7 @@ use std::alloc::{AllocError, Global};
 /// the option from it, and `words` shows it.
 pub(crate) const VERSION: &str =
     "pebbles 1.1.0\nreads `board 1`, `board 2`, `proof 1`, `proof 2` and `proof 3`, \
-    writes the first four, `report 1` and `chains 1`\n";
+    writes the first four, `report 1`, `starts 1` and `chains 1`\n";
 
 /// The name of the program.
 const NAME: &str = "pebbles";
@@ -47,7 +47,7 @@ const AFTER_HELP: &str = "With or without a command:\n      \
     pebbles solve cycle.board > cycle.proof\n  \
     pebbles check cycle.board cycle.proof";
 
-// The helps of `solve`, `report`, `check` and `play` say this limit.
+// The helps of `solve`, `report`, `starts`, `check` and `play` say this limit.
 const _: () = prove!(MAX_CONFIGURATIONS == 1_048_576);
 
 // The help of `chains` says this limit.
@@ -78,6 +78,20 @@ const ABOUT_REPORTING: &str = "The report is the same for every number of worker
     board too large             labels^pebbles is above 1048576; try --large\n\n\
     Example:\n  \
     pebbles report chain.board";
+
+/// The help of `starts`.
+const ABOUT_STARTS: &str =
+    "A line for each label has the value with all pebbles on it, and in a `board 2`\n\
+    one more the value with none on a label. If any start lasts for ever, one of\n\
+    these does. The text is the same for every number of workers.\n\n\
+    Common faults:\n  \
+    board fault line 1 Version  neither `board 1` nor `board 2`: Windows line ends\n  \
+    board fault line 4 Start    each pebble's label, below V, or `-` in `board 2`\n  \
+    board fault line N Beats    not `beats` and two labels, with single spaces\n  \
+    board fault line N Order    pairs not sorted as numbers, or one is there twice\n  \
+    board too large             labels^pebbles is above 1048576; try --large\n\n\
+    Example:\n  \
+    pebbles starts chain.board";
 
 /// The help of `chains`.
 const ABOUT_CHAINS: &str =
@@ -173,6 +187,7 @@ fn program_among<'a>(alloc: Global, sides: &'a [&'a str]) -> Result<Command<'a>,
     let command = command.subcommand(solve(alloc)?)?;
     let command = command.subcommand(check(alloc)?)?;
     let command = command.subcommand(report(alloc)?)?;
+    let command = command.subcommand(starts(alloc)?)?;
     let command = command.subcommand(chains(alloc)?)?;
     let command = command.subcommand(nested(alloc)?)?;
     let command = command.subcommand(play(alloc, sides)?)?;
@@ -217,6 +232,17 @@ fn report<'a>(alloc: Global) -> Result<Command<'a>, AllocError>
     let command = Command::new(alloc, "report")
         .about("Reads a board, and writes how many configurations have each value")
         .after_help(ABOUT_REPORTING)
+        .arg(workers(alloc))?;
+    on_board(alloc, command)
+}
+
+fn starts<'a>(alloc: Global) -> Result<Command<'a>, AllocError>
+    ensures shape { IfOk result (λ c. shape_of c ≡ commands.starts) }
+    ensures local { IfOk result (λ c. (out-Command c).has_globals ≡ false) }
+{
+    let command = Command::new(alloc, "starts")
+        .about("Reads a board, and writes the value with all pebbles on each label")
+        .after_help(ABOUT_STARTS)
         .arg(workers(alloc))?;
     on_board(alloc, command)
 }

@@ -26,7 +26,7 @@ use positions::Side;
 use std::alloc::{AllocError, Global};
 
 /// The names of the commands.
-const COMMANDS: &str = "solve, check, report, chains, nested, play, climb\n";
+const COMMANDS: &str = "solve, check, report, starts, chains, nested, play, climb\n";
 
 /// The beginning of `clap`'s tip to pass a word as a value, with the empty line before it.
 const TIP: &str = "\n\n  tip: to pass '";
@@ -145,6 +145,7 @@ fn names_commands(text: &str) -> bool
     names(text, "solve")
         && names(text, "check")
         && names(text, "report")
+        && names(text, "starts")
         && names(text, "chains")
         && names(text, "nested")
         && names(text, "play")
@@ -186,7 +187,7 @@ fn is_topic(word: &str) -> bool
 {
     matches!(
         word,
-        "help" | "solve" | "check" | "report" | "chains" | "nested" | "play" | "climb"
+        "help" | "solve" | "check" | "report" | "starts" | "chains" | "nested" | "play" | "climb"
     )
 }
 
@@ -201,6 +202,7 @@ fn chosen<'a>(matches: &ArgMatches<'a>) -> Option<Job<'a>>
         "solve" => solve_job(values),
         "check" => check_job(values),
         "report" => report_job(values),
+        "starts" => starts_job(values),
         "chains" => chains_job(values),
         "nested" => nested_job(values),
         "play" => play_job(values),
@@ -248,6 +250,20 @@ fn report_job<'a>(values: &ArgMatches<'a>) -> Option<Job<'a>>
     let limit = limit(values)?;
     let board = text(values, "board")?;
     Some(Job::Report {
+        workers,
+        limit,
+        board,
+    })
+}
+
+fn starts_job<'a>(values: &ArgMatches<'a>) -> Option<Job<'a>>
+    ensures asked { Reads commands.starts (rows_of (found_of values.now)) result }
+    ensures numbers { IfSome result IsInRange }
+{
+    let workers = number(values, "workers", MAX_WORKERS)?;
+    let limit = limit(values)?;
+    let board = text(values, "board")?;
+    Some(Job::Starts {
         workers,
         limit,
         board,

@@ -184,6 +184,37 @@ fn reports(rt: HostRuntime) {
 }
 
 #[test]
+fn starts(rt: HostRuntime) {
+    for (words, workers, limit, board) in [
+        (
+            ["pebbles", "starts", "a"].as_slice(),
+            1,
+            BoardLimit::Small,
+            "a",
+        ),
+        (
+            ["pebbles", "starts", "b", "--large", "--workers=3"].as_slice(),
+            3,
+            BoardLimit::Large,
+            "b",
+        ),
+    ] {
+        let wanted = Job::Starts {
+            workers,
+            limit,
+            board,
+        };
+        assert_asks(&rt, rt.alloc(), words, wanted);
+    }
+    for words in [
+        ["pebbles", "starts"].as_slice(),
+        ["pebbles", "starts", "--most", "3", "a"].as_slice(),
+    ] {
+        assert_usage(&rt, rt.alloc(), words);
+    }
+}
+
+#[test]
 fn chains(rt: HostRuntime) {
     for (words, workers, most, board) in [
         (["pebbles", "chains", "a"].as_slice(), 1, 8, "a"),

@@ -14,10 +14,10 @@ enum Other {
     Wrong,
 }
 
-/// The words that are drawn, one of them empty; the first thirteen follow the program's name.
+/// The words that are drawn, one of them empty; the first fourteen follow the program's name.
 const WORDS: &str =
-    "solve check report chains nested play climb help -h --version  -- chek a - 0 1 6 7 16 17 24 \
-    25 02 +3 99999999999999999999 -1 --help -V --workers --workers=0 --workers=16 --workers=17 \
+    "solve check report starts chains nested play climb help -h --version  -- chek a - 0 1 6 7 16 \
+    17 24 25 02 +3 99999999999999999999 -1 --help -V --workers --workers=0 --workers=16 --workers=17 \
     --workers= --side --side=labeller --side=person labeller adversary --large --large=true \
     --explain";
 
@@ -51,7 +51,7 @@ impl Form {
     fn of(command: &str) -> Option<Form> {
         match command {
             "check" => Some(Form::new("none", false, 2, 0)),
-            "solve" | "report" => Some(Form::new("--workers", true, 1, 0)),
+            "solve" | "report" | "starts" => Some(Form::new("--workers", true, 1, 0)),
             "chains" => Some(Form::new("--workers", false, 1, 0)),
             "nested" => Some(Form::new("none", false, 2, 6)),
             "play" => Some(Form::new("--side", true, 1, 0)),
@@ -156,6 +156,7 @@ fn name_of(job: Job<'_>) -> &'static str {
         Job::Nested { .. } => "nested",
         Job::Solve { .. } => "solve",
         Job::Report { .. } => "report",
+        Job::Starts { .. } => "starts",
         Job::Chains { .. } => "chains",
         Job::Play { .. } => "play",
         Job::Climb { .. } => "climb",
@@ -184,9 +185,9 @@ fn answered(alloc: Global, words: &[&str]) -> Option<Result<&'static str, Other>
 fn thousands_of_lines(rt: HostRuntime) {
     let mut draws = Draws::after(1);
     for _ in 0..8_000 {
-        let mut line = ["pebbles", word(draws.below(13)), "", "", ""];
+        let mut line = ["pebbles", word(draws.below(14)), "", "", ""];
         for place in 2..5 {
-            line[place] = word(draws.below(42));
+            line[place] = word(draws.below(43));
         }
         let line = &line[..=draws.below(5) as usize];
         let wanted = Some(asked(&line[1..]));

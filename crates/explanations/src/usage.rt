@@ -37,10 +37,10 @@ pub(crate) fn usage_hint(words: &[&str]) -> &'static str {
             return "`--version` stands alone, as in `pebbles --version`; ";
         }
         if word == "--large" && !takes_large(words[1]) {
-            return "only `solve`, `report` and `play` have `--large`; ";
+            return "only `solve`, `report`, `starts` and `play` have `--large`; ";
         }
         if is_for_workers(word) && !takes_workers(words[1]) {
-            return "only `solve`, `report` and `chains` have `--workers`; ";
+            return "only `solve`, `report`, `starts` and `chains` have `--workers`; ";
         }
         if is_for_a_length(word) && words[1] != "chains" {
             return "only `chains` has `--most`; ";
@@ -49,10 +49,10 @@ pub(crate) fn usage_hint(words: &[&str]) -> &'static str {
             return "only `play` has `--side`; ";
         }
         if is_unknown_option(word) {
-            return "the only options are `--workers` of `solve`, `report` and `chains`, `--most` \
-                of `chains`, `--side` of `play`, `--large` of `solve`, `report` and `play`, \
-                `--explain`, `--help` and `--version`; a path that begins with `-` comes after \
-                `--`; ";
+            return "the only options are `--workers` of `solve`, `report`, `starts` and `chains`, \
+                `--most` of `chains`, `--side` of `play`, `--large` of `solve`, `report`, `starts` \
+                and `play`, `--explain`, `--help` and `--version`; a path that begins with `-` \
+                comes after `--`; ";
         }
     }
     ""
@@ -60,12 +60,12 @@ pub(crate) fn usage_hint(words: &[&str]) -> &'static str {
 
 /// Whether the command of this name has the option `--large`.
 fn takes_large(command: &str) -> bool {
-    command == "solve" || command == "report" || command == "play"
+    command == "solve" || command == "report" || command == "starts" || command == "play"
 }
 
 /// Whether the command of this name has the option for workers.
 fn takes_workers(command: &str) -> bool {
-    command == "solve" || command == "report" || command == "chains"
+    command == "solve" || command == "report" || command == "starts" || command == "chains"
 }
 
 /// Whether a word is the option for workers.

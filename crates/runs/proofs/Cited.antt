@@ -5,3 +5,4 @@ pub use Rattle.runs.proofs.EndLines.{one_length}
 pub use Rattle.runs.proofs.OneOutcome.{one_report, one_solution, one_wrong, one_wrong_among}
 pub use Rattle.runs.proofs.OneVerdict.{one_verdict, one_wrong_proof, verdict_or_fault}
 pub use Rattle.runs.proofs.ChainTexts.{chains_or_fault, one_chain_fault, one_chains, wrong_counting}
+pub use Rattle.runs.proofs.StartTexts.{one_starts}

@@ -20,5 +20,6 @@ pub mod ToldNotices
 pub mod ToldChains
 pub mod PlayFaults
 pub mod ChainTexts
+pub mod StartTexts
 pub mod Cited
 pub mod ValueCounts

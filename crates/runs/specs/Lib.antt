@@ -14,6 +14,7 @@ pub mod LimitedSolveRun
 pub mod Headline
 pub mod Report
 pub mod ChainText
+pub mod StartText
 pub mod Notices
 pub mod PlayRun
 pub mod Inside

@@ -17,6 +17,7 @@ mod playing;
 mod reading;
 mod reporting;
 mod solving;
+mod starting;
 mod told_values;
 mod verdicts;
 mod work;

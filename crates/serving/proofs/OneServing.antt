@@ -18,7 +18,7 @@ use Rattle.board_text.specs.declared.fault.BoardFault.{BoardFault}
 use Rattle.runs.proofs.Cited.{not_wrong, not_wrong_among, one_length, one_report, one_solution, one_verdict, one_wrong}
 use Rattle.runs.proofs.Cited.{class_solution_or_fault, one_class_solution, one_unsolved, one_wrong_among}
 use Rattle.runs.proofs.Cited.{one_wrong_proof, verdict_or_fault}
-use Rattle.runs.proofs.Cited.{chains_or_fault, one_chain_fault, one_chains, wrong_counting}
+use Rattle.runs.proofs.Cited.{chains_or_fault, one_chain_fault, one_chains, one_starts, wrong_counting}
 use Rattle.runs.specs.ChainText.{CannotCountChains, HasNoChains, SaysChains}
 use Rattle.runs.specs.ClassSolveRun.{CannotSolveByClasses, IsClassSolution, IsUnsolvedByClasses}
 use Rattle.std.proofs.Common.{take}
@@ -50,10 +50,11 @@ use Rattle.runs.specs.CheckRun.{CheckFails, RanCheck}
 use Rattle.serving.specs.Folders.{CanFail, Closed, File, Holds, Unknown}
 use Rattle.serving.specs.FaultLines.{line_of_fault}
 use Rattle.serving.specs.Jobs.{Checks, ChecksJoined, Climbs, Counts, CountsChains, IsDone, Opening, Plays, Solves}
-use Rattle.serving.specs.Jobs.{WritesNested, WritesWhole}
+use Rattle.serving.specs.Jobs.{WritesNested, WritesStarts, WritesWhole}
 use Rattle.runs.specs.NestedText.{IsNestedText}
 use Rattle.serving.specs.Outcomes.{EndsAs, outcome_of_check, outcome_of_run, status_of}
 use Rattle.runs.specs.Report.{Reports}
+use Rattle.runs.specs.StartText.{SaysStarts}
 use Rattle.runs.specs.Run.{Bytes, Fails, Ran, Stream}
 use Rattle.serving.specs.Serving.{AnswersWords, WordsAskFor, EndsWith, HasNoMemory, IsHelped, IsEnding, IsExplained}
 use Rattle.serving.specs.Serving.{IsRefusedWith, IsWritten, is_explained}
@@ -678,7 +679,8 @@ module _ (at : List ℕ → File) (known : AreKnown at) (input output other_inpu
     (had_lines_too : Had other_input lines)
     (outcome other : Outcome) (fair : IsFair outcome) (fair_too : IsFair other) where
   -- the same of boards that are solved, whatever is written for them
-  two_solved_as : (Says : List ℕ → Value → List ℕ → Type 0) (Cannot CannotToo IsWrong : List ℕ → RunFault → Type 0)
+  two_solved_as : {Answer : Type 0} (Says : List ℕ → Answer → List ℕ → Type 0)
+      (Cannot CannotToo IsWrong : List ℕ → RunFault → Type 0)
       → ((text : List ℕ) (fault : RunFault) → Cannot text fault → (fault ≡ Memory) ⊎ (fault ≡ Worker)
       ⊎ IsWrong text fault)
       → ((text : List ℕ) (fault : RunFault) → CannotToo text fault → (fault ≡ Memory) ⊎ (fault ≡ Worker)
@@ -692,7 +694,7 @@ module _ (at : List ℕ → File) (known : AreKnown at) (input output other_inpu
       (Ran Says MAX_BOARD_BYTES read other_output.bytes)
       (Fails Says CannotToo MAX_BOARD_BYTES read other_output.bytes)) other × WritesWhole other_output other
       → AreAlike outcome other output other_output
-  two_solved_as Says Cannot CannotToo IsWrong wrong wrong_too one path second same unread unread_too is also =
+  two_solved_as {Answer} Says Cannot CannotToo IsWrong wrong wrong_too one path second same unread unread_too is also =
       alike (FileEnds (Ends outcome_of_run Says IsWrong MAX_BOARD_BYTES) (at second))
       (one_file (Ends outcome_of_run Says IsWrong MAX_BOARD_BYTES) one (at second))
       outcome other output other_output taken
@@ -728,22 +730,25 @@ module _ (at : List ℕ → File) (known : AreKnown at) (input output other_inpu
       → Counts workers limit (at path) output outcome → Counts more limit (at second) other_output other
       → AreAlike outcome other output other_output
   two_counted workers more limit path second same unread unread_too is also =
-      alike (FileEnds (Ends outcome_of_run (Reports limit) (IsWrongWithin limit) MAX_BOARD_BYTES) (at second))
-      (one_file (Ends outcome_of_run (Reports limit) (IsWrongWithin limit) MAX_BOARD_BYTES)
+      two_solved_as (Reports limit) (CannotSolve limit workers) (CannotSolve limit more) (IsWrongWithin limit)
+      (wrong_solving limit workers) (wrong_solving limit more)
       (λ bytes. one_end outcome_of_run (Reports limit) (IsWrongWithin limit) MAX_BOARD_BYTES bytes
-      (reporting_one limit bytes)
+      (reporting_one limit bytes) (one_wrong limit bytes)
+      (λ answer line fault says wrong. not_wrong limit bytes says.0 says.1 fault wrong))
+      path second same unread unread_too is also
+
+  two_started : (workers more : ℕ) (limit : BoardLimit) (path second : List ℕ) → path ≡ second
+      → (outcome ≡ Broken Read → CanFail (at path)) → (other ≡ Broken Read → CanFail (at second))
+      → WritesStarts workers limit (at path) output outcome → WritesStarts more limit (at second) other_output other
+      → AreAlike outcome other output other_output
+  two_started workers more limit path second same unread unread_too is also =
+      two_solved_as (SaysStarts limit) (CannotSolve limit workers) (CannotSolve limit more) (IsWrongWithin limit)
+      (wrong_solving limit workers) (wrong_solving limit more)
+      (λ bytes. one_end outcome_of_run (SaysStarts limit) (IsWrongWithin limit) MAX_BOARD_BYTES bytes
+      (λ answer next line text says says_too. (refl, one_starts bytes limit limit line text says says_too))
       (one_wrong limit bytes)
-      (λ answer line fault says wrong. not_wrong limit bytes says.0 says.1 fault wrong)) (at second))
-      outcome other output other_output taken
-      (opened (Reports limit) (CannotSolve limit workers) (IsWrongWithin limit)
-      (wrong_solving limit workers) output taken had outcome fair is.1 (at second) (known second)
-      (λ e. subst (λ p. CanFail (at p)) same (unread e))
-      (subst (λ p. Opening (at p) output.IsKept (λ read. EndsAs outcome_of_run
-      (Ran (Reports limit) MAX_BOARD_BYTES read output.bytes)
-      (Fails (Reports limit) (CannotSolve limit workers) MAX_BOARD_BYTES read output.bytes)) outcome) same is.0))
-      (opened (Reports limit) (CannotSolve limit more) (IsWrongWithin limit)
-      (wrong_solving limit more) other_output taken had_too other fair_too also.1 (at second)
-      (known second) unread_too also.0)
+      (λ answer line fault says wrong. not_wrong limit bytes says.0 says.1 fault wrong))
+      path second same unread unread_too is also
 
   two_chains : (most more : ℕ) (path second : List ℕ) → most ≡ more → path ≡ second
       → (outcome ≡ Broken Read → CanFail (at path)) → (other ≡ Broken Read → CanFail (at second))
@@ -884,6 +889,8 @@ module _ (at : List ℕ → File) (known : AreKnown at) (input output other_inpu
       absurd (names_differ (codes "check") (codes "solve") refl (sym asks.0 ∙ asks_too.0))
   two_done name rows (jobs.Check b p) (jobs.Report ow og ob) asks asks_too is also =
       absurd (names_differ (codes "check") (codes "report") refl (sym asks.0 ∙ asks_too.0))
+  two_done name rows (jobs.Check b p) (jobs.Starts ow og ob) asks asks_too is also =
+      absurd (names_differ (codes "check") (codes "starts") refl (sym asks.0 ∙ asks_too.0))
   two_done name rows (jobs.Check b p) (jobs.Chains ow om ob) asks asks_too is also =
       absurd (names_differ (codes "check") (codes "chains") refl (sym asks.0 ∙ asks_too.0))
   two_done name rows (jobs.Check b p) (jobs.Play os og ob) asks asks_too is also =
@@ -901,6 +908,8 @@ module _ (at : List ℕ → File) (known : AreKnown at) (input output other_inpu
       absurd (names_differ (codes "nested") (codes "solve") refl (sym asks.0 ∙ asks_too.0))
   two_done name rows (jobs.Nested l q) (jobs.Report ow og ob) asks asks_too is also =
       absurd (names_differ (codes "nested") (codes "report") refl (sym asks.0 ∙ asks_too.0))
+  two_done name rows (jobs.Nested l q) (jobs.Starts ow og ob) asks asks_too is also =
+      absurd (names_differ (codes "nested") (codes "starts") refl (sym asks.0 ∙ asks_too.0))
   two_done name rows (jobs.Nested l q) (jobs.Chains ow om ob) asks asks_too is also =
       absurd (names_differ (codes "nested") (codes "chains") refl (sym asks.0 ∙ asks_too.0))
   two_done name rows (jobs.Nested l q) (jobs.Play os og ob) asks asks_too is also =
@@ -919,6 +928,8 @@ module _ (at : List ℕ → File) (known : AreKnown at) (input output other_inpu
       also.does.0
   two_done name rows (jobs.Solve w g b) (jobs.Report ow og ob) asks asks_too is also =
       absurd (names_differ (codes "solve") (codes "report") refl (sym asks.0 ∙ asks_too.0))
+  two_done name rows (jobs.Solve w g b) (jobs.Starts ow og ob) asks asks_too is also =
+      absurd (names_differ (codes "solve") (codes "starts") refl (sym asks.0 ∙ asks_too.0))
   two_done name rows (jobs.Solve w g b) (jobs.Chains ow om ob) asks asks_too is also =
       absurd (names_differ (codes "solve") (codes "chains") refl (sym asks.0 ∙ asks_too.0))
   two_done name rows (jobs.Solve w g b) (jobs.Play os og ob) asks asks_too is also =
@@ -937,12 +948,34 @@ module _ (at : List ℕ → File) (known : AreKnown at) (input output other_inpu
       (subst (λ l. Counts w l (at b.now) output outcome)
       (same_limit rows g og asks.2 asks_too.2) is.does.0)
       also.does.0
+  two_done name rows (jobs.Report w g b) (jobs.Starts ow og ob) asks asks_too is also =
+      absurd (names_differ (codes "report") (codes "starts") refl (sym asks.0 ∙ asks_too.0))
   two_done name rows (jobs.Report w g b) (jobs.Chains ow om ob) asks asks_too is also =
       absurd (names_differ (codes "report") (codes "chains") refl (sym asks.0 ∙ asks_too.0))
   two_done name rows (jobs.Report w g b) (jobs.Play os og ob) asks asks_too is also =
       absurd (names_differ (codes "report") (codes "play") refl (sym asks.0 ∙ asks_too.0))
   two_done name rows (jobs.Report w g b) (jobs.Climb ol) asks asks_too is also =
       absurd (names_differ (codes "report") (codes "climb") refl (sym asks.0 ∙ asks_too.0))
+  two_done name rows (jobs.Starts w g b) jobs.Joined asks asks_too is also = absurd asks_too
+  two_done name rows (jobs.Starts w g b) (jobs.Check ob op) asks asks_too is also =
+      absurd (names_differ (codes "starts") (codes "check") refl (sym asks.0 ∙ asks_too.0))
+  two_done name rows (jobs.Starts w g b) (jobs.Nested ol oq) asks asks_too is also =
+      absurd (names_differ (codes "starts") (codes "nested") refl (sym asks.0 ∙ asks_too.0))
+  two_done name rows (jobs.Starts w g b) (jobs.Solve ow og ob) asks asks_too is also =
+      absurd (names_differ (codes "starts") (codes "solve") refl (sym asks.0 ∙ asks_too.0))
+  two_done name rows (jobs.Starts w g b) (jobs.Report ow og ob) asks asks_too is also =
+      absurd (names_differ (codes "starts") (codes "report") refl (sym asks.0 ∙ asks_too.0))
+  two_done name rows (jobs.Starts w g b) (jobs.Starts ow og ob) asks asks_too is also =
+      two_started w ow og b.now ob.now (same_path _ b.now ob.now asks.3 asks_too.3) is.unread also.unread
+      (subst (λ l. WritesStarts w l (at b.now) output outcome)
+      (same_limit rows g og asks.2 asks_too.2) is.does.0)
+      also.does.0
+  two_done name rows (jobs.Starts w g b) (jobs.Chains ow om ob) asks asks_too is also =
+      absurd (names_differ (codes "starts") (codes "chains") refl (sym asks.0 ∙ asks_too.0))
+  two_done name rows (jobs.Starts w g b) (jobs.Play os og ob) asks asks_too is also =
+      absurd (names_differ (codes "starts") (codes "play") refl (sym asks.0 ∙ asks_too.0))
+  two_done name rows (jobs.Starts w g b) (jobs.Climb ol) asks asks_too is also =
+      absurd (names_differ (codes "starts") (codes "climb") refl (sym asks.0 ∙ asks_too.0))
   two_done name rows (jobs.Chains w m b) jobs.Joined asks asks_too is also = absurd asks_too
   two_done name rows (jobs.Chains w m b) (jobs.Check ob op) asks asks_too is also =
       absurd (names_differ (codes "chains") (codes "check") refl (sym asks.0 ∙ asks_too.0))
@@ -952,6 +985,8 @@ module _ (at : List ℕ → File) (known : AreKnown at) (input output other_inpu
       absurd (names_differ (codes "chains") (codes "solve") refl (sym asks.0 ∙ asks_too.0))
   two_done name rows (jobs.Chains w m b) (jobs.Report ow og ob) asks asks_too is also =
       absurd (names_differ (codes "chains") (codes "report") refl (sym asks.0 ∙ asks_too.0))
+  two_done name rows (jobs.Chains w m b) (jobs.Starts ow og ob) asks asks_too is also =
+      absurd (names_differ (codes "chains") (codes "starts") refl (sym asks.0 ∙ asks_too.0))
   two_done name rows (jobs.Chains w m b) (jobs.Chains ow om ob) asks asks_too is also =
       two_chains m om b.now ob.now (same_number rows (codes "most") _ m om asks.2 asks_too.2)
       (same_path _ b.now ob.now asks.3 asks_too.3) is.unread also.unread is.does.0 also.does.0
@@ -968,6 +1003,8 @@ module _ (at : List ℕ → File) (known : AreKnown at) (input output other_inpu
       absurd (names_differ (codes "play") (codes "solve") refl (sym asks.0 ∙ asks_too.0))
   two_done name rows (jobs.Play s g b) (jobs.Report ow og ob) asks asks_too is also =
       absurd (names_differ (codes "play") (codes "report") refl (sym asks.0 ∙ asks_too.0))
+  two_done name rows (jobs.Play s g b) (jobs.Starts ow og ob) asks asks_too is also =
+      absurd (names_differ (codes "play") (codes "starts") refl (sym asks.0 ∙ asks_too.0))
   two_done name rows (jobs.Play s g b) (jobs.Chains ow om ob) asks asks_too is also =
       absurd (names_differ (codes "play") (codes "chains") refl (sym asks.0 ∙ asks_too.0))
   two_done name rows (jobs.Play s g b) (jobs.Play os og ob) asks asks_too is also =
@@ -987,6 +1024,8 @@ module _ (at : List ℕ → File) (known : AreKnown at) (input output other_inpu
       absurd (names_differ (codes "climb") (codes "solve") refl (sym asks.0 ∙ asks_too.0))
   two_done name rows (jobs.Climb l) (jobs.Report ow og ob) asks asks_too is also =
       absurd (names_differ (codes "climb") (codes "report") refl (sym asks.0 ∙ asks_too.0))
+  two_done name rows (jobs.Climb l) (jobs.Starts ow og ob) asks asks_too is also =
+      absurd (names_differ (codes "climb") (codes "starts") refl (sym asks.0 ∙ asks_too.0))
   two_done name rows (jobs.Climb l) (jobs.Chains ow om ob) asks asks_too is also =
       absurd (names_differ (codes "climb") (codes "chains") refl (sym asks.0 ∙ asks_too.0))
   two_done name rows (jobs.Climb l) (jobs.Play os og ob) asks asks_too is also =
@@ -1106,6 +1145,7 @@ typed_by_name name rows (jobs.Check b p) asks = rw asks.0 refl
 typed_by_name name rows (jobs.Nested l p) asks = rw asks.0 refl
 typed_by_name name rows (jobs.Solve w g b) asks = rw asks.0 refl
 typed_by_name name rows (jobs.Report w g b) asks = rw asks.0 refl
+typed_by_name name rows (jobs.Starts w g b) asks = rw asks.0 refl
 typed_by_name name rows (jobs.Chains w m b) asks = rw asks.0 refl
 typed_by_name name rows (jobs.Play s g b) asks = rw asks.0 refl
 typed_by_name name rows (jobs.Climb l) asks = rw asks.0 refl

@@ -3,7 +3,7 @@ use Rattle.std.proofs.Common.{◌≡◌, ℕ, suc, ◌&&◌, Bool, true, false, 
 use Rattle.std.specs.Prelude.{◌⊎◌, Err, Ok, Result, if◌then◌else◌}
 use Rattle.command_line.specs.declared.asked.BoardLimit.{BoardLimit}
 use Rattle.command_line.specs.declared.asked.Job.{Job}
-use Rattle.command_line.specs.declared.asked.Job.TheVariants.{Joined, Check, Nested, Solve, Report, Chains}
+use Rattle.command_line.specs.declared.asked.Job.TheVariants.{Joined, Check, Nested, Solve, Report, Starts, Chains}
 use Rattle.command_line.specs.declared.asked.Job.TheVariants.{Play, Climb}
 use Rattle.console.specs.declared.streams.Terminals.{Terminals}
 use Rattle.player.specs.Prompts.{ArePrompts}
@@ -107,6 +107,7 @@ module _ (at : List ℕ → File) (terminals : Terminals) (off : terminals.error
   nothing_in_job (Nested levels pebbles) told is = is
   nothing_in_job (Solve workers limit board) told is = size_untold limit (at board.now) told is
   nothing_in_job (Report workers limit board) told is = size_untold limit (at board.now) told is
+  nothing_in_job (Starts workers limit board) told is = size_untold limit (at board.now) told is
   nothing_in_job (Chains workers most board) told is =
       unopened {Answer = Unit {0}} (at board.now) (λ read. IsToldOfChains most read terminals.errors) outcome told
       (λ read result tells. no_lengths most read terminals.errors off result told tells) is

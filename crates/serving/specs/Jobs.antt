@@ -2,7 +2,7 @@
 use Rattle.std.specs.Prelude.{◌≡◌, ◌≢◌, ℕ, ◌⊎◌, ◌↔◌, List}
 use Rattle.command_line.specs.declared.asked.Job.{Job}
 use Rattle.command_line.specs.declared.asked.Job.TheVariants.{Joined, Check, Nested, Solve, Report}
-use Rattle.command_line.specs.declared.asked.Job.TheVariants.{Chains}
+use Rattle.command_line.specs.declared.asked.Job.TheVariants.{Starts, Chains}
 use Rattle.command_line.specs.declared.asked.Job.TheVariants.{Play, Climb}
 use Rattle.player.specs.Transcript.{PersonClimbs}
 use Rattle.positions.specs.declared.side.Side.{Side}
@@ -13,6 +13,7 @@ use Rattle.serving.specs.Outcomes.{EndsAs, outcome_of_check, outcome_of_run}
 use Rattle.runs.specs.PlayRun.{IsBrokenOff, IsOver, PlayFails, RanPlay}
 use Rattle.runs.specs.ChainText.{CannotCountChains, SaysChains}
 use Rattle.runs.specs.Report.{Reports}
+use Rattle.runs.specs.StartText.{SaysStarts}
 use Rattle.runs.specs.Run.{Bytes, Fails, Ran, Stream, Wrote, WrotePrefix}
 use Rattle.runs.specs.LimitedSolveRun.{CannotSolveWithin, SolutionWithin}
 use Rattle.runs.specs.SolveRun.{CannotSolve}
@@ -78,6 +79,15 @@ Counts workers limit board output outcome =
     MAX_BOARD_BYTES read output.bytes)) outcome
     × WritesWhole output outcome
 
+-- the starts of the board were written, by this number of workers
+abbrev pub WritesStarts : ℕ → BoardLimit → File → Stream → Outcome → Type 0
+WritesStarts workers limit board output outcome =
+    Opening board output.IsKept (λ read. EndsAs outcome_of_run
+    (Ran (SaysStarts limit) MAX_BOARD_BYTES read output.bytes)
+    (Fails (SaysStarts limit) (CannotSolve limit workers)
+    MAX_BOARD_BYTES read output.bytes)) outcome
+    × WritesWhole output outcome
+
 -- the chains of the board were counted, of up to this many labels
 abbrev pub CountsChains : ℕ → File → Stream → Outcome → Type 0
 CountsChains most board output outcome =
@@ -121,6 +131,8 @@ module _ (at : List ℕ → File) (input output : Stream) where
       Solves workers limit (at board.now) output outcome × input.IsKept
   DoesJob (Report workers limit board) outcome =
       Counts workers limit (at board.now) output outcome × input.IsKept
+  DoesJob (Starts workers limit board) outcome =
+      WritesStarts workers limit (at board.now) output outcome × input.IsKept
   DoesJob (Chains workers most board) outcome =
       CountsChains most (at board.now) output outcome × input.IsKept
   DoesJob (Play side limit board) outcome = Plays side limit (at board.now) input output outcome
@@ -133,6 +145,7 @@ module _ (at : List ℕ → File) (input output : Stream) where
   CanBeUnread (Nested levels pebbles) = ⊥
   CanBeUnread (Solve workers limit board) = CanFail (at board.now)
   CanBeUnread (Report workers limit board) = CanFail (at board.now)
+  CanBeUnread (Starts workers limit board) = CanFail (at board.now)
   CanBeUnread (Chains workers most board) = CanFail (at board.now)
   CanBeUnread (Play side limit board) = CanFail (at board.now) ⊎ input.HasFailed
   CanBeUnread (Climb levels) = input.HasFailed

@@ -5,7 +5,7 @@ use Rattle.std.specs.Fmt.{decimal}
 use Rattle.board_text.specs.LineForms.{with_line_feed}
 use Rattle.command_line.specs.declared.asked.Job.{Job}
 use Rattle.command_line.specs.declared.asked.Job.TheVariants.{Joined, Check, Nested, Solve, Report}
-use Rattle.command_line.specs.declared.asked.Job.TheVariants.{Chains}
+use Rattle.command_line.specs.declared.asked.Job.TheVariants.{Starts, Chains}
 use Rattle.command_line.specs.declared.asked.Job.TheVariants.{Play, Climb}
 use Rattle.console.specs.declared.streams.Terminals.{Terminals}
 use Rattle.player.specs.Prompts.{ArePrompts, shown_line}
@@ -95,6 +95,8 @@ module _ (at : List ℕ → File) (terminals : Terminals) (input output : Stream
   IsToldInJob (Solve workers limit board) told = OpensAndTells {Answer = Value} (at board.now)
       (λ read. IsNoticedInRun limit read terminals.errors) outcome told
   IsToldInJob (Report workers limit board) told = OpensAndTells {Answer = Unit {0}} (at board.now)
+      (λ read. IsNoticedInRun limit read terminals.errors) outcome told
+  IsToldInJob (Starts workers limit board) told = OpensAndTells {Answer = Unit {0}} (at board.now)
       (λ read. IsNoticedInRun limit read terminals.errors) outcome told
   IsToldInJob (Chains workers most board) told =
       OpensAndTells {Answer = Unit {0}} (at board.now)

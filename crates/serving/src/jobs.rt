@@ -15,7 +15,7 @@ ghost use Rattle.serving.specs.Consoles.{IsReady};
 ghost use Rattle.serving.specs.Folders.{CanFail};
 ghost use Rattle.serving.specs.Jobs.{IsDone, Checks, ChecksJoined, Climbs, Counts, CountsChains};
 ghost use Rattle.serving.specs.Jobs.{Plays, Solves};
-ghost use Rattle.serving.specs.Jobs.{TellsReads, TellsWrites, WritesNested};
+ghost use Rattle.serving.specs.Jobs.{TellsReads, TellsWrites, WritesNested, WritesStarts};
 ghost use Rattle.serving.specs.Telling.{IsToldInClimb, IsToldInJob, IsToldOfFiles, IsToldOfJoined};
 ghost use Rattle.serving.specs.Telling.{OpensAndTells, joined_greeting, rows_line, rows_told};
 ghost use Rattle.serving.specs.Telling.{types_and_sees};
@@ -145,6 +145,18 @@ pub(crate) fn carry_out<'a, F: Folder, I: Source, O: Sink, E: Sink>(
                 shows_size,
             };
             report(rt, alloc, work, files, board, console)
+        }
+        Job::Starts {
+            workers,
+            limit,
+            board,
+        } => {
+            let work = Work {
+                workers,
+                limit,
+                shows_size,
+            };
+            starts(rt, alloc, work, files, board, console)
         }
         Job::Chains {
             workers,
@@ -364,6 +376,41 @@ fn report<'a, F: Folder, I: Source, O: Sink, E: Sink>(
         return Ended::unopened(files, board);
     };
     let done = work.report(
+        rt,
+        alloc,
+        &mut reader,
+        &mut console.output,
+        &mut console.errors,
+    );
+    Ended::of_board(Outcome::of_run(done), work.limit, files, board, &reader)
+}
+
+/// Writes the starts of the board at a path.
+fn starts<'a, F: Folder, I: Source, O: Sink, E: Sink>(
+    rt: &(impl Threads + Wait + Sync),
+    alloc: Global,
+    work: Work,
+    files: &Files<'_, F>,
+    board: &'a str,
+    console: &mut Console<I, O, E>,
+) -> Ended<'a>
+    requires workers { InRange 1 MAX_WORKERS work.workers }
+    requires output_ready { O.has_failed console.old.output ≡ false }
+    ensures kept { console.new.input ≡ console.old.input }
+    ensures done { WritesStarts work.workers work.limit (F.at files.now.folder.now board.now)
+        (stream_of O.contents O.has_failed console.old.output console.new.output) result.outcome }
+    ensures writes { TellsWrites
+        (stream_of O.contents O.has_failed console.old.output console.new.output) result.outcome }
+    ensures unread { result.outcome ≡ Broken Read → CanFail (F.at files.now.folder.now board.now) }
+    ensures told { (told : List ℕ) × OpensAndTells {Answer = Unit {0}}
+        (F.at files.now.folder.now board.now)
+        (λ read. IsNoticedInRun work.limit read work.shows_size) result.outcome told
+        × IsMore E.contents E.has_failed console.old.errors console.new.errors told }
+{
+    let Ok(mut reader) = files.open(alloc, board) else {
+        return Ended::unopened(files, board);
+    };
+    let done = work.starts(
         rt,
         alloc,
         &mut reader,

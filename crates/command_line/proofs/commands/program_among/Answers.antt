@@ -28,12 +28,14 @@ returns c =
     ∙ ap₂ with_subcommand solve c.in_ok-check.ensures.shape in
     let report = c.in_ok-command-3.ensures.shape c.in_ok-report.ensures.local
     ∙ ap₂ with_subcommand check c.in_ok-report.ensures.shape in
-    let chains = c.in_ok-command-4.ensures.shape c.in_ok-chains.ensures.local
-    ∙ ap₂ with_subcommand report c.in_ok-chains.ensures.shape in
-    let nested = c.in_ok-command-5.ensures.shape c.in_ok-nested.ensures.local
+    let starts = c.in_ok-command-4.ensures.shape c.in_ok-starts.ensures.local
+    ∙ ap₂ with_subcommand report c.in_ok-starts.ensures.shape in
+    let chains = c.in_ok-command-5.ensures.shape c.in_ok-chains.ensures.local
+    ∙ ap₂ with_subcommand starts c.in_ok-chains.ensures.shape in
+    let nested = c.in_ok-command-6.ensures.shape c.in_ok-nested.ensures.local
     ∙ ap₂ with_subcommand chains c.in_ok-nested.ensures.shape in
-    let play = c.in_ok-command-6.ensures.shape c.in_ok-play.ensures.local
+    let play = c.in_ok-command-7.ensures.shape c.in_ok-play.ensures.local
     ∙ ap₂ with_subcommand nested c.in_ok-play.ensures.shape in
-    let climb = c.in_ok-command-7.ensures.shape c.in_ok-climb.ensures.local
+    let climb = c.in_ok-command-8.ensures.shape c.in_ok-climb.ensures.local
     ∙ ap₂ with_subcommand play c.in_ok-climb.ensures.shape in
     climb

@@ -65,6 +65,15 @@ returns-in-Report-clause-done g c =
       unread = c.report.ensures.unread;
     }
 
+pub returns-in-Starts-clause-done : goal.returns-in-Starts-clause-done
+returns-in-Starts-clause-done g c =
+    rw c.in-Starts.is record {
+      does = (c.starts.ensures.done, c.starts.ensures.kept);
+      writes = c.starts.ensures.writes;
+      reads = (λ failed. absurd (true≢false (sym (rw c.starts.ensures.kept at failed) ∙ c.requires.ready.input)));
+      unread = c.starts.ensures.unread;
+    }
+
 pub returns-in-Chains-clause-done : goal.returns-in-Chains-clause-done
 returns-in-Chains-clause-done g c =
     rw c.in-Chains.is record {
@@ -92,6 +101,9 @@ returns-in-Solve-clause-told g c = rw c.in-Solve.is c.solve.ensures.told
 
 pub returns-in-Report-clause-told : goal.returns-in-Report-clause-told
 returns-in-Report-clause-told g c = rw c.in-Report.is c.report.ensures.told
+
+pub returns-in-Starts-clause-told : goal.returns-in-Starts-clause-told
+returns-in-Starts-clause-told g c = rw c.in-Starts.is c.starts.ensures.told
 
 pub returns-in-Play-clause-told : goal.returns-in-Play-clause-told
 returns-in-Play-clause-told g c = rw (c.in-Play.is, ← c.are_both.ensures) c.play.ensures.told
