@@ -33,7 +33,8 @@ impl From<AllocError> for ReadFault {
 const FIRST_READ: usize = 8192;
 
 /// Reads all remaining bytes, at most `limit`. The source must
-/// not have failed before, nor reported its end.
+/// not have failed before, nor reported its end. It alone takes an allocator: with one, each type
+/// that holds memory would have a parameter more.
 pub fn read_all<A: Allocator, S: Source>(
     alloc: A,
     source: &mut S,

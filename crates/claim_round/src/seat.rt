@@ -11,7 +11,8 @@ use std::marker::Model;
 /// has won.
 ///
 /// Only the holder of a seat can make steps: each call on the round takes the seat. A seat that
-/// is dropped leaves its round open for good.
+/// is dropped leaves its round open for good. It has no number: that of a seat which a split makes
+/// couldn't be known without a second step.
 #[derive(Drop)]
 pub struct RoundSeat {
     pub(crate) seat: Seat<(), Hand>,

@@ -109,7 +109,8 @@ const ABOUT_CHAINS: &str =
     Example:\n  \
     pebbles chains chain.board";
 
-/// The help of `check`.
+/// The help of `check`. Numbers in helps are words: `clap` takes texts that live as long as the
+/// job's own words do, so that none can be made from a constant.
 const ABOUT_CHECKING: &str =
     "Writes one line: `accepted` and the claim, or `refused` and the first rule of\n\
     checking that the document breaks, with the exit status 3. The rows of a\n\

@@ -5,7 +5,7 @@ use crate::documents::{print_symmetric_document, read_symmetric_document};
 use board_text::Board;
 use fakes::boards::{CYCLE_WITHOUT_LABELS, LONE_WITHOUT_LABEL, ONE_PAIR, THREE_CYCLE};
 use positions::{Claim, Turns};
-use proof_text::{AdversaryClassRow, LabellerClassRow, ProofKind};
+use proof_text::{AdversaryClassRow, LabellerClassRow, ProofKind, SymmetryProof};
 use std::alloc::Global;
 use std::process::Abort;
 
@@ -91,20 +91,28 @@ fn documents_are_printed_as_they_were_read(rt: HostRuntime) {
     }
 }
 
+/// The first four images of the map of this number, counted from 0, and the last; none if there is
+/// no such map.
+fn images(proof: &SymmetryProof, number: usize) -> Option<[u8; 5]> {
+    match proof.maps.get(number) {
+        Some(map) => Some([map.of[0], map.of[1], map.of[2], map.of[3], map.of[255]]),
+        None => None,
+    }
+}
+
 #[test]
 fn maps_and_rows(rt: HostRuntime) {
     let board = board_of(&rt, rt.alloc(), THREE_CYCLE);
     let proof = read_symmetric_document(rt.alloc(), &board, CYCLE_FOREVER.as_bytes());
     let proof = proof.expect(&rt, "a document");
     assert_same(&rt, "maps", proof.maps.len(), 2);
-    assert_same(&rt, "the turn", proof.maps[0].of[..4] == [1, 2, 0, 0], true);
+    assert_same(&rt, "the turn", images(&proof, 0), Some([1, 2, 0, 0, 0]));
     assert_same(
         &rt,
         "the turn back",
-        proof.maps[1].of[..4] == [2, 0, 1, 0],
-        true,
+        images(&proof, 1),
+        Some([2, 0, 1, 0, 0]),
     );
-    assert_same(&rt, "the last image", proof.maps[1].of[255], 0);
     assert_same(&rt, "claim", proof.rows.claim, Claim::Forever);
     let row = LabellerClassRow {
         at: [0, 1, 0, 0, 0, 0],
@@ -112,7 +120,7 @@ fn maps_and_rows(rt: HostRuntime) {
         take: [2, 1, 0, 0, 0, 0],
     };
     assert_same(&rt, "rows", proof.rows.labeller.len(), 2);
-    assert_same(&rt, "row", proof.rows.labeller[1], row);
+    assert_same(&rt, "row", proof.rows.labeller.get(1), Some(&row));
     let board = board_of(&rt, rt.alloc(), ONE_PAIR);
     let proof = read_symmetric_document(rt.alloc(), &board, PAIR_VALUE_ONE.as_bytes());
     let proof = proof.expect(&rt, "a document");
@@ -122,7 +130,7 @@ fn maps_and_rows(rt: HostRuntime) {
         ask: 1,
     };
     assert_same(&rt, "requests", proof.rows.adversary.len(), 2);
-    assert_same(&rt, "request", proof.rows.adversary[1], row);
+    assert_same(&rt, "request", proof.rows.adversary.get(1), Some(&row));
 }
 
 #[test]
@@ -233,7 +241,8 @@ fn lines_after_the_maps(rt: HostRuntime) {
         ),
         (
             pair!(
-                "symmetries 1\nmap 0 1\nlabeller 0\nadversary 2\nat 0 1 for 1 ask 0\nat 0 1 for 1 ask 0\n"
+                "symmetries 1\nmap 0 1\nlabeller 0\nadversary 2\nat 0 1 for 1 ask 0\n\
+                at 0 1 for 1 ask 0\n"
             ),
             8,
             ProofKind::Order,

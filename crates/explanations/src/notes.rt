@@ -3,9 +3,7 @@
 use crate::hints::board_hint;
 use crate::inputs::{Inputs, STANDARD_INPUT};
 use crate::parts::{Part, Parts, around, joined, two_words, words};
-use crate::proof_hints::{
-    class_refusal_hint, proof_hint, refusal_hint, symmetry_refusal_hint,
-};
+use crate::proof_hints::{class_refusal_hint, proof_hint, refusal_hint, symmetry_refusal_hint};
 use crate::sizes::Sizes;
 use crate::trouble::Trouble;
 use crate::usage::usage_hint;

@@ -342,8 +342,8 @@ pub(crate) fn symmetry_refusal_hint(fault: SymmetryFault) -> &'static str {
             "one after the other the maps make more than 131072 symmetries; name fewer maps"
         }
         SymmetryFault::NotLeast { .. } => {
-            "a symmetry takes these places to others that come before them, `-` first and labels as \
-            numbers; the row must be at the least of all"
+            "a symmetry takes these places to others that come before them, `-` first and labels \
+            as numbers; the row must be at the least of all"
         }
         SymmetryFault::Row(fault) => class_refusal_hint(fault),
         SymmetryFault::Memory => "",

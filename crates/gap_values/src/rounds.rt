@@ -3,7 +3,7 @@
 ghost use Rattle.std.specs.Prelude.{◌≡◌, ◌-◌, ◌<◌, ◌≤◌, ℕ, IfOk, List, OnErr, OnOk, length};
 ghost use Rattle.board_text.specs.PlainBoard.{places};
 ghost use Rattle.classes.specs.Numbers.{ways};
-ghost use Rattle.console.specs.Watching.{AreTold};
+ghost use Rattle.console.specs.Watching.{AreStepsTold};
 ghost use Rattle.gap_values.specs.Inside.Sets.{AreGapRounds, ArePassed, AreSets};
 ghost use Rattle.gap_values.specs.Inside.Words.{AreGapWords};
 ghost use Rattle.gap_values.specs.Inside.OpenWords.{open_below};
@@ -53,7 +53,7 @@ pub(crate) fn rounds_of_gaps<T, W: Watch<T>, F: Fn(&[LabelSet], u32, Vec<u32>) -
         (ways (board.now.pebbles - 1) (places board.now)) words.items new.items }
     ensures rounds { IfOk result (AreGapRounds board.now) }
     ensures told { OnOk result ((counts : List ℕ) × AreOpenCounts board.now counts
-        × AreTold (W.tells watch.now) 1 counts told.old told.new) }
+        × AreStepsTold (W.tells watch.now) 1 counts told.old told.new) }
     ensures untold { OnErr result (told.new ≡ told.old) }
 {
     let mut words = vec![in alloc; OPEN; numbers.gaps() as usize]?;

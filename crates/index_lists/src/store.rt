@@ -9,6 +9,8 @@ use board_text::Memory;
 use std::alloc::Global;
 
 /// Lists of nodes, each node in at most one list and once. Nodes and lists are numbered from 0.
+/// Each operation is one equation on them, and tells that they are lists, so that a caller who was
+/// only lent a store knows it.
 pub trait ListStore {
     /// The lists that it holds.
     ghost state: { Self → Lists };

@@ -3,7 +3,8 @@ use Rattle.std.specs.Prelude.{◌≡◌, ℕ, ◌↔◌, replicate}
 use Rattle.board_text.specs.PlainBoard.{PlainBoard, IsBoard, AreLabels, Dominates}
 use Rattle.nested_cycles.specs.Domination.{labels_of, NestedDominates}
 
--- The nested board of a level, with all pebbles on the label 0.
+-- The nested board of a level, with all pebbles on the label 0. Its domination fixes its pairs,
+-- since these ascend.
 pub record IsNestedBoard (levels pebble_count : ℕ) (board : PlainBoard) : Type 0 where
   pub is_board : IsBoard board
   pub labels : board.labels ≡ labels_of levels

@@ -6,7 +6,8 @@ use Rattle.board_text.specs.Ranges.{AreNumbers}
 abbrev pub IsWord : ℕ → List ℕ → Type 0
 IsWord count word = AreNumbers count 3 word
 
--- the number of a word: it is read in base 3, its first digit most significant
+-- the number of a word: it is read in base 3, its first digit most significant, so that the labels
+-- of each copy of the smaller board have consecutive numbers
 unfoldable pub word_number : List ℕ → ℕ
 word_number [] = 0
 word_number (digit ∷ others) = digit * 3 ^ length others + word_number others

@@ -23,7 +23,8 @@ pub(crate) trait CheckedRow<C, F> {
         ensures faulty { IsSome result → ¬ meets checker.now self.now };
 }
 
-/// The fault of the first faulty row of `rows`, if there is one. The rows are checked in parallel.
+/// The fault of the first faulty row of `rows`, if there is one. The rows are checked in parallel,
+/// and that row once more, so that no fault is carried out of a thread.
 pub(crate) fn first_fault<C: Sync, F: Copy + Sync, R: CheckedRow<C, F> + Sync>(
     rt: &(impl Threads + Sync),
     checker: &C,

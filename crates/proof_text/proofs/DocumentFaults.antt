@@ -14,7 +14,7 @@ use Rattle.proof_text.specs.ProofText.{claim_words, claim_line, first_two_lines}
 use Rattle.proof_text.specs.RowForm.{text_of_section, lines_of_section}
 use Rattle.proof_text.specs.SectionFaults.{InSection}
 use Rattle.proof_text.specs.Versions.{Version, head_of}
-use Rattle.proof_text.specs.Inside.Rows.{PartRead, AreKindsOfRows, HeadFault, HeadRead}
+use Rattle.proof_text.specs.Inside.Rows.{PartRead, AreKindsOfRows, HeadFault, IsHeadRead}
 
 -- the number of lines of a section
 pub lines_are : {asked wanted : Bool} {count rows lines : ℕ} → asked ≡ wanted → count ≡ rows
@@ -33,7 +33,7 @@ two_lines_read line claim text a b e f = rw (e, f) (sym (append_assoc line (clai
 
 -- the head of a text whose sections stand right after its claim
 pub bare_head : (line : List ℕ) (claim : Claim) (text rest : List ℕ)
-    → IsClaim claim × (text ≡ first_two_lines line claim ++ rest) → HeadRead (head_of line) claim text rest
+    → IsClaim claim × (text ≡ first_two_lines line claim ++ rest) → IsHeadRead (head_of line) claim text rest
 bare_head line claim text rest (is, e) = record { is_claim = is; spelled = e }
 
 -- the faults of words are of kinds of rows, in both sections
@@ -79,7 +79,7 @@ module _ {X Y : Type 0} (reading : Reading X Y) where
     ])
     has_part_fault text line kind f = f
 
-    module _ {claim : Claim} {text a : List ℕ} (start : HeadRead version.head claim text a) where
+    module _ {claim : Claim} {text a : List ℕ} (start : IsHeadRead version.head claim text a) where
       pub labeller_fault : (next line : ℕ) (kind : ProofKind) → version.head.next ≡ next
           → ((version.answers claim).asked ≡ true) × InSection (answers_read reading claim) a next line kind
           → HasFaultOf reading text line kind
@@ -112,7 +112,7 @@ module _ {X Y : Type 0} (reading : Reading X Y) where
           }))
 
   pub front_read : {claim : Claim} {text a b d : List ℕ} {labeller : List X} {adversary : List Y}
-      → HeadRead version.head claim text a → PartRead (version.answers claim) labeller a b
+      → IsHeadRead version.head claim text a → PartRead (version.answers claim) labeller a b
       → PartRead (version.requests claim) adversary b d
       → FrontRead (record { claim = claim; labeller = labeller; adversary = adversary }) text d
   front_read {claim} {text} {a} {b} {d} {labeller} {adversary} start part other = record {

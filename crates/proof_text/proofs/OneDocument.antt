@@ -11,7 +11,8 @@ use Rattle.positions.specs.declared.claim.Claim.TheVariants.{Exactly, AtLeast, A
 use Rattle.proof_text.specs.declared.fault.ProofFault.{ProofFault}
 use Rattle.proof_text.specs.declared.fault.ProofKind.{ProofKind}
 use Rattle.proof_text.specs.declared.fault.ProofKind.TheVariants as kinds
-use Rattle.proof_text.specs.Documents.{AreMaps, IsDocumentIn, IsProof, IsClassProof, IsSymmetryProof, text_before_end, text_of}
+use Rattle.proof_text.specs.Documents.{AreMaps, IsDocumentIn, IsProof, IsClassProof, IsSymmetryProof, text_before_end}
+use Rattle.proof_text.specs.Documents.{text_of}
 use Rattle.proof_text.specs.Proof.{Sections, PlainProof, IsClaim}
 use Rattle.proof_text.specs.ProofFaults.{AdversaryFault, HasFaultOf, HasProofFault, HasClassTextFault, LabellerFault}
 use Rattle.proof_text.specs.ProofFaults.{HasSymmetryTextFault}
@@ -240,7 +241,8 @@ module _ {X Y : Type 0} (reading : Reading X Y) {D : Type 0} (whole : Sections X
 
   -- a fault is one of the head, or is found after it
   fault_found : (text : List ℕ) (line : ℕ) (kind : ProofKind) → kind ≢ kinds.Memory
-      → HasFaultOf reading text line kind → HeadFault version.head.line text line kind ⊎ FoundAfter text (fault line kind)
+      → HasFaultOf reading text line kind → HeadFault version.head.line text line kind ⊎ FoundAfter text (fault line
+      kind)
   fault_found text line kinds.Version not h = inl h
   fault_found text line kinds.Claim not h = inl h
   fault_found text line kinds.End not (proof, rest, is, stands, e, lacks) =
@@ -359,7 +361,8 @@ module _ (board : PlainBoard) (is : IsBoard board) where
       → AreMaps board.labels maps → FoundAfter (read_by_symmetries board maps) (with_maps maps) text found
       → ReadAs symmetry_version_line AfterTwoLines text found
   maps_found maps text found are f =
-      head_read symmetry_version_line AfterTwoLines text f.claim (maps_text board.labels maps ++ f.rest) found f.is_claim
+      head_read symmetry_version_line AfterTwoLines text f.claim (maps_text board.labels maps ++ f.rest) found
+      f.is_claim
       f.spelled
       (inr (maps, f.rest, (map_rows board maps are, λ not. absurd cc, refl), f.after))
 

@@ -1,5 +1,6 @@
 -- The rows of a section, one after the other.
-use Rattle.std.proofs.Common.{◌≡◌, Bool, cond, true, false, true≢false, ℕ, suc, ◌+◌, ◌-◌, ◌<◌, ◌≤◌, List, [], ◌∷◌, ◌++◌, length, get_or}
+use Rattle.std.proofs.Common.{◌≡◌, Bool, cond, true, false, true≢false, ℕ, suc, ◌+◌, ◌-◌, ◌<◌, ◌≤◌, List, [], ◌∷◌, ◌++◌}
+use Rattle.std.proofs.Common.{length, get_or}
 use Rattle.std.proofs.Common.{take, AllPairs, refl, sym, ap, subst, ◌∙◌, arith, inl, inr, append_assoc}
 use Rattle.std.specs.List.{flat_map}
 use Rattle.std.specs.Prelude.{Ok}
@@ -72,7 +73,8 @@ module _ {R : Type 0} (reading : RowReading R) where
   FollowsFrom rows least = (places : List ℕ) → (MayFollow reading.form rows places → IsFrom reading.form least places)
       × (IsFrom reading.form least places → MayFollow reading.form rows places)
 
-  from_push : (rows : List R) (row : R) (least : ℕ) → least ≡ next_number reading.form (reading.form.number (reading.form.at row))
+  from_push : (rows : List R) (row : R) (least : ℕ) → least ≡ next_number reading.form (reading.form.number
+      (reading.form.at row))
       → FollowsFrom (rows ++ row ∷ []) least
   from_push rows row least e places = (
     λ follows. record {

@@ -10,7 +10,8 @@ use Rattle.proof_text.specs.declared.fault.ProofKind.TheVariants as kinds
 use Rattle.proof_text.specs.Documents.{AreMaps, IsDocumentIn, text_before_end, text_of}
 use Rattle.proof_text.specs.Proof.{Sections, IsClaim}
 use Rattle.proof_text.specs.ProofText.{claim_line, first_two_lines, symmetry_version_line}
-use Rattle.proof_text.specs.RowFaults.{AnswerMisread, RequestMisread, ClassRequestMisread, MapMisread}
+use Rattle.proof_text.specs.RowFaults.{AnswerMisread, RequestMisread, ClassRequestMisread}
+use Rattle.proof_text.specs.RowFaults.{MapMisread}
 use Rattle.proof_text.specs.RowForm.{AreRows, text_of_section, lines_of_section}
 use Rattle.proof_text.specs.SectionFaults.{RowReading, InSection}
 use Rattle.proof_text.specs.Versions.{Version, by_configurations, by_classes, by_symmetries}

@@ -34,8 +34,8 @@ pub record AreRows {X : Type 0} (form : RowForm X) (rows : List X) : Type 0 wher
   pub each : All form.IsRow rows
   pub in_order : All (λ row. form.AreInOrder (form.at row)) rows
   pub ascending : AllPairs
-      (λ first second. next_number form (form.number (form.at first)) ≤ form.number (form.at second))
-      rows
+      (λ first second. next_number form (form.number (form.at first))
+      ≤ form.number (form.at second)) rows
 
 -- the section's text
 abbrev pub text_of_section : {X : Type 0} → RowForm X → List X → List ℕ

@@ -132,7 +132,8 @@ module _ (text written : List ℕ) (value : Value) (solution : IsSolution text v
         → IsAcceptance (claim_of value) verdict
     accepts_text verdict line is =
         accepts_of is.version is.proof verdict
-        (one_version written is.version ByConfigurations (begins_as is.version written board is.proof is.text_is) ranked)
+        (one_version written is.version ByConfigurations (begins_as is.version written board is.proof is.text_is)
+        ranked)
         is.is_proof is.text_is is.verdict_is
 
     faultless_as : (version : DocumentVersion) (fault : ProofFault) → version ≡ ByConfigurations

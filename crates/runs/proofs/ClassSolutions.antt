@@ -170,8 +170,7 @@ module _ (text written : List ℕ) (value : Value) (solution : IsClassSolution t
       → IsAcceptance (claim_of value) verdict
   verdict_of proof (Accepted shown rows) same told =
       let worth : solved.is_document.value ≡ value =
-      same_value board board.start solved.is_document.value value solved.is_document.has_value solved.has_value in
-      (
+      same_value board board.start solved.is_document.value value solved.is_document.has_value solved.has_value in (
         rows,
         ap (λ c. Accepted (record { claim = c }) rows) (told.0 ∙ ap (λ (p : PlainProof). p.claim) (sym same)
             ∙ solved.is_document.claim ∙ ap claim_of worth),

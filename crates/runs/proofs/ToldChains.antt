@@ -4,7 +4,7 @@ use Rattle.std.specs.Prelude.{Err, IfOk, IsOk, Ok, OnErr, Option, Result, option
 use Rattle.board_text.specs.PlainBoard.{PlainBoard}
 use Rattle.chains.specs.ChainCounts.{AreChainCounts, AreCountsOfLengths}
 use Rattle.console.specs.Showing.{IsMore}
-use Rattle.console.specs.Watching.{AreTold, lines_of}
+use Rattle.console.specs.Watching.{AreStepsTold, lines_of}
 use Rattle.console.proofs.Cited.{told_lines}
 use Rattle.runs.specs.Inside.Chaining.{IsToldOfText}
 use Rattle.runs.specs.Notices.{IsToldOfChains, notice_of_length}
@@ -43,7 +43,7 @@ module _ {Answer : Type 0} (most : ℕ) (read : Bytes) (text : List ℕ) (gave :
 
 module _ {E : Type 0} (known : E → Option (List ℕ)) (failed : E → Bool) (shows : Bool) (old new : E) where
   pub walk_told : (counts : List ℕ)
-      → AreTold (λ before after size count. IsMore known failed before after (notice_of_length shows size count)) 1
+      → AreStepsTold (λ before after size count. IsMore known failed before after (notice_of_length shows size count)) 1
       counts old new
       → IsMore known failed old new (lines_of (notice_of_length shows) 1 counts)
   walk_told counts told = told_lines known failed (notice_of_length shows) 1 counts old new told

@@ -2,12 +2,13 @@
 use Rattle.std.proofs.Common.{◌≡◌, ◌∙◌, ◌<◌, ◌≤◌, ◌⊎◌, Bool, true, false, List, [], ◌∷◌, ◌++◌, ℕ, suc, ap, append-nil}
 use Rattle.std.proofs.Common.{inl, inr, le-ltb, lt-ltb, refl, subst, sym}
 use Rattle.std.proofs.lemmas.Bool.{cases_lt}
-use Rattle.std.specs.Prelude.{codes, Err, IfErr, IfOk, MatchResult, Ok, OnErr, OnOk, is_err, Option, Result, if◌then◌else◌}
+use Rattle.std.specs.Prelude.{codes, Err, IfErr, IfOk, MatchResult, Ok, OnErr, OnOk, is_err, Option, Result}
+use Rattle.std.specs.Prelude.{if◌then◌else◌}
 use Rattle.board_text.specs.PlainBoard.{PlainBoard}
 use Rattle.board_text.specs.declared.memory.Memory.{Memory as MemoryFault}
 use Rattle.console.specs.Showing.{IsMore}
 use Rattle.console.proofs.Cited.{none_more, then_more, told_lines}
-use Rattle.console.specs.Watching.{AreTold, lines_of}
+use Rattle.console.specs.Watching.{AreStepsTold, lines_of}
 use Rattle.gap_values.specs.OpenGaps.{AreOpenCounts}
 use Rattle.positions.specs.Ranks.{configurations}
 use Rattle.positions.specs.declared.space.TheConstants.{MAX_CONFIGURATIONS}
@@ -95,7 +96,7 @@ module _ {E : Type 0} (known : E → Option (List ℕ)) (failed : E → Bool) wh
   pub rounds_told : {Values Fault : Type 0} (shows shown : Bool) (board : PlainBoard) (old new : E)
       (result : Result Values Fault) → shown ≡ shows
       → OnOk result ((counts : List ℕ) × AreOpenCounts board counts
-      × AreTold (λ old new round count. IsMore known failed old new (if shown then round_line round count else []))
+      × AreStepsTold (λ old new round count. IsMore known failed old new (if shown then round_line round count else []))
       1 counts old new)
       → OnErr result (new ≡ old)
       → (told : List ℕ) × MatchResult result (λ values. AreAllRounds shows board told) (λ fault. told ≡ [])
@@ -221,8 +222,13 @@ module _ (read : Bytes) (shows : Bool) where
   of_board : (result : Result Value RunFault) (text : List ℕ) (board : PlainBoard) → Gave MAX_BOARD_BYTES read text
       → IsBoardWithin Small text board → IsNoticedInRun Small read shows result []
   of_board result text board gave within =
-      inl (board, (text, gave, within), [], inr (small_rounds shows board within.few),
-      small_board shows board within.few ∙ sym (append-nil (notice_for shows board)))
+      inl (
+        board,
+        (text, gave, within),
+        [],
+        inr (small_rounds shows board within.few),
+        small_board shows board within.few ∙ sym (append-nil (notice_for shows board)),
+      )
 
   pub solved_unnoticed : (workers : ℕ) (written : Bytes) (result : Result Value RunFault)
       → IfOk result (Ran IsSolution MAX_BOARD_BYTES read written)

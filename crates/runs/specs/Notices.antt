@@ -30,8 +30,8 @@ tenths_of tenth bytes = bytes / tenth + min 1 (bytes % tenth)
 abbrev pub tenths_words : ℕ → List ℕ
 tenths_words tenths = decimal (tenths / 10) ++ codes "." ++ decimal (tenths % 10)
 
--- a number of bytes, rounded up to a tenth: of a megabyte, as `84.8 MB`, or from 1,000,000,000 bytes
--- on of a gigabyte, as `2.9 GB`
+-- a number of bytes, rounded up to a tenth: of a megabyte, as `84.8 MB`, or from 1,000,000,000
+-- bytes on of a gigabyte, as `2.9 GB`
 abbrev pub bytes_words : ℕ → List ℕ
 bytes_words bytes =
     if nat_lt bytes 1000000000 then tenths_words (tenths_of 100000 bytes) ++ codes " MB"

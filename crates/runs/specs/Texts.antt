@@ -81,7 +81,8 @@ HasNoBoard = HasNoneWithin Small
 abbrev pub BeginsAs : DocumentVersion → List ℕ → Type 0
 BeginsAs ByClasses text = take 8 text ≡ codes "proof 2\n"
 BeginsAs UpToSymmetries text = take 8 text ≡ codes "proof 3\n"
-BeginsAs ByConfigurations text = ¬ (take 8 text ≡ codes "proof 2\n" ⊎ take 8 text ≡ codes "proof 3\n")
+BeginsAs ByConfigurations text = ¬ (take 8 text ≡ codes "proof 2\n" ⊎ take 8 text ≡ codes
+    "proof 3\n")
 
 -- the fault of a text that is no document's of the version for the board; one by configurations
 -- only a board of few enough has

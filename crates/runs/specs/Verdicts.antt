@@ -70,8 +70,8 @@ HoldsOfAlike board maps claim =
     → AreAlike board.labels group board.start configuration → HoldsAt board configuration claim
 
 -- the board's document up to symmetries is accepted, with the number of its rows, only where it
--- breaks no rule, and its claim holds of the start and of all that is alike to it; it is refused with
--- its first fault
+-- breaks no rule, and its claim holds of the start and of all that is alike to it; it is refused
+-- with its first fault
 abbrev pub IsSymmetryVerdict : PlainBoard → PlainSymmetryProof → Verdict → Type 0
 IsSymmetryVerdict board proof (Accepted shown rows) =
     (shown.claim ≡ proof.rows.claim) × BreaksNoRuleUpTo board proof × Holds board proof.rows.claim

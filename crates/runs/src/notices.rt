@@ -149,7 +149,8 @@ fn write_length<E: Sink>(errors: &mut E, size: u32, count: u64)
 
 /// The words after a number of open `gaps`.
 fn words_of(gaps: u64) -> &'static str
-    ensures { result.now ≡ (if nat_eq gaps 1 then codes " gap is open" else codes " gaps are open") }
+    ensures { result.now
+        ≡ (if nat_eq gaps 1 then codes " gap is open" else codes " gaps are open") }
 {
     if gaps == 1 {
         " gap is open"

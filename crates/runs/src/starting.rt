@@ -12,7 +12,8 @@ ghost use Rattle.runs.specs.Notices.{AreRoundsTold, IsNoticedInRun, IsNoticedOfT
 ghost use Rattle.runs.specs.Run.{Ran, Fails, TellsStreams, bytes_of, stream_of};
 ghost use Rattle.runs.specs.SolveRun.{CannotSolve};
 ghost use Rattle.runs.specs.StartText.{AreStartValues, AreStartsOf, AreStartsOfText, SaysStarts};
-ghost use Rattle.runs.specs.StartText.{place_name, place_value_line, place_value_lines, starts_text};
+ghost use Rattle.runs.specs.StartText.{place_name, place_value_line, place_value_lines};
+ghost use Rattle.runs.specs.StartText.{starts_text};
 ghost use Rattle.runs.specs.Texts.{IsMemory, IsWithinLimit};
 
 use crate::boards::board_within;

@@ -9,7 +9,8 @@ use crate::fault::RunFault;
 use board_text::{Failed, Sink, write_all};
 
 /// Writes the text. The writer must not have failed before.
-/// After a fault a prefix of the text was written.
+/// After a fault a prefix of the text was written. The fault is named here, since reads and writes
+/// both answer `Failed`: by a `From` a failed read would become `write fault` under `?`.
 pub fn write_text<W: Sink>(writer: &mut W, text: &str) -> Result<(), RunFault>
     requires ready { W.has_failed writer.old ≡ false }
     ensures ok { OnOk result (Appends (W.contents writer.old) (W.contents writer.new) text.now) }

@@ -24,6 +24,7 @@ use Rattle.runs.specs.declared.fault.RunFault.TheVariants.{Memory}
 use Rattle.runs.specs.declared.reading.TheConstants.{MAX_BOARD_BYTES}
 use Rattle.runs.specs.declared.verdicts.Verdict.{Verdict}
 use Rattle.runs.specs.declared.verdicts.Verdict.TheVariants.{Accepted, Refused, RefusedByClasses}
+use Rattle.runs.specs.declared.verdicts.Verdict.TheVariants.{RefusedUpToSymmetries}
 use Rattle.serving.specs.Folders.{File}
 use Rattle.serving.specs.Telling.{IsToldAfterCheck, IsToldInJob, OpensAndTells, rows_line, rows_told, types_and_sees}
 use Rattle.serving.proofs.Greetings.{ungreeted}
@@ -71,6 +72,7 @@ no_rows : (shows : Bool) → shows ≡ false → (result : Result Verdict RunFau
 no_rows shows off (Ok (Accepted shown rows)) = ap (λ b. if b then rows_line rows else []) off
 no_rows shows off (Ok (Refused fault)) = refl
 no_rows shows off (Ok (RefusedByClasses fault)) = refl
+no_rows shows off (Ok (RefusedUpToSymmetries fault)) = refl
 no_rows shows off (Err fault) = refl
 
 uncounted : (shows : Bool) → shows ≡ false → (IsOfRun : Verdict → Type 0) (outcome : Outcome) (told : List ℕ)

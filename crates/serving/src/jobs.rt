@@ -282,13 +282,7 @@ fn check<'a, F: Folder, I: Source, O: Sink, E: Sink>(
     let Ok(mut other) = files.open(alloc, proof) else {
         return Ended::unopened(files, proof);
     };
-    let checked = run_check(
-        rt,
-        alloc,
-        &mut reader,
-        &mut other,
-        &mut console.output,
-    );
+    let checked = run_check(rt, alloc, &mut reader, &mut other, &mut console.output);
     tell_rows(checked, console.terminals.errors, &mut console.errors);
     let trouble = files.trouble_of(board, &reader);
     let first = Origin::board(board, reader.text(), reader.count(), trouble);

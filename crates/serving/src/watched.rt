@@ -10,7 +10,9 @@ use std::alloc::Global;
 /// The number of first bytes that are kept: all of a board.
 const KEPT_BYTES: usize = MAX_BOARD_BYTES;
 
-/// A source, and the bytes that it gave so far: the first of them, and their number.
+/// A source, and the bytes that it gave so far: the first of them, and their number. Standard input
+/// can't be watched so, since a reader that holds a borrowed one could exchange it; a joined check
+/// keeps its text instead.
 #[derive(Drop)]
 pub(crate) struct Watched<S> {
     source: S,

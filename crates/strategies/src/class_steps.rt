@@ -49,7 +49,9 @@ fn answer_result(
 }
 
 /// Adds the class after the best answer to each request at the class of `number`, if it has a value
-/// of 1 or more. That of a request whose gap is in `expanded` is there.
+/// of 1 or more. That of a request whose gap is in `expanded` is there: all requests of a gap lead
+/// to the same classes, and without this a chain of 60 labels and four pebbles made seven million
+/// look-ups for half a million classes.
 pub(crate) fn add_answers<M: Moves>(
     moves: &M,
     number: u64,

@@ -14,10 +14,12 @@ use Rattle.proof_text.specs.declared.symmetry_proof.Images.{Images}
 use Rattle.proof_text.specs.ClassProof.{IsClassPadded, class_answer_row, class_request_row}
 use Rattle.proof_text.specs.Images.{HoldsImages, images_of}
 use Rattle.proof_text.specs.Documents.{IsDocumentIn, text_of}
-use Rattle.proof_text.specs.Proof.{Sections, IsClaim, IsAnswerRow, IsPadded, answer_row, request_row}
+use Rattle.proof_text.specs.Proof.{Sections, IsClaim, IsAnswerRow, IsPadded, answer_row}
+use Rattle.proof_text.specs.Proof.{request_row}
 use Rattle.proof_text.specs.ProofText.{answer_line, claim_line}
 use Rattle.proof_text.specs.ProofFaults.{Reading}
-use Rattle.proof_text.specs.RowFaults.{AnswerMisread, RequestMisread, ClassRequestMisread, MapMisread}
+use Rattle.proof_text.specs.RowFaults.{AnswerMisread, RequestMisread, ClassRequestMisread}
+use Rattle.proof_text.specs.RowFaults.{MapMisread}
 use Rattle.proof_text.specs.RowForm.{RowForm, AreRows, next_number, text_of_section}
 use Rattle.proof_text.specs.SectionFaults.{RowReading, RowFault}
 use Rattle.proof_text.specs.Versions.{answers_by_configurations, answers_by_classes}
@@ -164,6 +166,6 @@ IsTextOf reading text proof =
     IsDocumentIn reading.version proof × (text ≡ text_of reading.version proof)
 
 -- The text has this head and claim, and the rest is left.
-pub record HeadRead (head : Head) (claim : Claim) (text rest : List ℕ) : Type 0 where
+pub record IsHeadRead (head : Head) (claim : Claim) (text rest : List ℕ) : Type 0 where
   pub is_claim : IsClaim claim
   pub spelled : text ≡ with_head head claim rest

@@ -1,5 +1,5 @@
 use Rattle.std.proofs.Common.{◌≡◌, ◌≤◌, ℕ, List, []}
-use Rattle.console.specs.Watching.{AreTold}
+use Rattle.console.specs.Watching.{AreStepsTold}
 use Rattle.gap_values.specs.Inside.Sets.{TellClosed, open_count}
 use Rattle.gap_values.proofs.OpenCounts.{AreOpenSoFar}
 use Rattle.gap_values.proofs.RoundSteps.{IsAtRound}
@@ -11,7 +11,7 @@ invariant-loop-round g l = record {
   none : l.round ≡ 0 → l.first.items ≡ [];
   first : 1 ≤ l.round → TellClosed l.board l.words.items 1 l.first.items;
   told : (counts : List ℕ) × AreOpenSoFar l.board l.round l.words.items counts
-      × AreTold (g.W.Watch.tells l.watch) 1 counts l.fn.told l.told;
+      × AreStepsTold (g.W.Watch.tells l.watch) 1 counts l.fn.told l.told;
 }
 
 abbrev pub decreases-loop-round : goal.decreases-loop-round

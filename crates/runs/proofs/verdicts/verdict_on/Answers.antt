@@ -4,8 +4,7 @@ use Rattle.runs.proofs.verdicts.verdict_on.Goals as goal
 
 pub returns-in-Ok-clause-verdict : goal.returns-in-Ok-clause-verdict
 returns-in-Ok-clause-verdict g c =
-    let proof = c.args.proof.now in
-    (
+    let proof = c.args.proof.now in (
       c.in-Ok.ensures.claim,
       c.in-Ok.ensures.rules,
       c.in-Ok.ensures.shows,

@@ -1,4 +1,5 @@
-use Rattle.std.proofs.Common.{◌≡◌, ◌++◌, ◌==◌, ℕ, List, Bool, true, false, take, drop, get_or, Contains, ap, ◌∙◌, sym, refl}
+use Rattle.std.proofs.Common.{◌≡◌, ◌++◌, ◌==◌, ℕ, List, Bool, true, false, take, drop, get_or, Contains, ap, ◌∙◌, sym}
+use Rattle.std.proofs.Common.{refl}
 use Rattle.std.proofs.Common.{inl, inr, subst, arith}
 use Rattle.std.specs.List.{list_any}
 use Rattle.board_text.specs.PlainBoard.{IsConfiguration}
@@ -116,5 +117,6 @@ returns c =
     row_next (class_adversary_reading c.args.board.now c.args._claim) c.args.least.now read
     _ (ap (λ (n : ℕ). take n
     (c.class_request_words.new.at ++ drop c.pebbles-pebbles.result six_zeros)) c.pebbles-pebbles.ensures.value)
-    c.in-Some-arranged_order.number c.in-Some-arranged_order.ensures.order.1 refl c.in-Some-arranged_order.ensures.order.0
+    c.in-Some-arranged_order.number c.in-Some-arranged_order.ensures.order.1 refl
+    c.in-Some-arranged_order.ensures.order.0
     c.in-Some-arranged_order.ensures.few c.if-number-least.false

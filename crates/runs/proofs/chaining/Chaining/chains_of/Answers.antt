@@ -20,8 +20,8 @@ returns-in_err-found-clause-lengths g c =
     let told = c.in_err-found.ensures.broken in (
       lines_of (notice_of_length c.args.self.shows_lengths) 1 told.0,
       rw p.1 (inl (c.in_ok-board.board, c.in_ok-board.ensures.found, told.0, told.1, λ done. cc, refl)),
-      walk_told g.E.Sink.contents g.E.Sink.has_failed c.args.self.shows_lengths c.args.errors.now c.count.new.told told.0
-          told.2,
+      walk_told g.E.Sink.contents g.E.Sink.has_failed c.args.self.shows_lengths c.args.errors.now c.count.new.told
+          told.0 told.2,
     )
 
 pub returns-clause-lengths : goal.returns-clause-lengths
@@ -37,8 +37,8 @@ returns-clause-lengths g c =
         λ done. (_, are),
         refl,
       ),
-      walk_told g.E.Sink.contents g.E.Sink.has_failed c.args.self.shows_lengths c.args.errors.now c.count.new.told counts
-          c.in_ok-found.ensures.told,
+      walk_told g.E.Sink.contents g.E.Sink.has_failed c.args.self.shows_lengths c.args.errors.now c.count.new.told
+          counts c.in_ok-found.ensures.told,
     )
 
 pub returns-in_err-text_of-clause-lengths : goal.returns-in_err-text_of-clause-lengths
@@ -54,6 +54,6 @@ returns-in_err-text_of-clause-lengths g c =
         λ done. (_, are),
         refl,
       ),
-      walk_told g.E.Sink.contents g.E.Sink.has_failed c.args.self.shows_lengths c.args.errors.now c.count.new.told counts
-          c.in_ok-found.ensures.told,
+      walk_told g.E.Sink.contents g.E.Sink.has_failed c.args.self.shows_lengths c.args.errors.now c.count.new.told
+          counts c.in_ok-found.ensures.told,
     )

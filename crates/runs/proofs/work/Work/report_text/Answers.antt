@@ -21,7 +21,8 @@ returns-in_err-counted-clause-notice g c =
       notice ++ rounds.0,
       rw (p.1, p.2) (noticed_text c.args.self.limit c.args.text.now c.args.self.shows_size c.in_ok-board.board
           c.in_ok-board.ensures.found c.count.result _
-          (λ refused. err_again c.count.result c.in_err-counted.field-0.0 c.in_err-counted.was refused) rounds.0 rounds.1),
+          (λ refused. err_again c.count.result c.in_err-counted.field-0.0 c.in_err-counted.was refused)
+          rounds.0 rounds.1),
       then_more g.E.Sink.contents g.E.Sink.has_failed c.args.errors.now c.tell_size.new.errors c.count.new.errors notice
           rounds.0 c.tell_size.ensures rounds.2,
     )
