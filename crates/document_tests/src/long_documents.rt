@@ -14,10 +14,10 @@ use std::thread::Threads;
 /// The number of labels of the board. All but two are low ones.
 const LABELS: u16 = 78;
 
-/// DominatesOthers the low labels.
+/// The label that dominates each low label.
 const MIDDLE: u16 = 38;
 
-/// DominatesOthers all other labels.
+/// The label that dominates all others.
 const TOP: u16 = 39;
 
 /// The first of the low labels after the others.
