@@ -6,6 +6,7 @@ ghost use Rattle.board_text.specs.PlainBoard.{IsConfiguration};
 use crate::counting::has_few_gaps;
 use crate::values::GapValues;
 use board_text::{Board, MAX_PEBBLES, parse};
+use console::NoWatch;
 use positions::{Value, is_small, value_of};
 use std::alloc::Global;
 use std::process::Abort;
@@ -50,7 +51,7 @@ fn assert_values(
 ) {
     let board = parse(alloc, text.as_bytes()).ok().expect(rt, "a board");
     assert!(rt; has_few_gaps(&board));
-    match GapValues::of_by(rt, alloc, &board, 1) {
+    match GapValues::of_by(rt, alloc, &board, 1, &NoWatch, &mut ()) {
         Ok(values) => {
             assert_eq!(rt; values.value(board.start()), wanted);
             let sizes = values.sizes_by(rt, alloc, 1).ok().expect(rt, "memory");
@@ -81,7 +82,7 @@ fn values_of(
     if !has_few_gaps(board) {
         return None;
     }
-    GapValues::of_by(rt, alloc, board, workers).ok()
+    GapValues::of_by(rt, alloc, board, workers, &NoWatch, &mut ()).ok()
 }
 
 /// The value of a configuration by its gaps, and the one that the slow program finds.
