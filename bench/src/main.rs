@@ -1,11 +1,12 @@
 //! Three plain mirrors of `pebbles`: the same answers by arrays alone, for boards whose places all
-//! hold labels. Two answer `solve`, `report` and `check`, and number configurations by ranks or by
-//! classes; one answers `report` by the gaps of classes. A fourth counts chains. README.md says
-//! what they are for.
+//! hold labels. Two answer `solve`, `report` and `check`, of documents up to symmetries too, and
+//! number configurations by ranks or by classes; one answers `report` by the gaps of classes. A
+//! fourth counts chains. README.md says what they are for.
 
 mod board;
 mod chains;
 mod check;
+mod class_check;
 mod class_document;
 mod classes;
 mod document;
@@ -19,6 +20,7 @@ mod ranks;
 mod reader;
 mod report;
 mod space;
+mod symmetries;
 mod values;
 
 use board::Board;
@@ -70,9 +72,9 @@ fn output<N: Numbering>(words: &[String]) -> Vec<u8> {
         "check" => {
             let text = contents(words.get(2));
             let proof = Proof::read(&board, &text);
-            match Version::of(&text) {
+            match proof.version {
                 Version::Configurations => check::check(&board, proof),
-                Version::Classes => class_document::check(&board, &proof),
+                Version::Classes | Version::UpToSymmetries => class_check::check(&board, &proof),
             }
             .into_bytes()
         }

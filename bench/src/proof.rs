@@ -2,34 +2,47 @@
 
 use crate::board::Board;
 use crate::reader::Reader;
+use crate::symmetries::Images;
 use crate::values::FOREVER;
 
 /// The greatest number of a claim and of a row.
 const MOST_TURNS: u32 = 1_000_000_000;
 
-/// The two versions of the format: rows for configurations, or for classes.
+/// The greatest number of maps.
+const MOST_MAPS: u32 = 64;
+
+/// The versions of the format: rows for configurations, for classes, or for all places that maps of
+/// labels take to one another.
 #[derive(Clone, Copy, PartialEq)]
 pub enum Version {
     Configurations,
     Classes,
+    UpToSymmetries,
 }
 
 impl Version {
     pub fn of(text: &[u8]) -> Version {
-        if text.starts_with(b"proof 2\n") { Version::Classes } else { Version::Configurations }
+        if text.starts_with(b"proof 2\n") {
+            Version::Classes
+        } else if text.starts_with(b"proof 3\n") {
+            Version::UpToSymmetries
+        } else {
+            Version::Configurations
+        }
     }
 
     fn line(self) -> &'static str {
         match self {
             Version::Configurations => "proof 1\n",
             Version::Classes => "proof 2\n",
+            Version::UpToSymmetries => "proof 3\n",
         }
     }
 
     fn most_rows(self) -> u32 {
         match self {
             Version::Configurations => 1 << 20,
-            Version::Classes => 1 << 24,
+            Version::Classes | Version::UpToSymmetries => 1 << 24,
         }
     }
 }
@@ -42,7 +55,9 @@ pub struct Row {
 }
 
 pub struct Proof {
+    pub version: Version,
     pub claim: u32,
+    pub maps: Vec<Images>,
     pub labeller: Vec<Row>,
     /// None if the claim is for ever.
     pub adversary: Vec<Row>,
@@ -56,6 +71,8 @@ impl Proof {
         let is_forever = text.does_begin("forever\n");
         text.take(if is_forever { "forever\n" } else { "value " });
         let claim = if is_forever { FOREVER } else { text.number(0..=MOST_TURNS, b'\n') };
+        let has_maps = version == Version::UpToSymmetries;
+        let maps = if has_maps { read_maps(board, &mut text) } else { Vec::new() };
         text.take("labeller ");
         let labeller = read_rows(board, version, &mut text, |row, text| {
             if is_forever {
@@ -73,7 +90,7 @@ impl Proof {
             adversary = read_rows(board, version, &mut text, |row, text| {
                 row.turns = text.number(0..=MOST_TURNS, b' ');
                 text.take("ask ");
-                let is_by_classes = version == Version::Classes;
+                let is_by_classes = version != Version::Configurations;
                 let most = if is_by_classes { board.labels } else { board.pebbles } - 1;
                 row.moves[0] = text.number(0..=most, b'\n');
                 if is_by_classes && !row.labels[..board.pebbles as usize].contains(&row.moves[0]) {
@@ -83,7 +100,7 @@ impl Proof {
         }
         text.take("end\n");
         text.end();
-        Proof { claim, labeller, adversary }
+        Proof { version, claim, maps, labeller, adversary }
     }
 
     /// What the mirror prints of the document.
@@ -94,6 +111,21 @@ impl Proof {
             value => format!("accepted value {value}\n"),
         }
     }
+}
+
+/// The maps of labels, as many as are said before them.
+fn read_maps(board: &Board, text: &mut Reader) -> Vec<Images> {
+    text.take("symmetries ");
+    let count = text.number(0..=MOST_MAPS, b'\n');
+    let mut labels = vec![0; board.labels as usize];
+    let mut read = |_| {
+        text.take("map ");
+        text.numbers(&mut labels, board.labels - 1, b'\n');
+        let mut images = [0; 256];
+        labels.iter().zip(&mut images).for_each(|(label, image)| *image = *label as u8);
+        images
+    };
+    (0..count).map(&mut read).collect()
 }
 
 /// The rows of a section, each later than the one before it. What comes after the places is read by `rest`.
