@@ -4,6 +4,7 @@ import os
 import re
 import subprocess
 from functools import partial
+from math import prod
 
 import board_texts
 from program import BOARDS, Check, Ran, board, check, fault, leaves, run, shown, stored, strategy, text_of, written
@@ -54,6 +55,9 @@ PRODUCTS = {
 }
 # the digest of the nested board of level 6 with six pebbles, whose text was made by other means
 NESTED_SIX = '99e3d4fd93bc36598f8d3ffb62b223fb984699a8e9c5a4f0f51b5b23fbf76a55'
+# the most symmetries that maps may make, and lengths of circles of labels that are turned
+MOST_SYMMETRIES = 131072
+TURNS = [(2, 3, 5, 7, 11, 13), (2, 3, 5, 7, 11, 13, 17), (64, 64, 32), (64, 64, 33)]
 EMPTY_REPORT = b'report 1\nlabels 32\npebbles 4\nconfigurations 1048576\nstart value 0\nvalue 0: 1048576\nforever: 0\nend\n'
 NESTED_REPORT = b'report 1\nlabels 9\npebbles 3\nconfigurations 729\nstart forever\nforever: 729\nend\n'
 TOO_LARGE = fault(1, 'board too large')
@@ -71,6 +75,29 @@ def is_accepted(path, document, claim, words):
 def is_equal_by_sixteen(path, words):
     """None where sixteen workers write the same document."""
     return leaves(Ran(output=run(['solve', *words, path]).output), ['solve', *words, '--workers', '16', path])
+
+
+def for_one_side(document, side):
+    """What solve does for one side alone, by the document for both: it writes the rows of the side and the part of the claim that they show."""
+    first, claim, *rows = document.splitlines(keepends=True)
+    if (claim, side) == (b'forever\n', 'adversary'):
+        return fault(1, 'start lasts forever')
+    part = {'labeller': b'least', 'adversary': b'most'}[side]
+    of_adversary = next((index for index, row in enumerate(rows) if row.startswith(b'adversary')), len(rows) - 1)
+    kept = rows[:of_adversary] if side == 'labeller' else rows[of_adversary:-1]
+    return Ran(output=b''.join([first, claim.replace(b'value', part), *kept, rows[-1]]))
+
+
+def is_part(work, path, side, words):
+    """None where solve for the side writes its part of the document for both, which a check accepts."""
+    wanted = for_one_side(run(['solve', *words, path]).output, side)
+    asked = ['solve', '--side', side, *words, path]
+    wrong = leaves(wanted, asked)
+    if wrong or wanted.status:
+        return wrong
+    claim = wanted.output.splitlines()[1]
+    own = f'{os.path.basename(path)}-{side}{"".join(words)}.document'
+    return leaves(Ran(output=b'accepted %s\n' % claim), ['check', path, written(work, own, wanted.output)])
 
 
 def adds_up(path):
@@ -123,6 +150,12 @@ def stored_documents():
         yield check(f'solve {name}', Ran(output=text), ['solve', board(name)])
 
 
+def for_sides(work, name, path, *words):
+    """The documents that solve with these words writes of the board for each side alone."""
+    for side in ('labeller', 'adversary'):
+        yield Check(' '.join(['solve for the', side, *words, name]), partial(is_part, work, path, side, words))
+
+
 def are_made(work):
     """None where boards/make writes the stored boards, and no others."""
     folder = os.path.join(work, 'made')
@@ -161,6 +194,8 @@ def stored_boards(work):
         yield Check(f'{name} is the product of {outer} and {inner}', partial(is_product, name, outer, inner))
     for name, claim in CLAIMS.items():
         yield from solved(work, name, board(name), claim)
+        for words in ([], ['--large'], ['--workers', '2']):
+            yield from for_sides(work, name, board(name), *words)
     for name in stored('.board'):
         if name not in BEYOND:
             yield counted(name, board(name))
@@ -188,11 +223,29 @@ def made_boards(work):
         yield check(f'{command} of a board that is too large (five)', TOO_LARGE, [command, five])
 
 
+def turned(lengths):
+    """For each length a map that turns a circle of so many labels, one circle after the other. Together they make as many as the product."""
+    circles = [range(sum(lengths[:count]), sum(lengths[:count + 1])) for count in range(len(lengths))]
+    return [[*range(circle[0]), *circle[1:], circle[0], *range(circle[-1] + 1, sum(lengths))] for circle in circles]
+
+
+def up_to_turns(work):
+    """On labels of which none dominates another each map is a symmetry. The most that maps may make, and more."""
+    for lengths in TURNS:
+        empty = written(work, f'{sum(lengths)} labels.board', board_texts.empty(sum(lengths), 2))
+        lines = [f'symmetries {len(lengths)}', *(' '.join(map(str, ('map', *images))) for images in turned(lengths))]
+        text = '\n'.join(['proof 3', 'most 0', *lines, 'adversary 1', 'at 0 0 for 0 ask 0', 'end', '']).encode()
+        document = written(work, f'{sum(lengths)} labels.proof', text)
+        wanted = Ran(output=b'accepted most 0\n') if prod(lengths) <= MOST_SYMMETRIES else Ran(3, b'refused symmetries too many\n')
+        yield check(f'{prod(lengths)} turns of circles', wanted, ['check', empty, document])
+
+
 def checks(work):
-    """Those of stored documents and boards, of boards that are made, and of the texts of large nested boards."""
+    """Those of stored documents and boards, of boards that are made, of many symmetries, and of the texts of large nested boards."""
     yield from stored_documents()
     yield from stored_boards(work)
     yield from made_boards(work)
+    yield from up_to_turns(work)
     yield Check('nested 5 5', partial(has_lines, '5', 3245))
     yield Check('nested 6 6', partial(has_lines, '6', 29408))
     yield Check('the digest of nested 6 6', partial(has_digest, '6', NESTED_SIX))

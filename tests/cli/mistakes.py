@@ -355,6 +355,42 @@ def of_documents(work):
     yield Mistake('a document of another board', ['check', CHAIN, other], Ran(3, b'refused ..', b''), other, 'another board')
 
 
+def of_symmetries(work):
+    """Documents up to symmetries with a fault, and some that are refused."""
+    cycle = board('three-cycle')
+    good = 'proof 3\nforever\nsymmetries 1\nmap 1 2 0\nlabeller 2\nat 0 0 for * take 1 1\nat 0 1 for * take 2 1\nend\n'
+    second = 'at 0 1 for * take 2 1\n'
+    faults = [
+        ('a document without symmetries', in_board(good, 'symmetries 1\nmap 1 2 0\n', ''), 'line 3 Section', 'line 3 must be `symmetries n`'),
+        ('too many maps', in_board(good, 'symmetries 1', 'symmetries 65'), 'line 3 Section', '65 is more than 64'),
+        ('more maps than are said', in_board(good, 'symmetries 1', 'symmetries 0'), 'line 4 Section', 'more maps than `symmetries` says'),
+        ('fewer maps than are said', in_board(good, 'symmetries 1', 'symmetries 2'), 'line 5 Row', 'fewer maps than `symmetries` says; '),
+        ('rows in place of a map', in_board(good, 'map 1 2 0\nlabeller 2\n', ''), 'line 4 Row', 'fewer maps than `symmetries` says; '),
+        ('a map that is too short', in_board(good, 'map 1 2 0', 'map 1 2'), 'line 4 Row', 'labels in the line: 2, labels of the board: 3; '),
+        ('a map with a hyphen', in_board(good, 'map 1 2 0', 'map 1 2 -'), 'line 4 Row', ': the line must be `map` and, for each label'),
+        ('a map among rows', in_board(good, second, 'map 1 2 0\n'), 'line 7 Row', ': the line must be a row'),
+        ('fewer rows after maps', in_board(good, 'labeller 2', 'labeller 3'), 'line 8 Row', 'fewer rows than its first line says'),
+        ('rows without their section', in_board(good, 'labeller 2\n', ''), 'line 5 Section', 'a row comes before the first line of its section'),
+        ('an image that is no label', in_board(good, 'map 1 2 0', 'map 1 2 3'), 'line 4 Label', 'labels of this board are below 3'),
+    ]
+    for number, (name, text, line, says) in enumerate(faults):
+        path = written(work, f'symmetric-mistake-{number}.proof', text)
+        yield Mistake(name, ['check', cycle, path], fault(1, f'proof fault {line}'), path, says)
+    refused = [
+        ('a map to a label twice', in_board(good, 'map 1 2 0', 'map 1 1 0'), 'no label goes to this one'),
+        ('a map that is no symmetry', in_board(good, 'map 1 2 0', 'map 0 2 1'), "doesn't keep domination"),
+        ('a row that is not the least alike', in_board(good, second, 'at 0 2 for * take 0 1\n'), 'must be at the least of all'),
+        ('a row left out up to symmetries', in_board(good, f'labeller 2\nat 0 0 for * take 1 1\n{second}', 'labeller 1\nat 0 0 for * take 1 1\n'),
+         'the least alike have no row'),
+    ]
+    for number, (name, text, says) in enumerate(refused):
+        path = written(work, f'symmetric-refused-{number}.proof', text)
+        yield Mistake(name, ['check', cycle, path], Ran(3, b'refused ..', b''), path, says)
+    nine = written(work, 'nine.board', empty(9, 2))
+    many = written(work, 'many.proof', b'proof 3\nmost 0\nsymmetries 2\nmap 1 2 3 4 5 6 7 8 0\nmap 1 0 2 3 4 5 6 7 8\nadversary 0\nend\n')
+    yield Mistake('too many symmetries', ['check', nine, many], Ran(3, b'refused ..', b''), many, 'more than 131072 symmetries')
+
+
 def of_streams(work):
     """Inputs and outputs that fail."""
     with open(CHAIN, 'rb') as file, open(CHAIN_PROOF, 'rb') as other:
@@ -483,7 +519,7 @@ def of_rows(work):
 def checks(work):
     """All checks, which write what they need into `work`."""
     yield from of_rows(work)
-    for subject in (of_boards, of_files, of_documents, of_streams, of_permissions, of_words):
+    for subject in (of_boards, of_files, of_documents, of_symmetries, of_streams, of_permissions, of_words):
         for mistake in subject(work):
             yield Check(f'a mistake: {mistake.name}', partial(explained, mistake))
     yield Check('a terminal without words', partial(greeted, [], 'Ctrl-D', b'\x04'))

@@ -3,7 +3,7 @@ use Rattle.std.proofs.Common.{◌≡◌, ◌∙◌, ◌<◌, ◌⊎◌, ◌++◌
 use Rattle.std.proofs.Common.{None}
 use Rattle.std.proofs.Common.{is_some, true, false, true≢false, refl, sym, ap, subst, inl, inr, cond, codes, drop}
 use Rattle.std.proofs.Common.{arith}
-use Rattle.std.specs.Prelude.{⊤, find, fold, option_map, pos, unwrap_or}
+use Rattle.std.specs.Prelude.{⊤, find, fold, option_and_then, option_map, pos, slice_get, unwrap_or}
 use Rattle.std.specs.Borrow.{Bor}
 use Rattle.std.specs.List.{list_all, list_any}
 use Rattle.std.specs.Option.{option_map_or}
@@ -13,7 +13,7 @@ use Rattle.clap.specs.Facts.{parser_of_value}
 use Rattle.clap.specs.Values.{reading_of}
 use Rattle.clap.specs.ValueTests.{accepts}
 use Rattle.clap.specs.Walk.{Held, Names, Row, Rule, Step, Text, Waiting, Walk, action_of, after_step, answers_to}
-use Rattle.clap.specs.Walk.{arg_by_id}
+use Rattle.clap.specs.Walk.{arg_by_id, first_of}
 use Rattle.clap.specs.Walk.{arg_by_index, finished, long_or_other, next, nothing_held, rows_after, settled, subcommand}
 use Rattle.clap.specs.Walk.{subcommand_met, subcommand_or_other, to_positional, trailing, value, walk, walk_from}
 use Rattle.clap.specs.Walk.{walked}
@@ -39,6 +39,8 @@ use Rattle.clap.proofs.WalkLemmas.{both}
 use Rattle.command_line.specs.Commands as rows
 use Rattle.command_line.specs.Commands.{command, commands, program, program_among, side_words, sides}
 use Rattle.command_line.specs.Inside.Reading.{has_flag, has_value, has_value_by, has_values, is_among, is_read}
+use Rattle.command_line.specs.Inside.Reading.{is_read_in}
+use Rattle.command_line.specs.Inside.Reading.{may_be_left_out}
 use Rattle.command_line.proofs.RowFacts.{Each, Fits, GoodRule, either}
 use Rattle.command_line.proofs.Defaults.{HasRow, default_row, given_row}
 use Rattle.command_line.proofs.SameProgram.{below}
@@ -60,9 +62,10 @@ abbrev IsKind : Option ValueParser → Type 0
 IsKind parser = (parser ≡ None) ⊎ ((most : ℕ) × (parser ≡ Some (vp.Signed (pos 1) (pos most))))
     ⊎ (parser ≡ Some (vp.Names sides))
 
--- the argument has such a value, or is given or not
+-- the argument has such a value, or is given or not, or may be left out
 abbrev IsArgument : Rule → Type 0
-IsArgument a = ((a.required ≡ true) ⊎ (0 < length (filled a).defaults)) × (a.ignore_case ≡ false)
+IsArgument a = ((a.required ≡ true) ⊎ (0 < length (filled a).defaults) ⊎ (may_be_left_out a ≡ true))
+    × (a.ignore_case ≡ false)
     × (((a.action ≡ None) × IsKind a.parser) ⊎ ((a.action ≡ Some SetTrue) × (a.parser ≡ None)))
 
 -- the rules that clap makes from those of a command
@@ -75,18 +78,29 @@ pub record IsCommand (s : Shape) : Type 0 where
   pub good : Good (made_from 1 s.rules)
   pub arguments : Each IsArgument s.rules
 
+-- the matches have a row for the argument, or it is left out
+abbrev IsThere : Rule → List Row → Type 0
+IsThere a rows = HasRow a.id rows
+    ⊎ ((may_be_left_out a ≡ true) × (is_some (find (λ r. bytes_eq r.id a.id) rows) ≡ false))
+
+left_out_or_not : (a : Rule) (rows : List Row) (b : Bool) → is_some (find (λ r. bytes_eq r.id a.id) rows) ≡ b
+    → may_be_left_out a ≡ true → IsThere a rows
+left_out_or_not a rows true has may = inl has
+left_out_or_not a rows false none may = inr (may, none)
+
 one_has_row : (a : Rule) (i : ℕ) (rest : List Rule) (rows end : List Row)
     → fold with_default rows (with_index i (filled a) ∷ rest) ≡ end
-    → IsArgument a → (not a.required || is_given a.id end) ≡ true → HasRow a.id end
+    → IsArgument a → (not a.required || is_given a.id end) ≡ true → IsThere a end
 one_has_row a i rest rows end is argument given =
     elim argument.0 [
-      | inl required ↦ given_row a.id end (rw required at given)
-      | inr some ↦ subst (HasRow a.id) is (default_row (with_index i (filled a)) rest rows some)
+      | inl required ↦ inl (given_row a.id end (rw required at given))
+      | inr (inl some) ↦ inl (subst (HasRow a.id) is (default_row (with_index i (filled a)) rest rows some))
+      | inr (inr may) ↦ left_out_or_not a end _ refl may
     ]
 
 have_rows : (rules : List Rule) (i : ℕ) (rows end : List Row) → fold with_default rows (made_from i rules) ≡ end
     → Each IsArgument rules → list_all (λ a. not a.required || is_given a.id end) (made_from i rules) ≡ true
-    → Each (λ a. HasRow a.id end) rules
+    → Each (λ a. IsThere a end) rules
 have_rows [] i rows end is arguments given = tt
 have_rows (a ∷ rules) i rows end is arguments given =
     let rest = made_from (index_after i a) rules in
@@ -136,12 +150,35 @@ value_there c a i rows each known argument there =
       | inr flag ↦ rw flag.0 (word_there c a i rows each known flag.0 flag.1 there)
     ]
 
+-- without a row there is no value
+no_value : (a : Rule) (rows : List Row) → is_some (find (λ r. bytes_eq r.id a.id) rows) ≡ false
+    → is_some (first_of a.id rows) ≡ false
+no_value a rows none = go (find (λ r. bytes_eq r.id a.id) rows) none
+  where
+    go : (o : Option Row) → is_some o ≡ false → is_some (option_and_then (λ r. slice_get r.values 0) o) ≡ false
+    go None none = refl
+    go (Some r) none = absurd (true≢false none)
+
+read_there : (c : List Rule) (a : Rule) (i : ℕ) (rows : List Row) → Each (Fits c) rows
+    → arg_by_id c a.id ≡ Some (with_index i (filled a)) → IsArgument a → IsThere a rows
+    → is_read_in rows a ≡ true
+read_there c a i rows each known argument there =
+    elim there [
+      | inl has ↦ second (may_be_left_out a && not (is_some (first_of a.id rows)))
+          (value_there c a i rows each known argument has)
+      | inr none ↦ rw (none.0, no_value a rows none.1) refl
+    ]
+  where
+    second : {right : Bool} (left : Bool) → right ≡ true → (left || right) ≡ true
+    second true is = refl
+    second false is = is
+
 kinds_there : (c : List Rule) (rules : List Rule) (i : ℕ) (rows : List Row) → Each (Fits c) rows
-    → Each (GoodRule c) (made_from i rules) → Each IsArgument rules → Each (λ a. HasRow a.id rows) rules
-    → list_all (λ a. has_value rows a.id a.action a.parser) rules ≡ true
+    → Each (GoodRule c) (made_from i rules) → Each IsArgument rules → Each (λ a. IsThere a rows) rules
+    → list_all (is_read_in rows) rules ≡ true
 kinds_there c [] i rows each good arguments there = refl
 kinds_there c (a ∷ rules) i rows each good arguments there =
-    let first = value_there c a i rows each good.0.0 arguments.0 there.0 in
+    let first = read_there c a i rows each good.0.0 arguments.0 there.0 in
     rw first (kinds_there c rules (index_after i a) rows each good.1 arguments.1 there.1)
 
 -- a command as clap builds it below the program
@@ -172,21 +209,27 @@ command_read s words is pass =
 -- ---- the commands, a row each
 
 word_given : (name : Text) → IsArgument (rows.word name)
-word_given name = (inr (omega arith), refl, inr (refl, refl))
+word_given name = (inr (inl (omega arith)), refl, inr (refl, refl))
 
-solve_row : IsCommand rows.solve
+solve_row : IsCommand (rows.solve_among sides)
 solve_row = record {
   plain = refl;
   good = (
     (refl, inl (refl, omega arith)),
     (
-      (refl, inr (inl (refl, omega arith))),
-      ((refl, inl (refl, omega arith)), ((refl, inr (inl (refl, omega arith))), ((refl, inr (inr refl)), tt))),
+      (refl, inl (refl, omega arith)),
+      (
+        (refl, inr (inl (refl, omega arith))),
+        ((refl, inl (refl, omega arith)), ((refl, inr (inl (refl, omega arith))), ((refl, inr (inr refl)), tt))),
+      ),
     ),
   );
   arguments = (
-    (inr (omega arith), refl, inl (refl, inr (inl (MAX_WORKERS, refl)))),
-    (word_given (codes "large"), ((inl refl, refl, inl (refl, inl refl)), (word_given (codes "explain"), tt))),
+    (inr (inl (omega arith)), refl, inl (refl, inr (inl (MAX_WORKERS, refl)))),
+    (
+      (inr (inr refl), refl, inl (refl, inr (inr refl))),
+      (word_given (codes "large"), ((inl refl, refl, inl (refl, inl refl)), (word_given (codes "explain"), tt))),
+    ),
   );
 }
 
@@ -214,7 +257,7 @@ report_row = record {
     ),
   );
   arguments = (
-    (inr (omega arith), refl, inl (refl, inr (inl (MAX_WORKERS, refl)))),
+    (inr (inl (omega arith)), refl, inl (refl, inr (inl (MAX_WORKERS, refl)))),
     (word_given (codes "large"), ((inl refl, refl, inl (refl, inl refl)), (word_given (codes "explain"), tt))),
   );
 }
@@ -230,7 +273,7 @@ starts_row = record {
     ),
   );
   arguments = (
-    (inr (omega arith), refl, inl (refl, inr (inl (MAX_WORKERS, refl)))),
+    (inr (inl (omega arith)), refl, inl (refl, inr (inl (MAX_WORKERS, refl)))),
     (word_given (codes "large"), ((inl refl, refl, inl (refl, inl refl)), (word_given (codes "explain"), tt))),
   );
 }
@@ -246,9 +289,9 @@ chains_row = record {
     ),
   );
   arguments = (
-    (inr (omega arith), refl, inl (refl, inr (inl (MAX_WORKERS, refl)))),
+    (inr (inl (omega arith)), refl, inl (refl, inr (inl (MAX_WORKERS, refl)))),
     (
-      (inr (omega arith), refl, inl (refl, inr (inl (MAX_LENGTH, refl)))),
+      (inr (inl (omega arith)), refl, inl (refl, inr (inl (MAX_LENGTH, refl)))),
       ((inl refl, refl, inl (refl, inl refl)), (word_given (codes "explain"), tt)),
     ),
   );

@@ -1,5 +1,5 @@
 -- The commands of the program, as `clap` reads them.
-use Rattle.std.specs.Prelude.{ℕ, [], ◌∷◌, List, Some, true, false, codes, map, pos}
+use Rattle.std.specs.Prelude.{ℕ, [], ◌∷◌, List, Some, Bool, true, false, codes, map, pos}
 use Rattle.std.specs.Borrow.{Bor}
 use Rattle.clap.specs.Walk.{Rule, Text}
 use Rattle.clap.specs.Simple.{App, Shape, new_rule, new_shape}
@@ -45,9 +45,6 @@ explain = word (codes "explain")
 abbrev pub command : Text → List Rule → Shape
 command name rules = record (new_shape name) { rules = rules }
 
-abbrev pub solve : Shape
-solve = command (codes "solve") (workers ∷ large ∷ path (codes "board") ∷ explain ∷ [])
-
 abbrev pub check : Shape
 check = command (codes "check") (path (codes "board") ∷ path (codes "proof") ∷ explain ∷ [])
 
@@ -76,30 +73,35 @@ nested =
     (number (codes "levels") MAX_BOARD_LEVELS ∷ number (codes "pebbles") MAX_PEBBLES
     ∷ explain ∷ [])
 
--- the words for the two sides of a play
+-- the words for the two sides
 abbrev pub side_words : List Text
 side_words = codes "labeller" ∷ codes "adversary" ∷ []
 
--- the option for the side that the person plays, which must be given as one of these words
-abbrev pub side_among : Bor (List (Bor Text)) → Rule
-side_among words = record (new_rule (codes "side")) {
+-- the option for a side, one of these words, which must be given or may be left out
+abbrev pub side_among : Bor (List (Bor Text)) → Bool → Rule
+side_among words must_be_given = record (new_rule (codes "side")) {
   long = Some (codes "side");
-  required = true;
+  required = must_be_given;
   value_names = 1;
   parser = Some (vp.Names words);
 }
 
+abbrev pub solve_among : Bor (List (Bor Text)) → Shape
+solve_among words =
+    command (codes "solve")
+    (workers ∷ side_among words false ∷ large ∷ path (codes "board") ∷ explain ∷ [])
+
 abbrev pub play_among : Bor (List (Bor Text)) → Shape
 play_among words =
-    command (codes "play") (side_among words ∷ large ∷ path (codes "board") ∷ explain ∷ [])
+    command (codes "play") (side_among words true ∷ large ∷ path (codes "board") ∷ explain ∷ [])
 
 abbrev pub climb : Shape
 climb = command (codes "climb") (number (codes "levels") MAX_LEVELS ∷ explain ∷ [])
 
--- all commands, a row each, with these words for the sides of a play
+-- all commands, a row each, with these words for the sides
 abbrev pub commands_among : Bor (List (Bor Text)) → List Shape
 commands_among words =
-    solve
+    solve_among words
     ∷ check
     ∷ report
     ∷ starts

@@ -38,6 +38,10 @@ abbrev pub side_word : Side → Text
 side_word Labeller = codes "labeller"
 side_word Adversary = codes "adversary"
 
+-- the side was given, or none
+abbrev pub HasSide : List Row → Option Side → Type 0
+HasSide rows side = first_of (codes "side") rows ≡ option_map side_word side
+
 -- the word for the id was given exactly if this is true:
 -- the matches have `true` for it if it was, and else `false`
 abbrev pub HasFlag : List Row → Text → Bool → Type 0
@@ -57,8 +61,9 @@ AsksFor name rows (jobs.Check board proof) = (name ≡ codes "check")
 AsksFor name rows (jobs.Nested levels pebbles) = (name ≡ codes "nested")
     × HasNumber rows (codes "levels") MAX_BOARD_LEVELS levels
     × HasNumber rows (codes "pebbles") MAX_PEBBLES pebbles
-AsksFor name rows (jobs.Solve workers limit board) = (name ≡ codes "solve")
+AsksFor name rows (jobs.Solve workers side limit board) = (name ≡ codes "solve")
     × HasNumber rows (codes "workers") MAX_WORKERS workers
+    × HasSide rows side
     × HasFlag rows (codes "large") (is_large limit)
     × (first_of (codes "board") rows ≡ Some board.now)
 AsksFor name rows (jobs.Report workers limit board) = (name ≡ codes "report")
@@ -74,7 +79,7 @@ AsksFor name rows (jobs.Chains workers most board) = (name ≡ codes "chains")
     × HasNumber rows (codes "most") MAX_LENGTH most
     × (first_of (codes "board") rows ≡ Some board.now)
 AsksFor name rows (jobs.Play side limit board) = (name ≡ codes "play")
-    × (first_of (codes "side") rows ≡ Some (side_word side))
+    × HasSide rows (Some side)
     × HasFlag rows (codes "large") (is_large limit)
     × (first_of (codes "board") rows ≡ Some board.now)
 AsksFor name rows (jobs.Climb levels) =
@@ -92,7 +97,7 @@ IsInRange jobs.Joined = Unit {0}
 IsInRange (jobs.Check board proof) = Unit {0}
 IsInRange (jobs.Nested levels pebbles) =
     (1 ≤ levels) × (levels ≤ MAX_BOARD_LEVELS) × (1 ≤ pebbles) × (pebbles ≤ MAX_PEBBLES)
-IsInRange (jobs.Solve workers limit board) = (1 ≤ workers) × (workers ≤ MAX_WORKERS)
+IsInRange (jobs.Solve workers side limit board) = (1 ≤ workers) × (workers ≤ MAX_WORKERS)
 IsInRange (jobs.Report workers limit board) = (1 ≤ workers) × (workers ≤ MAX_WORKERS)
 IsInRange (jobs.Starts workers limit board) = (1 ≤ workers) × (workers ≤ MAX_WORKERS)
 IsInRange (jobs.Chains workers most board) =

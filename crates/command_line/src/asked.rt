@@ -34,9 +34,10 @@ pub enum Job<'a> {
         pebbles: u8,
     },
     /// Solve the board, a path, with 1 to `MAX_WORKERS` workers, and write its strategy document,
-    /// which is that by classes if the board may be large.
+    /// which is that by classes if the board may be large, for this side alone or for both.
     Solve {
         workers: u8,
+        side: Option<Side>,
         limit: BoardLimit,
         board: &'a str,
     },

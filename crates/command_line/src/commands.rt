@@ -58,13 +58,16 @@ const ABOUT_SOLVING: &str =
     "Writes the strategy document of the board, which `check` accepts. It is the\n\
     same for every number of workers. With --large it is the document by classes,\n\
     whose rows say nothing of which pebble holds which label.\n\n\
+    With --side its claim is `least` or `forever` for the labeller, `most` for the\n\
+    adversary.\n\n\
     Common faults:\n  \
     board fault line 1 Version  neither `board 1` nor `board 2`: Windows line ends\n  \
     board fault line 4 Start    each pebble's label, below V, or `-` in `board 2`\n  \
     board fault line N Beats    not `beats` and two labels, with single spaces\n  \
     board fault line N Order    pairs not sorted as numbers, or one is there twice\n  \
     board too large             labels^pebbles is above 1048576; try --large\n  \
-    document too large          above 134217728 bytes, more than `check` reads\n\n\
+    document too large          above 134217728 bytes, more than `check` reads\n  \
+    start lasts forever         --side adversary: there is no strategy for it\n\n\
     Example:\n  \
     pebbles solve chain.board > chain.proof";
 
@@ -185,7 +188,7 @@ fn program_among<'a>(alloc: Global, sides: &'a [&'a str]) -> Result<Command<'a>,
         .override_usage(USAGE)
         .after_help(AFTER_HELP)
         .subcommand_required(true);
-    let command = command.subcommand(solve(alloc)?)?;
+    let command = command.subcommand(solve(alloc, sides)?)?;
     let command = command.subcommand(check(alloc)?)?;
     let command = command.subcommand(report(alloc)?)?;
     let command = command.subcommand(starts(alloc)?)?;
@@ -196,14 +199,15 @@ fn program_among<'a>(alloc: Global, sides: &'a [&'a str]) -> Result<Command<'a>,
     Ok(command)
 }
 
-fn solve<'a>(alloc: Global) -> Result<Command<'a>, AllocError>
-    ensures shape { IfOk result (λ c. shape_of c ≡ commands.solve) }
+fn solve<'a>(alloc: Global, sides: &'a [&'a str]) -> Result<Command<'a>, AllocError>
+    ensures shape { IfOk result (λ c. shape_of c ≡ commands.solve_among sides.entry) }
     ensures local { IfOk result (λ c. (out-Command c).has_globals ≡ false) }
 {
     let command = Command::new(alloc, "solve")
         .about("Reads a board, and writes its start's value and strategies for it")
         .after_help(ABOUT_SOLVING)
-        .arg(workers(alloc))?;
+        .arg(workers(alloc))?
+        .arg(side(alloc, sides, false, "One side's strategy"))?;
     on_board(alloc, command)
 }
 
@@ -297,7 +301,7 @@ fn play<'a>(alloc: Global, sides: &'a [&'a str]) -> Result<Command<'a>, AllocErr
     let command = Command::new(alloc, "play")
         .about("Plays against you on a board, with best requests or best answers")
         .after_help(ABOUT_PLAYING)
-        .arg(side(alloc, sides))?;
+        .arg(side(alloc, sides, true, "Your side"))?;
     on_board(alloc, command)
 }
 
@@ -341,17 +345,17 @@ fn on_any_board<'a>(alloc: Global, command: Command<'a>) -> Result<Command<'a>, 
     command.arg(board)?.arg(explain(alloc))
 }
 
-/// The option for the side that the person plays, one of the words `sides`.
-fn side<'a>(alloc: Global, sides: &'a [&'a str]) -> Arg<'a>
-    ensures rule { rule_of result ≡ commands.side_among sides.entry }
+/// The option for a side, one of the words `sides`, which must be given or may be left out.
+fn side<'a>(alloc: Global, sides: &'a [&'a str], must_be_given: bool, help: &'a str) -> Arg<'a>
+    ensures rule { rule_of result ≡ commands.side_among sides.entry must_be_given }
     ensures local { result.global ≡ false }
 {
     Arg::new(alloc, "side")
         .long("side")
         .value_name("SIDE")
-        .required(true)
+        .required(must_be_given)
         .value_parser(sides)
-        .help("Your side")
+        .help(help)
 }
 
 /// A path that must be given.

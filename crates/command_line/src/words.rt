@@ -7,13 +7,13 @@ ghost use Rattle.clap.specs.Words.{fault_of, first_of, found_of, kind_of, rows_o
 ghost use Rattle.clap.specs.Words.{subcommand_rows_of, takes};
 ghost use Rattle.clap.specs.Walk.{texts};
 ghost use Rattle.command_line.specs.Commands as commands;
-ghost use Rattle.command_line.specs.Reading.{HasFlag, HasNumber, IsInRange, IsReadAs, ShowsWords};
-ghost use Rattle.command_line.specs.Reading.{ShowsKind};
+ghost use Rattle.command_line.specs.Reading.{HasFlag, HasNumber, HasSide, IsInRange, IsReadAs};
+ghost use Rattle.command_line.specs.Reading.{ShowsKind, ShowsWords};
 ghost use Rattle.command_line.specs.Reading.{AsksForHelpBy, Names, NamesCommands};
 ghost use Rattle.command_line.specs.Reading.{asks_for_help, has_topic, is_large, is_topic};
-ghost use Rattle.command_line.specs.Reading.{side_word};
 ghost use Rattle.command_line.specs.Inside.Reading.{MisusesBy, Reads, ShowsHelp};
 ghost use Rattle.command_line.specs.Inside.Reading.{has_flag, has_number, has_side, is_read};
+ghost use Rattle.command_line.specs.Inside.Reading.{is_read_in};
 
 use crate::asked::{BoardLimit, Job, JobFault, MAX_WORKERS};
 use crate::commands::{VERSION, program};
@@ -220,14 +220,17 @@ fn named<'m, 'a>(matches: &'m ArgMatches<'a>) -> Option<(&'a str, &'m ArgMatches
 }
 
 fn solve_job<'a>(values: &ArgMatches<'a>) -> Option<Job<'a>>
-    ensures asked { Reads commands.solve (rows_of (found_of values.now)) result }
+    ensures asked { Reads (commands.solve_among commands.sides)
+        (rows_of (found_of values.now)) result }
     ensures numbers { IfSome result IsInRange }
 {
     let workers = number(values, "workers", MAX_WORKERS)?;
+    let side = side_if_given(values)?;
     let limit = limit(values)?;
     let board = text(values, "board")?;
     Some(Job::Solve {
         workers,
+        side,
         limit,
         board,
     })
@@ -312,9 +315,21 @@ fn climb_job<'a>(values: &ArgMatches<'a>) -> Option<Job<'a>>
     Some(Job::Climb { levels })
 }
 
+/// The side, or none if it is left out.
+fn side_if_given(matches: &ArgMatches<'_>) -> Option<Option<Side>>
+    ensures { MatchOption result
+        (is_read_in (rows_of (found_of matches.now)) (commands.side_among commands.sides false)
+        ≡ false) (HasSide (rows_of (found_of matches.now))) }
+{
+    match text(matches, "side") {
+        Some(_) => Some(Some(side(matches)?)),
+        None => Some(None),
+    }
+}
+
 fn side(matches: &ArgMatches<'_>) -> Option<Side>
     ensures { MatchOption result (has_side (rows_of (found_of matches.now)) (codes "side") ≡ false)
-        (λ side. first_of (codes "side") (rows_of (found_of matches.now)) ≡ Some (side_word side)) }
+        (λ side. HasSide (rows_of (found_of matches.now)) (Some side)) }
 {
     match text(matches, "side")? {
         "labeller" => Some(Side::Labeller),

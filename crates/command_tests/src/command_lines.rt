@@ -133,6 +133,33 @@ fn solving(rt: HostRuntime) {
     ] {
         let wanted = Job::Solve {
             workers,
+            side: None,
+            limit,
+            board,
+        };
+        assert_asks(&rt, rt.alloc(), words, wanted);
+    }
+}
+
+#[test]
+fn solving_for_a_side(rt: HostRuntime) {
+    for (words, side, limit, board) in [
+        (
+            ["pebbles", "solve", "--side", "labeller", "a"].as_slice(),
+            Side::Labeller,
+            BoardLimit::Small,
+            "a",
+        ),
+        (
+            ["pebbles", "solve", "a", "--side=adversary", "--large"].as_slice(),
+            Side::Adversary,
+            BoardLimit::Large,
+            "a",
+        ),
+    ] {
+        let wanted = Job::Solve {
+            workers: 1,
+            side: Some(side),
             limit,
             board,
         };

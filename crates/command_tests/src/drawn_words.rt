@@ -25,12 +25,13 @@ fn word(place: u32) -> &'static str {
     WORDS.split(' ').nth(place as usize).unwrap_or("")
 }
 
-/// The words that a command still takes: an option with a value, or `none`; `--large`, if it is
-/// taken; `--explain`, if it wasn't given; and a number of words, each at most `most`, or 0 for
-/// paths.
+/// The words that a command still takes: an option with a value, or `none`, where `--side` is
+/// wanted; `--side`, where it may be left out; `--large`, if it is taken; `--explain`, if it wasn't
+/// given; and a number of words, each at most `most`, or 0 for paths.
 #[derive(Clone, Copy)]
 struct Form {
     option: &'static str,
+    takes_side: bool,
     takes_large: bool,
     takes_explain: bool,
     wants: usize,
@@ -41,6 +42,7 @@ impl Form {
     fn new(option: &'static str, takes_large: bool, wants: usize, most: u8) -> Form {
         Form {
             option,
+            takes_side: false,
             takes_large,
             takes_explain: true,
             wants,
@@ -51,7 +53,8 @@ impl Form {
     fn of(command: &str) -> Option<Form> {
         match command {
             "check" => Some(Form::new("none", false, 2, 0)),
-            "solve" | "report" | "starts" => Some(Form::new("--workers", true, 1, 0)),
+            "solve" => Some(Form::new("--workers", true, 1, 0).with_side()),
+            "report" | "starts" => Some(Form::new("--workers", true, 1, 0)),
             "chains" => Some(Form::new("--workers", false, 1, 0)),
             "nested" => Some(Form::new("none", false, 2, 6)),
             "play" => Some(Form::new("--side", true, 1, 0)),
@@ -63,6 +66,20 @@ impl Form {
     fn without_option(self) -> Form {
         Form {
             option: "none",
+            ..self
+        }
+    }
+
+    fn with_side(self) -> Form {
+        Form {
+            takes_side: true,
+            ..self
+        }
+    }
+
+    fn without_side(self) -> Form {
+        Form {
+            takes_side: false,
             ..self
         }
     }
@@ -111,6 +128,7 @@ fn is_both(option: &str, word: &str) -> bool {
 fn read(words: &[&str], form: Form) -> Result<(), Other> {
     let Form {
         option,
+        takes_side,
         takes_large,
         takes_explain,
         wants,
@@ -130,6 +148,14 @@ fn read(words: &[&str], form: Form) -> Result<(), Other> {
         [word, rest @ ..] if is_both(option, word) => read(rest, form.without_option()),
         [word, value, rest @ ..] if *word == option && is_value(option, value) => {
             read(rest, form.without_option())
+        }
+        [word, rest @ ..] if takes_side && is_both("--side", word) => {
+            read(rest, form.without_side())
+        }
+        [word, value, rest @ ..]
+            if takes_side && *word == "--side" && is_value("--side", value) =>
+        {
+            read(rest, form.without_side())
         }
         _ => Err(Other::Wrong),
     }

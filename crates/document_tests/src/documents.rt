@@ -2,7 +2,7 @@
 
 ghost use Rattle.std.specs.Prelude.{◌≤◌, IfOk};
 ghost use Rattle.positions.specs.Ranks.{configurations};
-ghost use Rattle.proof_text.specs.Documents.{IsDocument};
+ghost use Rattle.proof_text.specs.Documents.{IsDocument, IsSymmetryDocument};
 
 use board_text::{Board, Memory};
 use positions::{MAX_CONFIGURATIONS, Space};
@@ -43,7 +43,9 @@ pub fn read_symmetric_document(
     alloc: Global,
     board: &Board,
     bytes: &[u8],
-) -> Result<SymmetryProof, ProofFault> {
+) -> Result<SymmetryProof, ProofFault>
+    ensures { IfOk result (λ proof. IsSymmetryDocument board.now proof) }
+{
     match parse_symmetric(alloc, board, bytes) {
         Err(
             ProofFault {

@@ -48,6 +48,10 @@ impl<'a> Note<'a> {
                 about: board.name,
                 parts: long_document_hint(board.text),
             },
+            RunFault::LastsForever => Note::new(
+                board.name,
+                "requests are answered for ever, so there is no strategy for the adversary",
+            ),
             RunFault::TooManyChains => Note {
                 about: board.name,
                 parts: many_chains_hint(),

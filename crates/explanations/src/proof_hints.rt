@@ -6,7 +6,7 @@ use crate::hints::{
 };
 use crate::inputs::{Given, Inputs, Origin};
 use crate::lines::{flaw, spaces_before};
-use crate::parts::{Parts, mistake, number_mistake, words};
+use crate::parts::{Parts, mistake, number_mistake, two_numbers, words};
 use crate::sizes::Sizes;
 use positions::MAX_CONFIGURATIONS;
 use proof_check::{CheckFault, ClassFault, MAX_ELEMENTS, MapFault, Side, SymmetryFault};
@@ -43,6 +43,9 @@ const SYMMETRIES: &str = "line 3 must be `symmetries n`, with n at most 64";
 /// The form of a map.
 const MAP: &str =
     "the line must be `map` and, for each label of the board in turn, the label that it goes to";
+
+/// The mistake of a line that comes before all maps that are said.
+const FEWER_MAPS: &str = "there are fewer maps than `symmetries` says";
 
 /// The sections of each claim.
 const SECTIONS: &str =
@@ -143,17 +146,28 @@ fn claim_hint(line: Option<&[u8]>) -> Parts {
     number_hint(line, word, MOST_TURNS as u64, CLAIM)
 }
 
-/// The words for a line that should begin a section.
+/// The number of the line that should begin the first section.
+fn first_section(proof: &Origin<'_, '_>) -> u32 {
+    if has_maps(proof) {
+        let maps = number_of(proof.line(3), "symmetries").unwrap_or(0);
+        maps.saturating_add(4)
+    } else {
+        3
+    }
+}
+
+/// The words for a line that should begin a section, or say how many maps there are.
 fn section_hint(proof: &Origin<'_, '_>, number: u32, line: Option<&[u8]>) -> Parts {
-    if has_maps(proof) && number == 3 {
+    let first = first_section(proof);
+    if number < first {
         number_hint(line, "symmetries", u64::from(MAX_MAPS), SYMMETRIES)
-    } else if proof.line_begins(number, "map ") {
+    } else if has_maps(proof) && number == first && proof.line_begins(number, "map ") {
         mistake(
             "there are more maps than `symmetries` says",
             section_form(proof).1,
         )
     } else if proof.line_begins(number, "at ") {
-        let found = if number == 3 {
+        let found = if number == first {
             "a row comes before the first line of its section"
         } else {
             "the section before has more rows than its first line says"
@@ -188,21 +202,50 @@ fn section_form(proof: &Origin<'_, '_>) -> (u32, &'static str) {
     }
 }
 
-/// The words for a line that should be a row.
+/// The words for a line that should be a map or a row.
 fn row_hint(inputs: &Inputs<'_, '_>, number: u32, line: Option<&[u8]>) -> Parts {
     let proof = &inputs.other;
     let is_next = proof.line_begins(number, "labeller ")
         || proof.line_begins(number, "adversary ")
         || proof.line_begins(number, "end");
+    let sizes = Sizes::of(inputs.board.text);
+    if number < first_section(proof) {
+        let is_next = is_next || proof.line_begins(number, "at ");
+        return if is_next {
+            mistake(FEWER_MAPS, MAP)
+        } else {
+            map_hint(line, sizes)
+        };
+    }
     if is_next {
         return mistake("the section has fewer rows than its first line says", ROW);
     }
-    if has_maps(proof) && proof.line_begins(number, "map") {
-        return form_hint(line, MAP);
-    }
-    match (line, Sizes::of(inputs.board.text)) {
+    match (line, sizes) {
         (Some(line), Some(sizes)) if flaw(line).is_none() => places_hint(line, sizes),
         _ => form_hint(line, ROW),
+    }
+}
+
+/// The words for a line that should be a map.
+fn map_hint(line: Option<&[u8]>, sizes: Option<Sizes>) -> Parts {
+    match (line, sizes) {
+        (Some(line), Some(sizes)) if flaw(line).is_none() => images_hint(line, sizes),
+        _ => form_hint(line, MAP),
+    }
+}
+
+/// The words for the images of a map.
+fn images_hint(line: &[u8], sizes: Sizes) -> Parts {
+    let labels = u64::from(sizes.labels);
+    match spaces_before(line, "\n".as_bytes()) {
+        Some(images) if line.starts_with("map ".as_bytes()) && images != labels => {
+            two_numbers(
+                ("labels in the line: ", images),
+                (", labels of the board: ", labels),
+                MAP,
+            )
+        }
+        _ => words(MAP),
     }
 }
 
@@ -345,7 +388,25 @@ pub(crate) fn symmetry_refusal_hint(fault: SymmetryFault) -> &'static str {
             "a symmetry takes these places to others that come before them, `-` first and labels \
             as numbers; the row must be at the least of all"
         }
-        SymmetryFault::Row(fault) => class_refusal_hint(fault),
+        SymmetryFault::Row(fault) => alike_refusal_hint(fault),
         SymmetryFault::Memory => "",
+    }
+}
+
+/// The words for a rule of rows that a document up to symmetries breaks.
+fn alike_refusal_hint(fault: ClassFault) -> &'static str {
+    match fault {
+        ClassFault::Unlisted {
+            side: Side::Labeller,
+            ..
+        } => {
+            "the answer of this row for this place leads to places of which the least alike have \
+            no row"
+        }
+        ClassFault::Unlisted {
+            side: Side::Adversary,
+            ..
+        } => { "this label is legal, and leads to places of which the least alike have no row" }
+        _ => class_refusal_hint(fault),
     }
 }

@@ -18,6 +18,7 @@ use Rattle.proof_text.specs.declared.class_proof.ClassProof.{ClassProof}
 use Rattle.proof_text.specs.declared.class_proof.LabellerClassRow.{LabellerClassRow}
 use Rattle.proof_check.specs.Refusals.{IsWrongBound}
 use Rattle.proof_check.specs.FirstFaults.{HasRow, bound_of}
+use Rattle.symmetries.specs.AlikeTables.{AlikeBy}
 use Rattle.symmetries.specs.Elements.{least_by}
 use Rattle.proof_text.specs.declared.symmetry_proof.Images.{Images}
 use Rattle.proof_check.specs.Inside.ClassChecker.{IsClassReady, IsClassAnswering, IsClassRequesting, refusals_by}
@@ -69,9 +70,9 @@ module _ (board : PlainBoard) (proof : ClassProof) (is : IsClassDocument board p
       proof.adversary.items (λ r. refl) (λ x row. row.at) is.is_proof.adversary.each
       is.is_proof.adversary.ascending
 
-  pub answering : (numbers : ClassNumbers) (group : List Images) → IsClassReady board proof numbers group
-      → All (IsClassAnswering board proof numbers group) proof.labeller.items
-  answering numbers group ready = λ k d low.
+  pub answering : (numbers : ClassNumbers) (alike : AlikeBy) → IsClassReady board proof numbers alike
+      → All (IsClassAnswering board proof numbers alike) proof.labeller.items
+  answering numbers alike ready = λ k d low.
       let row = get_or proof.labeller.items k d in
       let shown : IsAnswerRow board proof.claim (class_answer_row board row) =
       of_shown (class_answer_row board) (IsAnswerRow board proof.claim) proof.labeller.items
@@ -85,9 +86,9 @@ module _ (board : PlainBoard) (proof : ClassProof) (is : IsClassDocument board p
             subst (λ n. n < board.labels) (get_or-take board.pebbles row.take pebble 0 below) label;
       }
 
-  pub requesting : (numbers : ClassNumbers) (group : List Images) → IsClassReady board proof numbers group
-      → All (IsClassRequesting board proof numbers group) proof.adversary.items
-  requesting numbers group ready = λ k d low.
+  pub requesting : (numbers : ClassNumbers) (alike : AlikeBy) → IsClassReady board proof numbers alike
+      → All (IsClassRequesting board proof numbers alike) proof.adversary.items
+  requesting numbers alike ready = λ k d low.
       let shown : IsClassRequestRow board (class_request_row board (get_or proof.adversary.items k d)) =
       of_shown (class_request_row board) (IsClassRequestRow board) proof.adversary.items
       is.is_proof.adversary.each k d low in

@@ -25,14 +25,14 @@ use proof_text::AdversaryClassRow;
 
 impl<'a> CheckedRow<ClassChecker<'a>, ClassFault> for AdversaryClassRow {
     ghost is_ready = { λ c row. IsClassRequesting c.board.now c.proof.now
-        c.numbers.now c.group.now row };
+        c.numbers.now c.alike.now row };
 
     ghost meets = { λ c row. MeetsAnswers (normal_positions (least_by c.board.now.labels
-        c.group.now)) c.board.now (class_request_rows c.board.now c.proof.now.adversary.items)
+        c.alike.now.group)) c.board.now (class_request_rows c.board.now c.proof.now.adversary.items)
         (class_request_row c.board.now row) };
 
-    ghost is_wrong = { λ c row. IsWrongRequest (refusals_by c.board.now c.group.now) c.board.now
-        (class_request_rows c.board.now c.proof.now.adversary.items)
+    ghost is_wrong = { λ c row. IsWrongRequest (refusals_by c.board.now c.alike.now.group)
+        c.board.now (class_request_rows c.board.now c.proof.now.adversary.items)
         (class_request_row c.board.now row) };
 
     /// The fault of the row's first faulty label, if it has one.
@@ -75,7 +75,7 @@ fn label_fault(
     label: u16,
 ) -> Option<ClassFault>
     requires row { IsClassRequesting checker.now.board.now checker.now.proof.now
-        checker.now.numbers.now checker.now.group.now row.now }
+        checker.now.numbers.now checker.now.alike.now row.now }
     requires at { at ≡ order_number checker.now.board.now.labels (class_request_row
         checker.now.board.now row.now).at }
     requires pebble { pebble ≡ positions_of.asked_pebble (class_request_row checker.now.board.now
@@ -85,10 +85,10 @@ fn label_fault(
         row.now).at pebble label }
     ensures { MatchOption result
         (MeetsAnswer (normal_positions (least_by checker.now.board.now.labels
-        checker.now.group.now)) checker.now.board.now (class_request_rows checker.now.board.now
-        checker.now.proof.now.adversary.items)
+        checker.now.alike.now.group)) checker.now.board.now (class_request_rows
+        checker.now.board.now checker.now.proof.now.adversary.items)
         (class_request_row checker.now.board.now row.now) label)
-        (IsWrongAfter (refusals_by checker.now.board.now checker.now.group.now)
+        (IsWrongAfter (refusals_by checker.now.board.now checker.now.alike.now.group)
         (class_request_rows checker.now.board.now checker.now.proof.now.adversary.items)
         (class_request_row checker.now.board.now row.now) label) }
 {
@@ -111,13 +111,14 @@ fn label_fault(
 /// claim that bounds the value from above can have it.
 pub(crate) fn bound_fault(checker: &ClassChecker<'_>) -> Option<ClassFault>
     requires { IsClassReady checker.now.board.now checker.now.proof.now checker.now.numbers.now
-        checker.now.group.now }
+        checker.now.alike.now }
     ensures { MatchOption result
         (StartIsBelow (class_request_rows checker.now.board.now
         checker.now.proof.now.adversary.items)
-        (least_by checker.now.board.now.labels checker.now.group.now checker.now.board.now.start)
+        (least_by checker.now.board.now.labels checker.now.alike.now.group
+        checker.now.board.now.start)
         checker.now.proof.now.claim)
-        (IsWrongBound (refusals_by checker.now.board.now checker.now.group.now)
+        (IsWrongBound (refusals_by checker.now.board.now checker.now.alike.now.group)
         checker.now.board.now (plain_class_proof checker.now.board.now checker.now.proof.now)) }
 {
     let (Claim::Exactly(most) | Claim::AtMost(most)) = checker.proof.claim else {
@@ -139,20 +140,20 @@ fn number_fault(
     large: ClassFault,
 ) -> Option<ClassFault>
     requires ready { IsClassReady checker.now.board.now checker.now.proof.now
-        checker.now.numbers.now checker.now.group.now }
+        checker.now.numbers.now checker.now.alike.now }
     requires places { IsConfiguration checker.now.board.now places.now }
     ensures { MatchOption result
         (IsListedBelow (class_request_rows checker.now.board.now
         checker.now.proof.now.adversary.items)
-        (least_by checker.now.board.now.labels checker.now.group.now places.now) (suc most))
+        (least_by checker.now.board.now.labels checker.now.alike.now.group places.now) (suc most))
         (IsUnservedBelow (class_request_rows checker.now.board.now
         checker.now.proof.now.adversary.items)
-        (least_by checker.now.board.now.labels checker.now.group.now places.now) (suc most)
+        (least_by checker.now.board.now.labels checker.now.alike.now.group places.now) (suc most)
         missing large) }
 {
     let Some(row) = find(
         checker.board,
-        checker.group,
+        checker.alike,
         &checker.proof.adversary,
         &checker.numbers.adversary,
         places,

@@ -9,7 +9,6 @@ ghost use Rattle.proof_text.specs.Documents.{IsClassDocument};
 ghost use Rattle.proof_text.specs.ClassProof.{plain_class_proof};
 ghost use Rattle.proof_text.specs.Positions.{class_positions, normal_positions};
 ghost use Rattle.proof_text.specs.Rules.{BreaksNoRule};
-ghost use Rattle.proof_text.specs.Images.{KeepsLabels};
 ghost use Rattle.symmetries.specs.Elements.{least_by};
 ghost use Rattle.proof_check.specs.ClassNumbers.{AreNumbersOfRows};
 ghost use Rattle.proof_check.specs.ClassFaults.{IsFirstClassFault, NamesClass};
@@ -24,14 +23,14 @@ use crate::row_numbers::ClassNumbers;
 use board_text::Board;
 use proof_text::ClassProof;
 use std::thread::Threads;
-use symmetries::Images;
+use symmetries::Alike;
 
 /// A board, and a document for it with arranged places, with the numbers of its rows. A row stands
-/// for all places that are alike by the elements of a group; by classes it has none.
+/// for all places that are alike.
 #[derive(Clone, Copy)]
 pub(crate) struct ClassChecker<'a> {
     pub(crate) board: &'a Board,
-    pub(crate) group: &'a [Images],
+    pub(crate) alike: &'a Alike,
     pub(crate) proof: &'a ClassProof,
     pub(crate) numbers: &'a ClassNumbers,
 }
@@ -65,28 +64,29 @@ pub fn check_classes(
     // A row that it names has the number of places of the board.
     ensures named { IfErr result (NamesClass board.now) }
 {
-    match document_fault(rt, board, &[], proof, numbers) {
+    let alike = Alike::by_classes(board);
+    match document_fault(rt, board, &alike, proof, numbers) {
         Some(fault) => Err(fault),
         None => Ok(()),
     }
 }
 
-/// The first fault of `proof`, whose rows stand for the places that are alike by `group`, in the
-/// order of checking, if there is one.
+/// The first fault of `proof`, whose rows stand for the places that are `alike`, in the order of
+/// checking, if there is one.
 pub(crate) fn document_fault(
     rt: &(impl Threads + Sync),
     board: &Board,
-    group: &[Images],
+    alike: &Alike,
     proof: &ClassProof,
     numbers: &ClassNumbers,
 ) -> Option<ClassFault>
-    requires group { All (KeepsLabels board.now.labels) group.now }
+    requires alike { alike.now.labels ≡ board.now.labels }
     requires document { IsClassDocument board.now proof.now }
     requires numbers { AreNumbersOfRows board.now proof.now numbers.now }
     ensures fault { MatchOption result
-        (BreaksNoRule (normal_positions (least_by board.now.labels group.now)) board.now
+        (BreaksNoRule (normal_positions (least_by board.now.labels alike.now.group)) board.now
         (plain_class_proof board.now proof.now))
-        (IsFirstFault (refusals_by board.now group.now) board.now
+        (IsFirstFault (refusals_by board.now alike.now.group) board.now
         (plain_class_proof board.now proof.now)) }
     ensures start { IsConfiguration board.now board.now.start }
 {
@@ -94,7 +94,7 @@ pub(crate) fn document_fault(
     let _ = board.start();
     let checker = ClassChecker {
         board,
-        group,
+        alike,
         proof,
         numbers,
     };

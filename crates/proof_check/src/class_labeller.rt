@@ -24,14 +24,14 @@ use proof_text::LabellerClassRow;
 
 impl<'a> CheckedRow<ClassChecker<'a>, ClassFault> for LabellerClassRow {
     ghost is_ready = { λ c row. IsClassAnswering c.board.now c.proof.now
-        c.numbers.now c.group.now row };
+        c.numbers.now c.alike.now row };
 
     ghost meets = { λ c row. MeetsRequests (normal_positions (least_by c.board.now.labels
-        c.group.now)) c.board.now (class_answer_rows c.board.now c.proof.now.labeller.items)
+        c.alike.now.group)) c.board.now (class_answer_rows c.board.now c.proof.now.labeller.items)
         (class_answer_row c.board.now row) };
 
-    ghost is_wrong = { λ c row. IsWrongAnswer (refusals_by c.board.now c.group.now) c.board.now
-        (class_answer_rows c.board.now c.proof.now.labeller.items)
+    ghost is_wrong = { λ c row. IsWrongAnswer (refusals_by c.board.now c.alike.now.group)
+        c.board.now (class_answer_rows c.board.now c.proof.now.labeller.items)
         (class_answer_row c.board.now row) };
 
     /// The fault of the row's first faulty pebble, if it has one.
@@ -55,17 +55,18 @@ fn answer_fault(
     pebble: u8,
 ) -> Option<ClassFault>
     requires row { IsClassAnswering checker.now.board.now checker.now.proof.now
-        checker.now.numbers.now checker.now.group.now row.now }
+        checker.now.numbers.now checker.now.alike.now row.now }
     requires at { at ≡ order_number checker.now.board.now.labels (class_answer_row
         checker.now.board.now row.now).at }
     requires pebble { pebble < checker.now.board.now.pebbles }
     ensures { MatchOption result
         (MeetsRequest (normal_positions (least_by checker.now.board.now.labels
-        checker.now.group.now)) checker.now.board.now (class_answer_rows checker.now.board.now
+        checker.now.alike.now.group)) checker.now.board.now (class_answer_rows checker.now.board.now
         checker.now.proof.now.labeller.items)
         (class_answer_row checker.now.board.now row.now) pebble)
-        (IsWrongAt (refusals_by checker.now.board.now checker.now.group.now) checker.now.board.now
-        (class_answer_rows checker.now.board.now checker.now.proof.now.labeller.items)
+        (IsWrongAt (refusals_by checker.now.board.now checker.now.alike.now.group)
+        checker.now.board.now (class_answer_rows checker.now.board.now
+        checker.now.proof.now.labeller.items)
         (class_answer_row checker.now.board.now row.now) pebble) }
 {
     let board = checker.board;
@@ -94,12 +95,13 @@ fn answer_fault(
 /// The fault of the number at the start in the labeller's rows, if it has one.
 pub(crate) fn start_fault(checker: &ClassChecker<'_>) -> Option<ClassFault>
     requires { IsClassReady checker.now.board.now checker.now.proof.now checker.now.numbers.now
-        checker.now.group.now }
+        checker.now.alike.now }
     ensures { MatchOption result
         (Serves (class_answer_rows checker.now.board.now checker.now.proof.now.labeller.items)
-        (least_by checker.now.board.now.labels checker.now.group.now checker.now.board.now.start)
+        (least_by checker.now.board.now.labels checker.now.alike.now.group
+        checker.now.board.now.start)
         (rules.wanted_of checker.now.proof.now.claim))
-        (IsWrongStart (refusals_by checker.now.board.now checker.now.group.now)
+        (IsWrongStart (refusals_by checker.now.board.now checker.now.alike.now.group)
         checker.now.board.now (plain_class_proof checker.now.board.now checker.now.proof.now)) }
 {
     let side = Side::Labeller;
@@ -124,22 +126,22 @@ fn turns_fault(
     short: ClassFault,
 ) -> Option<ClassFault>
     requires ready { IsClassReady checker.now.board.now checker.now.proof.now
-        checker.now.numbers.now checker.now.group.now }
+        checker.now.numbers.now checker.now.alike.now }
     requires places { IsConfiguration checker.now.board.now places.now }
     ensures { MatchOption result
         (Serves (class_answer_rows checker.now.board.now checker.now.proof.now.labeller.items)
-        (least_by checker.now.board.now.labels checker.now.group.now places.now) wanted)
+        (least_by checker.now.board.now.labels checker.now.alike.now.group places.now) wanted)
         (IsUnservedFor (class_answer_rows checker.now.board.now
         checker.now.proof.now.labeller.items)
-        (least_by checker.now.board.now.labels checker.now.group.now places.now) wanted missing
-        short) }
+        (least_by checker.now.board.now.labels checker.now.alike.now.group places.now) wanted
+        missing short) }
 {
     if wanted == Turns::Count(0) {
         return None;
     }
     let Some(row) = find(
         checker.board,
-        checker.group,
+        checker.alike,
         &checker.proof.labeller,
         &checker.numbers.labeller,
         places,

@@ -15,7 +15,7 @@ use Rattle.runs.specs.Report.{size_line}
 use Rattle.runs.specs.Texts.{HasNoneAmong, IsBoardAmong, IsWrongAmong, OfAnySize}
 use Rattle.runs.specs.declared.fault.RunFault.{RunFault}
 use Rattle.runs.specs.declared.fault.RunFault.TheVariants.{Board, TooLarge, Proof, Memory, Worker, Read, Write, Limit}
-use Rattle.runs.specs.declared.fault.RunFault.TheVariants.{DocumentTooLarge, TooManyChains}
+use Rattle.runs.specs.declared.fault.RunFault.TheVariants.{DocumentTooLarge, LastsForever, TooManyChains}
 use Rattle.runs.proofs.AcceptedDocuments.{not_wrong_among}
 use Rattle.runs.proofs.OneOutcome.{one_wrong_among}
 use Rattle.runs.proofs.ReportCounts.{four_parts}
@@ -78,6 +78,7 @@ any_fault most text Worker h = absurd h
 any_fault most text Read h = absurd h
 any_fault most text Write h = absurd h
 any_fault most text DocumentTooLarge h = absurd h
+any_fault most text LastsForever h = absurd h
 any_fault most text TooManyChains h = absurd h
 any_fault most text Limit h = absurd h
 
@@ -91,6 +92,7 @@ wrong_counting most text Worker h = inr (inl refl)
 wrong_counting most text Read h = inr (inr h)
 wrong_counting most text Write h = inr (inr h)
 wrong_counting most text DocumentTooLarge h = inr (inr h)
+wrong_counting most text LastsForever h = inr (inr h)
 wrong_counting most text TooManyChains h = inr (inr h)
 wrong_counting most text Limit h = inr (inr h)
 
@@ -122,6 +124,7 @@ module _ (most : ℕ) (text : List ℕ) where
   fault_is Read h = inr h
   fault_is Write h = inr h
   fault_is DocumentTooLarge h = inr h
+  fault_is LastsForever h = inr h
   fault_is Limit h = inr h
 
   pub one_chain_fault : (fault other : RunFault) → HasNoChains most text fault → HasNoChains most text other

@@ -29,7 +29,7 @@ use Rattle.runs.specs.declared.checking.TheConstants.{MAX_PROOF_BYTES}
 use Rattle.runs.specs.Verdicts.{IsAcceptance, IsChecked, IsClassVerdict, IsProofOf, IsVerdictOf, text_of_proof}
 use Rattle.runs.specs.declared.fault.RunFault.{RunFault}
 use Rattle.runs.specs.declared.fault.RunFault.TheVariants.{Board, TooLarge, Proof, Memory, Worker, Read, Write, Limit}
-use Rattle.runs.specs.declared.fault.RunFault.TheVariants.{DocumentTooLarge, TooManyChains}
+use Rattle.runs.specs.declared.fault.RunFault.TheVariants.{DocumentTooLarge, LastsForever, TooManyChains}
 use Rattle.runs.specs.declared.verdicts.Verdict.{Verdict}
 use Rattle.runs.specs.declared.verdicts.Verdict.TheVariants.{Accepted, Refused, RefusedByClasses}
 use Rattle.runs.specs.declared.verdicts.Verdict.TheVariants.{RefusedUpToSymmetries}
@@ -73,6 +73,7 @@ module _ (text : List ℕ) where
       → ((fault ≡ DocumentTooLarge) × IsUnsolvedByClasses text DocumentTooLarge) ⊎ IsWrongWithin Large text fault
   fault_is DocumentTooLarge h = inl (refl, h)
   fault_is TooManyChains h = inr h
+  fault_is LastsForever h = inr h
   fault_is (Board told) h = inr h
   fault_is TooLarge h = inr h
   fault_is (Proof told) h = inr h
@@ -114,6 +115,7 @@ module _ (text : List ℕ) where
   wrong_unsolved : (fault : RunFault) → IsWrongWithin Large text fault → IsUnsolvedByClasses text fault
   wrong_unsolved DocumentTooLarge wrong = absurd wrong
   wrong_unsolved TooManyChains wrong = absurd wrong
+  wrong_unsolved LastsForever wrong = absurd wrong
   wrong_unsolved (Board told) wrong = wrong
   wrong_unsolved TooLarge wrong = wrong
   wrong_unsolved (Proof told) wrong = wrong
@@ -218,4 +220,5 @@ module _ (text written : List ℕ) (value : Value) (solution : IsClassSolution t
   class_document_faultless Write wrong = absurd wrong
   class_document_faultless DocumentTooLarge wrong = absurd wrong
   class_document_faultless TooManyChains wrong = absurd wrong
+  class_document_faultless LastsForever wrong = absurd wrong
   class_document_faultless Limit wrong = absurd wrong

@@ -1,6 +1,7 @@
 pub mod EndLines
 pub mod BoardLimits
 pub mod SolverFaults
+pub mod SidedRuns
 pub mod WrittenParts
 pub mod WrittenWords
 pub mod FailedRuns
@@ -23,3 +24,4 @@ pub mod ChainTexts
 pub mod StartTexts
 pub mod Cited
 pub mod ValueCounts
+pub mod SideSolutions

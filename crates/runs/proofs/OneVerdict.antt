@@ -24,7 +24,7 @@ use Rattle.runs.specs.declared.verdicts.DocumentVersion.{DocumentVersion}
 use Rattle.runs.specs.declared.verdicts.DocumentVersion.TheVariants.{ByClasses, ByConfigurations, UpToSymmetries}
 use Rattle.runs.specs.declared.fault.RunFault.{RunFault}
 use Rattle.runs.specs.declared.fault.RunFault.TheVariants.{Board, TooLarge, Proof, Memory, Worker, Read, Write, Limit}
-use Rattle.runs.specs.declared.fault.RunFault.TheVariants.{DocumentTooLarge, TooManyChains}
+use Rattle.runs.specs.declared.fault.RunFault.TheVariants.{DocumentTooLarge, LastsForever, TooManyChains}
 use Rattle.runs.specs.declared.verdicts.Verdict.{Verdict}
 use Rattle.runs.specs.declared.verdicts.Verdict.TheVariants.{Accepted, Refused, RefusedByClasses}
 use Rattle.runs.specs.declared.verdicts.Verdict.TheVariants.{RefusedUpToSymmetries}
@@ -158,6 +158,7 @@ module _ (board : PlainBoard) (text : List ℕ) (is_board : IsBoard board) where
   faultless_of kind proof Write is spelled wrong = wrong
   faultless_of kind proof DocumentTooLarge is spelled wrong = wrong
   faultless_of kind proof TooManyChains is spelled wrong = wrong
+  faultless_of kind proof LastsForever is spelled wrong = wrong
   faultless_of kind proof Limit is spelled wrong = wrong
 
   pub verdict_or_fault : (verdict : Verdict) (line : List ℕ) (fault : RunFault) → IsChecked board text verdict line
@@ -207,6 +208,7 @@ module _ (board : PlainBoard) (text : List ℕ) (is_board : IsBoard board) where
   one_wrong_proof Write other wrong also = absurd wrong
   one_wrong_proof DocumentTooLarge other wrong also = absurd wrong
   one_wrong_proof TooManyChains other wrong also = absurd wrong
+  one_wrong_proof LastsForever other wrong also = absurd wrong
   one_wrong_proof Limit other wrong also = absurd wrong
   one_wrong_proof (Proof told) Memory wrong also = absurd also
   one_wrong_proof (Proof told) (Board other) wrong also = absurd also
@@ -215,6 +217,7 @@ module _ (board : PlainBoard) (text : List ℕ) (is_board : IsBoard board) where
   one_wrong_proof (Proof told) Write wrong also = absurd also
   one_wrong_proof (Proof told) DocumentTooLarge wrong also = absurd also
   one_wrong_proof (Proof told) TooManyChains wrong also = absurd also
+  one_wrong_proof (Proof told) LastsForever wrong also = absurd also
   one_wrong_proof (Proof told) Limit wrong also = absurd also
   one_wrong_proof TooLarge Memory wrong also = absurd also
   one_wrong_proof TooLarge (Board other) wrong also = absurd also
@@ -223,4 +226,5 @@ module _ (board : PlainBoard) (text : List ℕ) (is_board : IsBoard board) where
   one_wrong_proof TooLarge Write wrong also = absurd also
   one_wrong_proof TooLarge DocumentTooLarge wrong also = absurd also
   one_wrong_proof TooLarge TooManyChains wrong also = absurd also
+  one_wrong_proof TooLarge LastsForever wrong also = absurd also
   one_wrong_proof TooLarge Limit wrong also = absurd also

@@ -1,7 +1,11 @@
 -- The faults of a run that a solver of a board with few classes gives, that of a document which
 -- isn't made, and of a solved text.
-use Rattle.std.proofs.Common.{◌≡◌, ◌<◌, ◌≤◌, ℕ, List, refl, sym, subst}
+use Rattle.std.proofs.Common.{◌≡◌, ◌<◌, ◌≤◌, ℕ, List, Option, refl, sym, subst}
+use Rattle.positions.specs.declared.side.Side.{Side}
 use Rattle.board_text.specs.PlainBoard.{PlainBoard}
+use Rattle.positions.specs.Value.{HasValue}
+use Rattle.positions.specs.declared.value.Value.{Value}
+use Rattle.strategies.specs.Sides.{HasStrategy}
 use Rattle.classes.specs.Numbers.{class_count}
 use Rattle.solver.specs.declared.fault.SolveFault.{SolveFault}
 use Rattle.solver.specs.declared.fault.SolveFault.TheVariants as solve
@@ -12,7 +16,7 @@ use Rattle.command_line.specs.declared.asked.BoardLimit.{BoardLimit}
 use Rattle.command_line.specs.declared.asked.BoardLimit.TheVariants.{Small}
 use Rattle.runs.specs.declared.fault.RunFault.{RunFault}
 use Rattle.runs.specs.declared.fault.RunFault.TheVariants.{Board, TooLarge, Proof, Memory, Worker, Read, Write, Limit}
-use Rattle.runs.specs.declared.fault.RunFault.TheVariants.{DocumentTooLarge, TooManyChains}
+use Rattle.runs.specs.declared.fault.RunFault.TheVariants.{DocumentTooLarge, LastsForever, TooManyChains}
 use Rattle.runs.specs.Inside.Faults.{fault_of_making, fault_of_solving}
 use Rattle.runs.specs.declared.checking.TheConstants.{MAX_PROOF_BYTES}
 use Rattle.strategies.specs.ClassDocument.{CannotBeMade}
@@ -39,10 +43,11 @@ refused_some workers board solve.Worker told is small several enough =
     subst (IsRefused Small workers board) (sym is) (refl, several refl, enough_classes board (enough refl))
 
 -- why a document by classes wasn't made
-pub unshown_made : (board : PlainBoard) (fault : Unmade) (told : RunFault) → told ≡ fault_of_making fault
-    → CannotBeMade board MAX_PROOF_BYTES fault → IsUnshown board told
-unshown_made board unmade.Memory told is made = subst (IsUnshown board) (sym is) tt
-unshown_made board unmade.TooLong told is made = subst (IsUnshown board) (sym is) made
+pub unshown_made : (side : Option Side) (board : PlainBoard) (fault : Unmade) (told : RunFault)
+    → ((value : Value) → HasValue board board.start value → HasStrategy side value)
+    → told ≡ fault_of_making fault → CannotBeMade side board MAX_PROOF_BYTES fault → IsUnshown side board told
+unshown_made side board unmade.Memory told strategy is made = subst (IsUnshown side board) (sym is) tt
+unshown_made side board unmade.TooLong told strategy is made = subst (IsUnshown side board) (sym is) (strategy, made)
 
 -- a fault of one worker is one that several workers can give
 pub any_worker : (limit : BoardLimit) (workers : ℕ) (text : List ℕ) (fault : RunFault) → HasNoneWithin limit text fault
@@ -56,4 +61,5 @@ any_worker limit workers text Read h = absurd h
 any_worker limit workers text Write h = absurd h
 any_worker limit workers text DocumentTooLarge h = absurd h
 any_worker limit workers text TooManyChains h = absurd h
+any_worker limit workers text LastsForever h = absurd h
 any_worker limit workers text Limit h = absurd h

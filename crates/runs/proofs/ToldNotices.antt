@@ -2,7 +2,7 @@
 use Rattle.std.proofs.Common.{◌≡◌, ◌∙◌, ◌<◌, ◌≤◌, ◌⊎◌, Bool, true, false, List, [], ◌∷◌, ◌++◌, ℕ, suc, ap, append-nil}
 use Rattle.std.proofs.Common.{inl, inr, le-ltb, lt-ltb, refl, subst, sym}
 use Rattle.std.proofs.lemmas.Bool.{cases_lt}
-use Rattle.std.specs.Prelude.{codes, Err, IfErr, IfOk, MatchResult, Ok, OnErr, OnOk, is_err, Option, Result}
+use Rattle.std.specs.Prelude.{codes, Err, IfErr, IfOk, MatchResult, Ok, OnErr, OnOk, is_err, None, Option, Result, Some}
 use Rattle.std.specs.Prelude.{if◌then◌else◌}
 use Rattle.board_text.specs.PlainBoard.{PlainBoard}
 use Rattle.board_text.specs.declared.memory.Memory.{Memory as MemoryFault}
@@ -15,13 +15,16 @@ use Rattle.positions.specs.declared.space.TheConstants.{MAX_CONFIGURATIONS}
 use Rattle.runs.specs.Notices.{AreAllRounds, AreRoundsTold, IsNoticedInRun, IsNoticedOfText, is_told_of, notice_for}
 use Rattle.runs.specs.Notices.{bytes_words, round_line, size_notice, tenths_of, tenths_words}
 use Rattle.runs.specs.Run.{Bytes, Fails, Gave, Ran}
-use Rattle.runs.specs.SolveRun.{CannotSolve, IsSolution}
+use Rattle.runs.specs.LimitedSolveRun.{CannotSolveWithin, SolutionWithin}
+use Rattle.runs.specs.SolveRun.{CannotSolve}
 use Rattle.runs.specs.Texts.{HasNoneWithin, IsBoardWithin}
 use Rattle.command_line.specs.declared.asked.BoardLimit.{BoardLimit}
-use Rattle.command_line.specs.declared.asked.BoardLimit.TheVariants.{Small}
+use Rattle.command_line.specs.declared.asked.BoardLimit.TheVariants.{Large, Small}
+use Rattle.positions.specs.declared.side.Side.{Side}
 use Rattle.positions.specs.declared.value.Value.{Value}
 use Rattle.runs.specs.declared.fault.RunFault.{RunFault}
-use Rattle.runs.specs.declared.fault.RunFault.TheVariants.{Board, DocumentTooLarge, TooManyChains, Limit, Memory, Proof}
+use Rattle.runs.specs.declared.fault.RunFault.TheVariants.{Board, DocumentTooLarge, LastsForever, Limit, Memory, Proof}
+use Rattle.runs.specs.declared.fault.RunFault.TheVariants.{TooManyChains}
 use Rattle.runs.specs.declared.fault.RunFault.TheVariants.{Read}
 use Rattle.runs.specs.declared.fault.RunFault.TheVariants.{TooLarge, Worker, Write}
 use Rattle.runs.specs.declared.reading.TheConstants.{MAX_BOARD_BYTES}
@@ -212,11 +215,36 @@ unsolved workers text Worker cannot = inr (cannot.2.0, cannot.2.1)
 unsolved workers text (Board fault) cannot = inl cannot
 unsolved workers text TooLarge cannot = inl cannot
 unsolved workers text DocumentTooLarge cannot = inl cannot
+unsolved workers text LastsForever cannot = inl cannot
 unsolved workers text TooManyChains cannot = inl cannot
 unsolved workers text (Proof fault) cannot = inl cannot
 unsolved workers text Read cannot = inl cannot
 unsolved workers text Write cannot = inl cannot
 unsolved workers text Limit cannot = inl cannot
+
+not_large : ◌≡◌ {A = BoardLimit} Small Large → ⊥
+not_large same = cc
+
+unsolved_for : (side : Option Side) (workers : ℕ) (text : List ℕ) (fault : RunFault)
+    → CannotSolveWithin Small side workers text fault
+    → HasNoneWithin Small text fault ⊎ ((board : PlainBoard) × IsBoardWithin Small text board)
+unsolved_for None workers text fault cannot = unsolved workers text fault cannot
+unsolved_for (Some side) workers text LastsForever cannot = inr (cannot.1.0, cannot.1.1)
+unsolved_for (Some side) workers text DocumentTooLarge cannot = absurd (not_large cannot.0)
+unsolved_for (Some side) workers text Memory cannot = inl tt
+unsolved_for (Some side) workers text Worker cannot = unsolved workers text Worker cannot
+unsolved_for (Some side) workers text (Board fault) cannot = inl cannot
+unsolved_for (Some side) workers text TooLarge cannot = inl cannot
+unsolved_for (Some side) workers text TooManyChains cannot = inl cannot
+unsolved_for (Some side) workers text (Proof fault) cannot = inl cannot
+unsolved_for (Some side) workers text Read cannot = inl cannot
+unsolved_for (Some side) workers text Write cannot = inl cannot
+unsolved_for (Some side) workers text Limit cannot = inl cannot
+
+solved_board : (side : Option Side) (text : List ℕ) (value : Value) (written : List ℕ)
+    → SolutionWithin Small side text value written → (board : PlainBoard) × IsBoardWithin Small text board
+solved_board None text value written is = (is.0, is.1)
+solved_board (Some side) text value written is = (is.board, is.within)
 
 module _ (read : Bytes) (shows : Bool) where
   of_board : (result : Result Value RunFault) (text : List ℕ) (board : PlainBoard) → Gave MAX_BOARD_BYTES read text
@@ -230,20 +258,23 @@ module _ (read : Bytes) (shows : Bool) where
         small_board shows board within.few ∙ sym (append-nil (notice_for shows board)),
       )
 
-  pub solved_unnoticed : (workers : ℕ) (written : Bytes) (result : Result Value RunFault)
-      → IfOk result (Ran IsSolution MAX_BOARD_BYTES read written)
-      → IfErr result (Fails IsSolution (CannotSolve Small workers) MAX_BOARD_BYTES read written)
+  pub solved_unnoticed : (side : Option Side) (workers : ℕ) (written : Bytes) (result : Result Value RunFault)
+      → IfOk result (Ran (SolutionWithin Small side) MAX_BOARD_BYTES read written)
+      → IfErr result (Fails (SolutionWithin Small side) (CannotSolveWithin Small side workers) MAX_BOARD_BYTES read
+      written)
       → IsNoticedInRun Small read shows result []
-  solved_unnoticed workers written (Ok value) (text, gave, wrote) fails =
-      of_board (Ok value) text wrote.1.0 gave wrote.1.1
-  solved_unnoticed workers written (Err fault) ran (inl unread) = inr (fault, refl, inl unread, refl)
-  solved_unnoticed workers written (Err fault) ran (inr (inl (text, gave, cannot))) =
-      by (unsolved workers text fault cannot)
+  solved_unnoticed side workers written (Ok value) (text, gave, wrote) fails =
+      let there = solved_board side text value wrote.0 wrote.1 in
+      of_board (Ok value) text there.0 gave there.1
+  solved_unnoticed side workers written (Err fault) ran (inl unread) = inr (fault, refl, inl unread, refl)
+  solved_unnoticed side workers written (Err fault) ran (inr (inl (text, gave, cannot))) =
+      by (unsolved_for side workers text fault cannot)
     where
       by : HasNoneWithin Small text fault ⊎ ((board : PlainBoard) × IsBoardWithin Small text board)
           → IsNoticedInRun {Answer = Value} Small read shows (Err fault) []
       by (inl missing) = inr (fault, refl, inr (text, gave, missing), refl)
       by (inr (board, within)) = of_board (Err fault) text board gave within
-  solved_unnoticed workers written (Err fault) ran
+  solved_unnoticed side workers written (Err fault) ran
       (inr (inr (text, value, gave, begun, write))) =
-      of_board (Err fault) text begun.1.0 gave begun.1.1
+      let there = solved_board side text value begun.0 begun.1 in
+      of_board (Err fault) text there.0 gave there.1

@@ -1,5 +1,5 @@
 -- Solutions of texts by classes, and the faults of texts without one.
-use Rattle.std.specs.Prelude.{◌≡◌, ℕ, ◌≤◌, List, length}
+use Rattle.std.specs.Prelude.{◌≡◌, ℕ, ◌≤◌, List, None, length}
 use Rattle.board_text.specs.PlainBoard.{PlainBoard}
 use Rattle.strategies.specs.ClassDocument.{HasLongText, IsClassDocumentOf}
 use Rattle.proof_text.specs.ProofText.{class_text}
@@ -29,7 +29,7 @@ IsClassSolution text value written =
 
 -- the board's document by classes has a longer text than a check reads
 abbrev pub HasLongDocument : PlainBoard → Type 0
-HasLongDocument board = HasLongText board MAX_PROOF_BYTES
+HasLongDocument board = HasLongText None board MAX_PROOF_BYTES
 
 -- the fault of a text without such a solution: that of its document, or of the text
 abbrev pub IsUnsolvedByClasses : List ℕ → RunFault → Type 0

@@ -8,6 +8,7 @@ pub mod Meaning
 pub mod BoardRun
 pub mod CheckRun
 pub mod NestedText
+pub mod SideSolveRun
 pub mod SolveRun
 pub mod ClassSolveRun
 pub mod LimitedSolveRun

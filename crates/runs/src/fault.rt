@@ -24,6 +24,8 @@ pub enum RunFault {
     TooLarge,
     /// The document by classes of the board has more than `MAX_PROOF_BYTES` bytes.
     DocumentTooLarge,
+    /// The adversary's side alone is asked for, and requests are answered for ever from the start.
+    LastsForever,
     /// The board has more than `MAX_CHAINS` chains of one length.
     TooManyChains,
     /// The text of the document has a fault.

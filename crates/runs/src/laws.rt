@@ -18,6 +18,8 @@ ghost use Rattle.strategies.specs.Meaning.{Means};
 ghost use Rattle.runs.specs.Report.{Report as CountReport, IsReport, IsReportOf, IsReportOfText};
 ghost use Rattle.runs.specs.Run.{Bytes, Ran};
 ghost use Rattle.runs.specs.SolveRun.{IsSolution, IsSolved};
+ghost use Rattle.positions.specs.declared.side.Side.{Side as SideData};
+ghost use Rattle.runs.specs.SideSolveRun.{IsSideSolution, IsUnsolvedFor};
 ghost use Rattle.runs.specs.Texts.{HasNoBoard, HasNoProof, IsMemory, IsSmallBoard, IsWrongBoard};
 ghost use Rattle.runs.specs.Texts.{IsBoardAmong, IsWrongWithin, OfAnySize};
 ghost use Rattle.runs.specs.ClassSolveRun.{IsClassSolution, IsUnsolvedByClasses};
@@ -168,6 +170,26 @@ pub fn class_solutions_are_accepted()
         → fault ≡ other }
     ensures not_both { (text : List ℕ) → (value : ValueData) → (written : List ℕ) → (fault : Fault)
         → IsClassSolution text value written → IsUnsolvedByClasses text fault → ⊥ }
+{}
+
+/// Each text of a board within a limit has one document for a side alone, and one value of its
+/// start, or one fault: requests are answered for ever and the adversary is asked for, or the
+/// document by classes is longer than a check reads. Any other text has one fault, and no text has
+/// both a document and a fault.
+pub fn side_solution_or_fault()
+    ensures one { (limit : Limit) → (side : SideData) → (text : List ℕ) → (value : ValueData)
+        → (worth : ValueData) → (written : List ℕ) → (other : List ℕ)
+        → IsSideSolution limit side text value written → IsSideSolution limit side text worth other
+        → (value ≡ worth) × (written ≡ other) }
+    ensures either { (limit : Limit) → (side : SideData) → (text : List ℕ)
+        → ((value : ValueData) × (written : List ℕ) × IsSideSolution limit side text value written)
+        ⊎ ((fault : Fault) × IsUnsolvedFor limit side text fault) }
+    ensures one_fault { (limit : Limit) → (side : SideData) → (text : List ℕ) → (fault : Fault)
+        → (other : Fault) → IsUnsolvedFor limit side text fault
+        → IsUnsolvedFor limit side text other → fault ≡ other }
+    ensures not_both { (limit : Limit) → (side : SideData) → (text : List ℕ) → (value : ValueData)
+        → (written : List ℕ) → (fault : Fault) → IsSideSolution limit side text value written
+        → IsUnsolvedFor limit side text fault → ⊥ }
 {}
 
 /// The counts of a report add up to the number of configurations.

@@ -31,8 +31,8 @@ pub use fault::RunFault;
 pub use joined::{board_length, one_board_length};
 pub use laws::{
     accepted_claims_hold, class_solutions_are_accepted, limits, printed_documents_are_accepted,
-    report_or_fault, reports_add_up, solution_or_fault, solved_boards_show_their_value,
-    written_documents_mean_the_value,
+    report_or_fault, reports_add_up, side_solution_or_fault, solution_or_fault,
+    solved_boards_show_their_value, written_documents_mean_the_value,
 };
 pub use nesting::run_nested;
 pub use playing::{Playing, run_climb, run_play};

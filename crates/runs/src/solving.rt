@@ -1,13 +1,17 @@
 //! Solving a board: its document, from the text of the board to the bytes written.
 
-ghost use Rattle.std.specs.Prelude.{◌≡◌, ◌≤◌, true, false, IfOk, IfErr, flat_map};
+ghost use Rattle.std.specs.Prelude.{◌≡◌, ◌≤◌, true, false, IfOk, IfErr, OnOk, flat_map};
 ghost use Rattle.board_text.specs.Ranges.{InRange};
 ghost use Rattle.classes.specs.Numbers.{class_count};
 ghost use Rattle.graphs.specs.Numbered.{numbered};
 ghost use Rattle.positions.specs.Ranks.{configurations};
+ghost use Rattle.positions.specs.Value.{HasValue};
+ghost use Rattle.positions.specs.declared.value.Value.{Value as ValueData};
+ghost use Rattle.strategies.specs.Sides.{HasStrategy};
+ghost use Rattle.runs.specs.LimitedSolveRun.{CannotSolveWithin, SolutionWithin};
 ghost use Rattle.runs.specs.Run.{Ran, Fails, TellsStreams, bytes_of, stream_of};
 ghost use Rattle.runs.specs.SolveRun.{CannotSolve, IsSolution, IsSolved};
-ghost use Rattle.runs.specs.Inside.SolveRun.{IsRefused};
+ghost use Rattle.runs.specs.Inside.SolveRun.{IsRefused, IsSolvedFor, IsUnmade};
 ghost use Rattle.runs.specs.Texts.{HasNoBoard, IsMemory};
 
 use crate::boards::small_board;
@@ -19,7 +23,7 @@ use classes::MAX_CLASSES;
 use command_line::BoardLimit;
 use gap_values::GapValues;
 use graphs::Numbering;
-use positions::{MAX_CONFIGURATIONS, Space, Value};
+use positions::{MAX_CONFIGURATIONS, Side, Space, Value};
 use round_workers::{MAX_WORKERS, NoGate, solve_classes};
 use solver::NumberedValues;
 use std::alloc::Global;
@@ -80,8 +84,32 @@ pub fn run_solve<R: Source, W: Sink>(
     ensures streams { TellsStreams result (R.has_failed reader.new ≡ true)
         (stream_of W.contents W.has_failed writer.old writer.new) }
 {
+    solve_small(rt, alloc, workers, None, reader, writer)
+}
+
+/// The same for `side` alone, or for both.
+pub(crate) fn solve_small<R: Source, W: Sink>(
+    rt: &(impl Threads + Wait + Sync),
+    alloc: Global,
+    workers: u8,
+    side: Option<Side>,
+    reader: &mut R,
+    writer: &mut W,
+) -> Result<Value, RunFault>
+    requires workers { InRange 1 MAX_WORKERS workers }
+    requires reader_ready { R.has_failed reader.old ≡ false }
+    requires reader_unended { R.has_ended reader.old ≡ false }
+    requires writer_ready { W.has_failed writer.old ≡ false }
+    ensures ok { IfOk result (Ran (SolutionWithin BoardLimit.Small side) MAX_BOARD_BYTES
+        (bytes_of R.remaining reader.old reader.new) (bytes_of W.contents writer.old writer.new)) }
+    ensures fault { IfErr result (Fails (SolutionWithin BoardLimit.Small side)
+        (CannotSolveWithin BoardLimit.Small side workers) MAX_BOARD_BYTES
+        (bytes_of R.remaining reader.old reader.new) (bytes_of W.contents writer.old writer.new)) }
+    ensures streams { TellsStreams result (R.has_failed reader.new ≡ true)
+        (stream_of W.contents W.has_failed writer.old writer.new) }
+{
     let text = read_text(alloc, reader, MAX_BOARD_BYTES)?;
-    let solved = solve_text(rt, alloc, workers, text.as_slice())?;
+    let solved = solve_text(rt, alloc, workers, side, text.as_slice())?;
     write_parts(writer, &solved.parts)?;
     Ok(solved.value)
 }
@@ -106,26 +134,30 @@ pub fn solve_text_alone(alloc: Global, text: &[u8]) -> Result<Solved, RunFault>
     Ok(solution(alloc, &GapMoves::new(&board, &values))?)
 }
 
-/// The same as `solve_text_alone`, found by this number of `workers`, 1 to `MAX_WORKERS`. It may
-/// wait for them.
+/// The same as `solve_text_alone` for `side` alone, or for both, found by this number of `workers`,
+/// 1 to `MAX_WORKERS`. It may wait for them.
 pub(crate) fn solve_text(
     rt: &(impl Threads + Wait + Sync),
     alloc: Global,
     workers: u8,
+    side: Option<Side>,
     text: &[u8],
 ) -> Result<Solved, RunFault>
     requires workers { InRange 1 MAX_WORKERS workers }
-    ensures ok { IfOk result (λ solved.
-        IsSolution text.now solved.value (flat_map (λ part. part.items) solved.parts.items)) }
-    ensures fault { IfErr result (CannotSolve BoardLimit.Small workers text.now) }
+    ensures ok { IfOk result (λ solved. SolutionWithin BoardLimit.Small side
+        text.now solved.value (flat_map (λ part. part.items) solved.parts.items)) }
+    ensures fault { IfErr result (CannotSolveWithin BoardLimit.Small side workers text.now) }
 {
-    if workers == 1 {
+    if workers == 1 && side.is_none() {
         return solve_text_alone(alloc, text);
     }
     let board = small_board(alloc, text)?;
+    if workers == 1 {
+        let gaps = GapValues::of(alloc, &board)?;
+        return solution_for(rt, alloc, &GapMoves::new(&board, &gaps), side, 1);
+    }
     let values = numbered_by(rt, alloc, workers, &board)?;
-    let moves = NumberedMoves::new(&board, &values);
-    Ok(solution_in_parts(rt, alloc, &moves, workers)?)
+    solution_for(rt, alloc, &NumberedMoves::new(&board, &values), side, workers)
 }
 
 /// The value of the start of the board of `moves`, and the text of the board's document.
@@ -139,27 +171,43 @@ fn solution<M: Moves>(alloc: Global, moves: &M) -> Result<Solved, Memory>
     Ok(Solved { value, parts })
 }
 
-/// The same, with the lines of the document's rows made in this number of `parts`.
-fn solution_in_parts<M: Moves>(
+/// The same for `side` alone, or for both, with the lines of the document's rows made in this
+/// number of `parts`.
+fn solution_for<M: Moves>(
     rt: &(impl Threads + Sync),
     alloc: Global,
     moves: &M,
+    side: Option<Side>,
     parts: u8,
-) -> Result<Solved, Memory>
+) -> Result<Solved, RunFault>
     requires few { configurations (M.board moves.now) ≤ MAX_CONFIGURATIONS }
     requires parts { 1 ≤ parts }
-    ensures { IfOk result (λ solved. IsSolved (M.board moves.now) solved.value
+    ensures ok { IfOk result (λ solved. IsSolvedFor side (M.board moves.now) solved.value
         (flat_map (λ part. part.items) solved.parts.items)) }
+    ensures fault { IfErr result (IsUnmade side (M.board moves.now)) }
 {
+    expect_strategy(moves, side)?;
     let space = Space::new(moves.board());
-    let DocumentText { value, parts } = document_text_in_parts(
-        rt,
-        alloc,
-        moves,
-        &space,
-        parts as u32,
-    )?;
+    let parts = parts as u32;
+    let made = document_text_in_parts(rt, alloc, moves, &space, side, parts)?;
+    let DocumentText { value, parts } = made;
     Ok(Solved { value, parts })
+}
+
+/// That `side`, or both, has a strategy on the value of the start: an adversary has none if
+/// requests are answered for ever.
+pub(crate) fn expect_strategy<M: Moves>(moves: &M, side: Option<Side>) -> Result<(), RunFault>
+    ensures ok { OnOk result ((value : ValueData)
+        → HasValue (M.board moves.now) (M.board moves.now).start value → HasStrategy side value) }
+    ensures fault { IfErr result (IsUnmade side (M.board moves.now)) }
+{
+    if side != Some(Side::Adversary) {
+        return Ok(());
+    }
+    match moves.value(moves.board().start()) {
+        Value::Finite(_) => Ok(()),
+        Value::Forever => Err(RunFault::LastsForever),
+    }
 }
 
 /// The values of a board, by this number of workers, which share the rounds over its graph.

@@ -9,10 +9,10 @@ ghost use Rattle.runs.specs.Run.{Ran, Fails, TellsStreams, bytes_of, stream_of};
 
 use crate::fault::RunFault;
 use crate::reading::MAX_BOARD_BYTES;
-use crate::solving::run_solve;
+use crate::solving::solve_small;
 use board_text::{Sink, Source};
 use command_line::BoardLimit;
-use positions::Value;
+use positions::{Side, Value};
 use round_workers::MAX_WORKERS;
 use std::alloc::Global;
 use std::sync::Wait;
@@ -46,7 +46,8 @@ impl Work {
     }
 
     /// Reads a board and writes the document of its value: for a small board as `run_solve` does,
-    /// and for one that may be large its document by classes, which a check reads and accepts. The
+    /// and for one that may be large its document by classes, which a check reads and accepts. With
+    /// a `side` it has the rows of that side alone, and the part of the claim that they show. The
     /// bytes written are the same for every number of workers. A person is told on `errors` what
     /// is to be told.
     ///
@@ -57,6 +58,7 @@ impl Work {
         self,
         rt: &(impl Threads + Wait + Sync),
         alloc: Global,
+        side: Option<Side>,
         reader: &mut R,
         writer: &mut W,
         errors: &mut E,
@@ -65,11 +67,11 @@ impl Work {
         requires reader_ready { R.has_failed reader.old ≡ false }
         requires reader_unended { R.has_ended reader.old ≡ false }
         requires writer_ready { W.has_failed writer.old ≡ false }
-        ensures ok { IfOk result (Ran (SolutionWithin self.limit) MAX_BOARD_BYTES
+        ensures ok { IfOk result (Ran (SolutionWithin self.limit side) MAX_BOARD_BYTES
             (bytes_of R.remaining reader.old reader.new)
             (bytes_of W.contents writer.old writer.new)) }
-        ensures fault { IfErr result (Fails (SolutionWithin self.limit)
-            (CannotSolveWithin self.limit self.workers) MAX_BOARD_BYTES
+        ensures fault { IfErr result (Fails (SolutionWithin self.limit side)
+            (CannotSolveWithin self.limit side self.workers) MAX_BOARD_BYTES
             (bytes_of R.remaining reader.old reader.new)
             (bytes_of W.contents writer.old writer.new)) }
         ensures streams { TellsStreams result (R.has_failed reader.new ≡ true)
@@ -79,8 +81,8 @@ impl Work {
             × IsMore E.contents E.has_failed errors.old errors.new told }
     {
         match self.limit {
-            BoardLimit::Small => run_solve(rt, alloc, self.workers, reader, writer),
-            BoardLimit::Large => self.solve_large(rt, alloc, reader, writer, errors),
+            BoardLimit::Small => solve_small(rt, alloc, self.workers, side, reader, writer),
+            BoardLimit::Large => self.solve_large(rt, alloc, side, reader, writer, errors),
         }
     }
 }

@@ -2,7 +2,7 @@
 use Rattle.std.proofs.Common.{◌≡◌, ◌≢◌, ◌∙◌, ◌&&◌, ℕ, ◌<◌, ◌≤◌, ◌⊎◌, inl, inr, Bool, true, false, true≢false, List, []}
 use Rattle.std.proofs.Common.{◌++◌, length, Option, Some, None}
 use Rattle.std.proofs.Common.{codes, refl, sym, ap, subst, arith, append-nil}
-use Rattle.std.specs.Prelude.{Result, Ok, Err, MatchResult, string_bytes, ◌||◌}
+use Rattle.std.specs.Prelude.{Result, Ok, Err, MatchResult, option_map, string_bytes, ◌||◌}
 use Rattle.clap.specs.Kinds.{IsAmong, Kinds}
 use Rattle.clap.specs.declared.error.kind.ErrorKind.{ErrorKind}
 use Rattle.clap.specs.declared.error.kind.ErrorKind.TheVariants as kinds
@@ -17,15 +17,16 @@ use Rattle.board_text.specs.BoardFaults.{HasBoardFault}
 use Rattle.board_text.specs.declared.fault.BoardFault.{BoardFault}
 use Rattle.runs.proofs.Cited.{not_wrong, not_wrong_among, one_length, one_report, one_solution, one_verdict, one_wrong}
 use Rattle.runs.proofs.Cited.{class_solution_or_fault, one_class_solution, one_unsolved, one_wrong_among}
-use Rattle.runs.proofs.Cited.{one_wrong_proof, verdict_or_fault}
+use Rattle.runs.proofs.Cited.{one_side_solution, one_unsolved_for, one_wrong_proof, side_solution_or_fault}
+use Rattle.runs.proofs.Cited.{verdict_or_fault}
 use Rattle.runs.proofs.Cited.{chains_or_fault, one_chain_fault, one_chains, one_starts, wrong_counting}
 use Rattle.runs.specs.ChainText.{CannotCountChains, HasNoChains, SaysChains}
 use Rattle.runs.specs.ClassSolveRun.{CannotSolveByClasses, IsClassSolution, IsUnsolvedByClasses}
 use Rattle.std.proofs.Common.{take}
 use Rattle.command_line.specs.Commands.{program}
 use Rattle.command_line.specs.Explaining.{asks_to_explain, words_of_job}
-use Rattle.command_line.specs.Reading.{AsksFor, AsksForVersion, HasFlag, HasNumber, IsReadAs, ShowsWords, is_large}
-use Rattle.command_line.specs.Reading.{side_word}
+use Rattle.command_line.specs.Reading.{AsksFor, AsksForVersion, HasFlag, HasNumber, HasSide, IsReadAs, ShowsWords}
+use Rattle.command_line.specs.Reading.{is_large, side_word}
 use Rattle.command_line.specs.declared.asked.Job.{Job}
 use Rattle.command_line.specs.declared.asked.Job.TheVariants as jobs
 use Rattle.command_line.specs.declared.asked.JobFault.{JobFault}
@@ -62,6 +63,7 @@ use Rattle.serving.specs.Serving.{ServesAnyWords, ServesWords, is_typed, lacks_i
 use Rattle.serving.specs.Telling.{IsToldInJob}
 use Rattle.serving.proofs.Untold.{nothing_in_job}
 use Rattle.serving.specs.Servings.{AreKnown, AskForNoExplanation, HaveOwnText}
+use Rattle.runs.specs.SideSolveRun.{CannotSolveFor, IsSideSolution, IsUnsolvedFor}
 use Rattle.runs.specs.SolveRun.{CannotSolve, IsSolution}
 use Rattle.runs.specs.Texts.{HasNoneAmong, HasNoProof, IsBoardAmong, IsBoardWithin, IsWrongAmong, IsWrongBoard}
 use Rattle.runs.specs.Texts.{IsWithinLimit, IsWrongProof, IsWrongWithin, OfAnySize}
@@ -72,7 +74,7 @@ use Rattle.runs.specs.declared.checking.TheConstants.{MAX_JOINED_BYTES, MAX_PROO
 use Rattle.runs.specs.declared.reading.TheConstants.{MAX_BOARD_BYTES}
 use Rattle.runs.specs.declared.fault.RunFault.{RunFault}
 use Rattle.runs.specs.declared.fault.RunFault.TheVariants.{Board, TooLarge, Proof, Memory, Worker, Read, Write, Limit}
-use Rattle.runs.specs.declared.fault.RunFault.TheVariants.{DocumentTooLarge, TooManyChains}
+use Rattle.runs.specs.declared.fault.RunFault.TheVariants.{DocumentTooLarge, LastsForever, TooManyChains}
 use Rattle.serving.specs.declared.outcome.Outcome.{Outcome}
 use Rattle.serving.specs.declared.outcome.Outcome.TheVariants.{Broken, Done, Refused}
 use Rattle.console.specs.declared.streams.Terminals.{Terminals}
@@ -104,6 +106,7 @@ wrong_solving limit workers text Read h = absurd h
 wrong_solving limit workers text Write h = absurd h
 wrong_solving limit workers text DocumentTooLarge h = absurd h
 wrong_solving limit workers text TooManyChains h = absurd h
+wrong_solving limit workers text LastsForever h = absurd h
 wrong_solving limit workers text Limit h = absurd h
 
 wrong_class_solving : (text : List ℕ) (fault : RunFault) → CannotSolveByClasses text fault
@@ -114,10 +117,26 @@ wrong_class_solving text (Board fault) h = inr (inr h)
 wrong_class_solving text TooLarge h = inr (inr h)
 wrong_class_solving text DocumentTooLarge h = inr (inr h)
 wrong_class_solving text TooManyChains h = absurd h
+wrong_class_solving text LastsForever h = absurd h
 wrong_class_solving text (Proof fault) h = absurd h
 wrong_class_solving text Read h = absurd h
 wrong_class_solving text Write h = absurd h
 wrong_class_solving text Limit h = absurd h
+
+wrong_side_solving : (limit : BoardLimit) (side : Side) (workers : ℕ) (text : List ℕ) (fault : RunFault)
+    → CannotSolveFor limit side workers text fault
+    → (fault ≡ Memory) ⊎ (fault ≡ Worker) ⊎ IsUnsolvedFor limit side text fault
+wrong_side_solving limit side workers text Memory h = inl refl
+wrong_side_solving limit side workers text Worker h = inr (inl refl)
+wrong_side_solving limit side workers text (Board fault) h = inr (inr h)
+wrong_side_solving limit side workers text TooLarge h = inr (inr h)
+wrong_side_solving limit side workers text DocumentTooLarge h = inr (inr h)
+wrong_side_solving limit side workers text LastsForever h = inr (inr h)
+wrong_side_solving limit side workers text TooManyChains h = absurd h
+wrong_side_solving limit side workers text (Proof fault) h = absurd h
+wrong_side_solving limit side workers text Read h = absurd h
+wrong_side_solving limit side workers text Write h = absurd h
+wrong_side_solving limit side workers text Limit h = absurd h
 
 wrong_board : (IsSmall : PlainBoard → Type 0) (text : List ℕ) (fault : RunFault) → HasNoneAmong IsSmall text fault
     → (fault ≡ Memory) ⊎ IsWrongAmong IsSmall text fault
@@ -130,6 +149,7 @@ wrong_board IsSmall text Read h = absurd h
 wrong_board IsSmall text Write h = absurd h
 wrong_board IsSmall text DocumentTooLarge h = absurd h
 wrong_board IsSmall text TooManyChains h = absurd h
+wrong_board IsSmall text LastsForever h = absurd h
 wrong_board IsSmall text Limit h = absurd h
 
 wrong_proof : (board : PlainBoard) (text : List ℕ) (fault : RunFault) → HasNoProof board text fault
@@ -143,6 +163,7 @@ wrong_proof board text Read h = absurd h
 wrong_proof board text Write h = absurd h
 wrong_proof board text DocumentTooLarge h = absurd h
 wrong_proof board text TooManyChains h = absurd h
+wrong_proof board text LastsForever h = absurd h
 wrong_proof board text Limit h = absurd h
 
 one_check : (board : PlainBoard) (text : List ℕ) → IsBoard board → (verdict other : Verdict) (line more : List ℕ)
@@ -369,6 +390,7 @@ module _ (text : List ℕ) where
   wrong_joined Write h = inr (inr h)
   wrong_joined DocumentTooLarge h = inr (inr h)
   wrong_joined TooManyChains h = inr (inr h)
+  wrong_joined LastsForever h = inr (inr h)
   wrong_joined Limit h = inr (inr h)
 
   -- a text that begins with a board's has no fault of a board's text
@@ -399,6 +421,7 @@ module _ (text : List ℕ) where
   wrong_text_is Write h = inr h
   wrong_text_is DocumentTooLarge h = inr h
   wrong_text_is TooManyChains h = inr h
+  wrong_text_is LastsForever h = inr h
   wrong_text_is Limit h = inr h
 
   one_board_text_fault : (told other : BoardFault) → IsWrongText text (Board told) → IsWrongText text (Board other)
@@ -649,6 +672,28 @@ module _ (limit : BoardLimit) (side : Side) (input output : Stream) (lines taken
 names_differ : (name other : Text) → bytes_eq name other ≡ false → name ≡ other → ⊥
 names_differ name other differ same = true≢false (sym ((bytes_eq-Decides name other).1 same) ∙ differ)
 
+some_text : {x y : Text} → ◌≡◌ {A = Option Text} (Some x) (Some y) → x ≡ y
+some_text same = cc
+
+no_text : {x : Text} → ◌≡◌ {A = Option Text} (Some x) None → ⊥
+no_text same = cc
+
+-- one side at most was given
+sides_alike : (side next : Side) → side_word side ≡ side_word next → side ≡ next
+sides_alike Labeller Labeller same = refl
+sides_alike Adversary Adversary same = refl
+sides_alike Labeller Adversary same = absurd (names_differ (codes "labeller") (codes "adversary") refl same)
+sides_alike Adversary Labeller same = absurd (names_differ (codes "adversary") (codes "labeller") refl same)
+
+one_of_sides : (side other : Option Side) → option_map side_word side ≡ option_map side_word other → side ≡ other
+one_of_sides None None same = refl
+one_of_sides (Some side) (Some other) same = ap Some (sides_alike side other (some_text same))
+one_of_sides None (Some other) same = absurd (no_text (sym same))
+one_of_sides (Some side) None same = absurd (no_text same)
+
+same_side : (rows : List Row) (side other : Option Side) → HasSide rows side → HasSide rows other → side ≡ other
+same_side rows side other has also = one_of_sides side other (sym has ∙ also)
+
 -- ---- two runs of one job
 
 -- two runs end with one outcome, and the same bytes
@@ -706,23 +751,31 @@ module _ (at : List ℕ → File) (known : AreKnown at) (input output other_inpu
       (opened Says CannotToo IsWrong wrong_too other_output taken had_too other fair_too also.1 (at second)
       (known second) unread_too also.0)
 
-  two_solved : (workers more : ℕ) (limit : BoardLimit) (path second : List ℕ) → path ≡ second
+  two_solved : (workers more : ℕ) (side : Option Side) (limit : BoardLimit) (path second : List ℕ) → path ≡ second
       → (outcome ≡ Broken Read → CanFail (at path)) → (other ≡ Broken Read → CanFail (at second))
-      → Solves workers limit (at path) output outcome → Solves more limit (at second) other_output other
+      → Solves workers side limit (at path) output outcome → Solves more side limit (at second) other_output other
       → AreAlike outcome other output other_output
-  two_solved workers more Small path second same unread unread_too is also =
+  two_solved workers more None Small path second same unread unread_too is also =
       two_solved_as IsSolution (CannotSolve Small workers) (CannotSolve Small more) IsWrongBoard
       (wrong_solving Small workers) (wrong_solving Small more)
       (λ bytes. one_end outcome_of_run IsSolution IsWrongBoard MAX_BOARD_BYTES bytes (solving_one bytes)
       (one_wrong Small bytes)
       (λ answer line fault says wrong. not_wrong Small bytes says.0 says.1 fault wrong))
       path second same unread unread_too is also
-  two_solved workers more Large path second same unread unread_too is also =
+  two_solved workers more None Large path second same unread unread_too is also =
       two_solved_as IsClassSolution CannotSolveByClasses CannotSolveByClasses IsUnsolvedByClasses
       wrong_class_solving wrong_class_solving
       (λ bytes. one_end outcome_of_run IsClassSolution IsUnsolvedByClasses MAX_BOARD_BYTES bytes
       (λ answer other line more is also. (refl, (one_class_solution bytes answer other line more is also).1))
       (one_unsolved bytes) (class_solution_or_fault bytes))
+      path second same unread unread_too is also
+  two_solved workers more (Some side) limit path second same unread unread_too is also =
+      two_solved_as (IsSideSolution limit side) (CannotSolveFor limit side workers) (CannotSolveFor limit side more)
+      (IsUnsolvedFor limit side) (wrong_side_solving limit side workers) (wrong_side_solving limit side more)
+      (λ bytes. one_end outcome_of_run (IsSideSolution limit side) (IsUnsolvedFor limit side) MAX_BOARD_BYTES bytes
+      (λ answer other line more is also.
+      (refl, (one_side_solution limit side bytes answer other line more is also).1))
+      (one_unsolved_for limit side bytes) (side_solution_or_fault limit side bytes))
       path second same unread unread_too is also
 
   two_counted : (workers more : ℕ) (limit : BoardLimit) (path second : List ℕ) → path ≡ second
@@ -840,12 +893,6 @@ module _ (at : List ℕ → File) (known : AreKnown at) (input output other_inpu
       (play_known (PersonClimbs more) other_input other_output lines taken had_lines_too.old had_too other
       (plain_of other fair_too (λ e. had_lines_too.sound (unread_too e))) also)
 
-  same_side : (side next : Side) → side_word side ≡ side_word next → side ≡ next
-  same_side Labeller Labeller same = refl
-  same_side Adversary Adversary same = refl
-  same_side Labeller Adversary same = absurd (names_differ (codes "labeller") (codes "adversary") refl same)
-  same_side Adversary Labeller same = absurd (names_differ (codes "adversary") (codes "labeller") refl same)
-
   same_number : (rows : List Row) (id : Text) (most n m : ℕ) → HasNumber rows id most n → HasNumber rows id most m
       → n ≡ m
   same_number rows id most n m is also = let same = sym is.0 ∙ also.0 in cc
@@ -885,7 +932,7 @@ module _ (at : List ℕ → File) (known : AreKnown at) (input output other_inpu
       is.unread also.unread is.does.0 also.does.0
   two_done name rows (jobs.Check b p) (jobs.Nested ol oq) asks asks_too is also =
       absurd (names_differ (codes "check") (codes "nested") refl (sym asks.0 ∙ asks_too.0))
-  two_done name rows (jobs.Check b p) (jobs.Solve ow og ob) asks asks_too is also =
+  two_done name rows (jobs.Check b p) (jobs.Solve ow os og ob) asks asks_too is also =
       absurd (names_differ (codes "check") (codes "solve") refl (sym asks.0 ∙ asks_too.0))
   two_done name rows (jobs.Check b p) (jobs.Report ow og ob) asks asks_too is also =
       absurd (names_differ (codes "check") (codes "report") refl (sym asks.0 ∙ asks_too.0))
@@ -904,7 +951,7 @@ module _ (at : List ℕ → File) (known : AreKnown at) (input output other_inpu
       two_nested l q ol oq (same_number rows (codes "levels") _ l ol asks.1 asks_too.1)
       (same_number rows (codes "pebbles") _ q oq asks.2 asks_too.2)
       is.does.0 also.does.0
-  two_done name rows (jobs.Nested l q) (jobs.Solve ow og ob) asks asks_too is also =
+  two_done name rows (jobs.Nested l q) (jobs.Solve ow os og ob) asks asks_too is also =
       absurd (names_differ (codes "nested") (codes "solve") refl (sym asks.0 ∙ asks_too.0))
   two_done name rows (jobs.Nested l q) (jobs.Report ow og ob) asks asks_too is also =
       absurd (names_differ (codes "nested") (codes "report") refl (sym asks.0 ∙ asks_too.0))
@@ -916,32 +963,32 @@ module _ (at : List ℕ → File) (known : AreKnown at) (input output other_inpu
       absurd (names_differ (codes "nested") (codes "play") refl (sym asks.0 ∙ asks_too.0))
   two_done name rows (jobs.Nested l q) (jobs.Climb ol) asks asks_too is also =
       absurd (names_differ (codes "nested") (codes "climb") refl (sym asks.0 ∙ asks_too.0))
-  two_done name rows (jobs.Solve w g b) jobs.Joined asks asks_too is also = absurd asks_too
-  two_done name rows (jobs.Solve w g b) (jobs.Check ob op) asks asks_too is also =
+  two_done name rows (jobs.Solve w s g b) jobs.Joined asks asks_too is also = absurd asks_too
+  two_done name rows (jobs.Solve w s g b) (jobs.Check ob op) asks asks_too is also =
       absurd (names_differ (codes "solve") (codes "check") refl (sym asks.0 ∙ asks_too.0))
-  two_done name rows (jobs.Solve w g b) (jobs.Nested ol oq) asks asks_too is also =
+  two_done name rows (jobs.Solve w s g b) (jobs.Nested ol oq) asks asks_too is also =
       absurd (names_differ (codes "solve") (codes "nested") refl (sym asks.0 ∙ asks_too.0))
-  two_done name rows (jobs.Solve w g b) (jobs.Solve ow og ob) asks asks_too is also =
-      two_solved w ow og b.now ob.now (same_path _ b.now ob.now asks.3 asks_too.3) is.unread also.unread
-      (subst (λ l. Solves w l (at b.now) output outcome)
-      (same_limit rows g og asks.2 asks_too.2) is.does.0)
+  two_done name rows (jobs.Solve w s g b) (jobs.Solve ow os og ob) asks asks_too is also =
+      two_solved w ow os og b.now ob.now (same_path _ b.now ob.now asks.4 asks_too.4) is.unread also.unread
+      (subst (λ l. Solves w os l (at b.now) output outcome) (same_limit rows g og asks.3 asks_too.3)
+      (subst (λ t. Solves w t g (at b.now) output outcome) (same_side rows s os asks.2 asks_too.2) is.does.0))
       also.does.0
-  two_done name rows (jobs.Solve w g b) (jobs.Report ow og ob) asks asks_too is also =
+  two_done name rows (jobs.Solve w s g b) (jobs.Report ow og ob) asks asks_too is also =
       absurd (names_differ (codes "solve") (codes "report") refl (sym asks.0 ∙ asks_too.0))
-  two_done name rows (jobs.Solve w g b) (jobs.Starts ow og ob) asks asks_too is also =
+  two_done name rows (jobs.Solve w s g b) (jobs.Starts ow og ob) asks asks_too is also =
       absurd (names_differ (codes "solve") (codes "starts") refl (sym asks.0 ∙ asks_too.0))
-  two_done name rows (jobs.Solve w g b) (jobs.Chains ow om ob) asks asks_too is also =
+  two_done name rows (jobs.Solve w s g b) (jobs.Chains ow om ob) asks asks_too is also =
       absurd (names_differ (codes "solve") (codes "chains") refl (sym asks.0 ∙ asks_too.0))
-  two_done name rows (jobs.Solve w g b) (jobs.Play os og ob) asks asks_too is also =
+  two_done name rows (jobs.Solve w s g b) (jobs.Play os og ob) asks asks_too is also =
       absurd (names_differ (codes "solve") (codes "play") refl (sym asks.0 ∙ asks_too.0))
-  two_done name rows (jobs.Solve w g b) (jobs.Climb ol) asks asks_too is also =
+  two_done name rows (jobs.Solve w s g b) (jobs.Climb ol) asks asks_too is also =
       absurd (names_differ (codes "solve") (codes "climb") refl (sym asks.0 ∙ asks_too.0))
   two_done name rows (jobs.Report w g b) jobs.Joined asks asks_too is also = absurd asks_too
   two_done name rows (jobs.Report w g b) (jobs.Check ob op) asks asks_too is also =
       absurd (names_differ (codes "report") (codes "check") refl (sym asks.0 ∙ asks_too.0))
   two_done name rows (jobs.Report w g b) (jobs.Nested ol oq) asks asks_too is also =
       absurd (names_differ (codes "report") (codes "nested") refl (sym asks.0 ∙ asks_too.0))
-  two_done name rows (jobs.Report w g b) (jobs.Solve ow og ob) asks asks_too is also =
+  two_done name rows (jobs.Report w g b) (jobs.Solve ow os og ob) asks asks_too is also =
       absurd (names_differ (codes "report") (codes "solve") refl (sym asks.0 ∙ asks_too.0))
   two_done name rows (jobs.Report w g b) (jobs.Report ow og ob) asks asks_too is also =
       two_counted w ow og b.now ob.now (same_path _ b.now ob.now asks.3 asks_too.3) is.unread also.unread
@@ -961,7 +1008,7 @@ module _ (at : List ℕ → File) (known : AreKnown at) (input output other_inpu
       absurd (names_differ (codes "starts") (codes "check") refl (sym asks.0 ∙ asks_too.0))
   two_done name rows (jobs.Starts w g b) (jobs.Nested ol oq) asks asks_too is also =
       absurd (names_differ (codes "starts") (codes "nested") refl (sym asks.0 ∙ asks_too.0))
-  two_done name rows (jobs.Starts w g b) (jobs.Solve ow og ob) asks asks_too is also =
+  two_done name rows (jobs.Starts w g b) (jobs.Solve ow os og ob) asks asks_too is also =
       absurd (names_differ (codes "starts") (codes "solve") refl (sym asks.0 ∙ asks_too.0))
   two_done name rows (jobs.Starts w g b) (jobs.Report ow og ob) asks asks_too is also =
       absurd (names_differ (codes "starts") (codes "report") refl (sym asks.0 ∙ asks_too.0))
@@ -981,7 +1028,7 @@ module _ (at : List ℕ → File) (known : AreKnown at) (input output other_inpu
       absurd (names_differ (codes "chains") (codes "check") refl (sym asks.0 ∙ asks_too.0))
   two_done name rows (jobs.Chains w m b) (jobs.Nested ol oq) asks asks_too is also =
       absurd (names_differ (codes "chains") (codes "nested") refl (sym asks.0 ∙ asks_too.0))
-  two_done name rows (jobs.Chains w m b) (jobs.Solve ow og ob) asks asks_too is also =
+  two_done name rows (jobs.Chains w m b) (jobs.Solve ow os og ob) asks asks_too is also =
       absurd (names_differ (codes "chains") (codes "solve") refl (sym asks.0 ∙ asks_too.0))
   two_done name rows (jobs.Chains w m b) (jobs.Report ow og ob) asks asks_too is also =
       absurd (names_differ (codes "chains") (codes "report") refl (sym asks.0 ∙ asks_too.0))
@@ -999,7 +1046,7 @@ module _ (at : List ℕ → File) (known : AreKnown at) (input output other_inpu
       absurd (names_differ (codes "play") (codes "check") refl (sym asks.0 ∙ asks_too.0))
   two_done name rows (jobs.Play s g b) (jobs.Nested ol oq) asks asks_too is also =
       absurd (names_differ (codes "play") (codes "nested") refl (sym asks.0 ∙ asks_too.0))
-  two_done name rows (jobs.Play s g b) (jobs.Solve ow og ob) asks asks_too is also =
+  two_done name rows (jobs.Play s g b) (jobs.Solve ow os og ob) asks asks_too is also =
       absurd (names_differ (codes "play") (codes "solve") refl (sym asks.0 ∙ asks_too.0))
   two_done name rows (jobs.Play s g b) (jobs.Report ow og ob) asks asks_too is also =
       absurd (names_differ (codes "play") (codes "report") refl (sym asks.0 ∙ asks_too.0))
@@ -1008,7 +1055,7 @@ module _ (at : List ℕ → File) (known : AreKnown at) (input output other_inpu
   two_done name rows (jobs.Play s g b) (jobs.Chains ow om ob) asks asks_too is also =
       absurd (names_differ (codes "play") (codes "chains") refl (sym asks.0 ∙ asks_too.0))
   two_done name rows (jobs.Play s g b) (jobs.Play os og ob) asks asks_too is also =
-      two_played og s os b.now ob.now (same_side s os (same_path _ (side_word s) (side_word os) asks.1 asks_too.1))
+      two_played og s os b.now ob.now (sides_alike s os (same_path _ (side_word s) (side_word os) asks.1 asks_too.1))
       (same_path _ b.now ob.now asks.3 asks_too.3) is.unread also.unread
       (subst (λ l. Plays s l (at b.now) input output outcome)
       (same_limit rows g og asks.2 asks_too.2) is.does)
@@ -1020,7 +1067,7 @@ module _ (at : List ℕ → File) (known : AreKnown at) (input output other_inpu
       absurd (names_differ (codes "climb") (codes "check") refl (sym asks.0 ∙ asks_too.0))
   two_done name rows (jobs.Climb l) (jobs.Nested ol oq) asks asks_too is also =
       absurd (names_differ (codes "climb") (codes "nested") refl (sym asks.0 ∙ asks_too.0))
-  two_done name rows (jobs.Climb l) (jobs.Solve ow og ob) asks asks_too is also =
+  two_done name rows (jobs.Climb l) (jobs.Solve ow os og ob) asks asks_too is also =
       absurd (names_differ (codes "climb") (codes "solve") refl (sym asks.0 ∙ asks_too.0))
   two_done name rows (jobs.Climb l) (jobs.Report ow og ob) asks asks_too is also =
       absurd (names_differ (codes "climb") (codes "report") refl (sym asks.0 ∙ asks_too.0))
@@ -1143,7 +1190,7 @@ typed_by_name : (name : Text) (rows : List Row) (job : Job) → AsksFor name row
 typed_by_name name rows jobs.Joined asks = absurd asks
 typed_by_name name rows (jobs.Check b p) asks = rw asks.0 refl
 typed_by_name name rows (jobs.Nested l p) asks = rw asks.0 refl
-typed_by_name name rows (jobs.Solve w g b) asks = rw asks.0 refl
+typed_by_name name rows (jobs.Solve w s g b) asks = rw asks.0 refl
 typed_by_name name rows (jobs.Report w g b) asks = rw asks.0 refl
 typed_by_name name rows (jobs.Starts w g b) asks = rw asks.0 refl
 typed_by_name name rows (jobs.Chains w m b) asks = rw asks.0 refl

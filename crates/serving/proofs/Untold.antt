@@ -107,7 +107,7 @@ module _ (at : List ℕ → File) (terminals : Terminals) (off : terminals.error
   nothing_in_job (Check board proof) told (inr (b, p, opens, opens_too, after)) =
       uncounted terminals.errors off (RanCheck MAX_BOARD_BYTES MAX_PROOF_BYTES b p output.bytes) outcome told after
   nothing_in_job (Nested levels pebbles) told is = is
-  nothing_in_job (Solve workers limit board) told is = size_untold limit (at board.now) told is
+  nothing_in_job (Solve workers side limit board) told is = size_untold limit (at board.now) told is
   nothing_in_job (Report workers limit board) told is = size_untold limit (at board.now) told is
   nothing_in_job (Starts workers limit board) told is = size_untold limit (at board.now) told is
   nothing_in_job (Chains workers most board) told is =

@@ -8,7 +8,8 @@ use Rattle.proof_text.specs.declared.fault.ProofKind.{ProofKind}
 use Rattle.proof_text.specs.declared.fault.ProofKind.TheVariants as proof_kinds
 use Rattle.runs.specs.declared.fault.RunFault.{RunFault}
 use Rattle.runs.specs.declared.fault.RunFault.TheVariants.{Board, TooLarge, Proof, Memory, Worker}
-use Rattle.runs.specs.declared.fault.RunFault.TheVariants.{DocumentTooLarge, TooManyChains, Read}
+use Rattle.runs.specs.declared.fault.RunFault.TheVariants.{DocumentTooLarge, LastsForever}
+use Rattle.runs.specs.declared.fault.RunFault.TheVariants.{TooManyChains, Read}
 use Rattle.runs.specs.declared.fault.RunFault.TheVariants.{Write, Limit}
 
 -- the name of a kind of fault of a board
@@ -49,6 +50,7 @@ abbrev pub line_of_fault : RunFault → List ℕ
 line_of_fault (Board fault) = line_at (codes "board") fault.line (name_of_board_kind fault.kind)
 line_of_fault TooLarge = with_line_feed (codes "board too large")
 line_of_fault DocumentTooLarge = with_line_feed (codes "document too large")
+line_of_fault LastsForever = with_line_feed (codes "start lasts forever")
 line_of_fault TooManyChains = with_line_feed (codes "too many chains")
 line_of_fault (Proof fault) = line_at (codes "proof") fault.line (name_of_proof_kind fault.kind)
 line_of_fault Memory = with_line_feed (codes "out of memory")

@@ -1,5 +1,5 @@
 -- Jobs: from the files and standard input to standard output.
-use Rattle.std.specs.Prelude.{◌≡◌, ◌≢◌, ℕ, ◌⊎◌, ◌↔◌, List}
+use Rattle.std.specs.Prelude.{◌≡◌, ◌≢◌, ℕ, ◌⊎◌, ◌↔◌, List, Option}
 use Rattle.command_line.specs.declared.asked.Job.{Job}
 use Rattle.command_line.specs.declared.asked.Job.TheVariants.{Joined, Check, Nested, Solve, Report}
 use Rattle.command_line.specs.declared.asked.Job.TheVariants.{Starts, Chains}
@@ -61,12 +61,12 @@ Checks board proof output outcome =
     (CheckFails MAX_BOARD_BYTES MAX_PROOF_BYTES (p.new ≡ p.old) b p output.bytes) outcome))
     × WritesWhole output outcome
 
--- the board was solved by this number of workers
-abbrev pub Solves : ℕ → BoardLimit → File → Stream → Outcome → Type 0
-Solves workers limit board output outcome =
+-- the board was solved by this number of workers, for the side alone or for both
+abbrev pub Solves : ℕ → Option Side → BoardLimit → File → Stream → Outcome → Type 0
+Solves workers side limit board output outcome =
     Opening board output.IsKept (λ read. EndsAs outcome_of_run
-    (Ran (SolutionWithin limit) MAX_BOARD_BYTES read output.bytes)
-    (Fails (SolutionWithin limit) (CannotSolveWithin limit workers) MAX_BOARD_BYTES read
+    (Ran (SolutionWithin limit side) MAX_BOARD_BYTES read output.bytes)
+    (Fails (SolutionWithin limit side) (CannotSolveWithin limit side workers) MAX_BOARD_BYTES read
     output.bytes)) outcome
     × WritesWhole output outcome
 
@@ -127,8 +127,8 @@ module _ (at : List ℕ → File) (input output : Stream) where
       Checks (at board.now) (at proof.now) output outcome × input.IsKept
   DoesJob (Nested levels pebbles) outcome =
       WritesNested levels pebbles output outcome × input.IsKept
-  DoesJob (Solve workers limit board) outcome =
-      Solves workers limit (at board.now) output outcome × input.IsKept
+  DoesJob (Solve workers side limit board) outcome =
+      Solves workers side limit (at board.now) output outcome × input.IsKept
   DoesJob (Report workers limit board) outcome =
       Counts workers limit (at board.now) output outcome × input.IsKept
   DoesJob (Starts workers limit board) outcome =
@@ -143,7 +143,7 @@ module _ (at : List ℕ → File) (input output : Stream) where
   CanBeUnread Joined = input.HasFailed
   CanBeUnread (Check board proof) = CanFail (at board.now) ⊎ CanFail (at proof.now)
   CanBeUnread (Nested levels pebbles) = ⊥
-  CanBeUnread (Solve workers limit board) = CanFail (at board.now)
+  CanBeUnread (Solve workers side limit board) = CanFail (at board.now)
   CanBeUnread (Report workers limit board) = CanFail (at board.now)
   CanBeUnread (Starts workers limit board) = CanFail (at board.now)
   CanBeUnread (Chains workers most board) = CanFail (at board.now)

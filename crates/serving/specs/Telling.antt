@@ -92,7 +92,7 @@ module _ (at : List ℕ → File) (terminals : Terminals) (input output : Stream
   IsToldInJob (Check board proof) told =
       IsToldOfFiles terminals.errors (at board.now) (at proof.now) output.bytes outcome told
   IsToldInJob (Nested levels pebbles) told = told ≡ []
-  IsToldInJob (Solve workers limit board) told = OpensAndTells {Answer = Value} (at board.now)
+  IsToldInJob (Solve workers side limit board) told = OpensAndTells {Answer = Value} (at board.now)
       (λ read. IsNoticedInRun limit read terminals.errors) outcome told
   IsToldInJob (Report workers limit board) told = OpensAndTells {Answer = Unit {0}} (at board.now)
       (λ read. IsNoticedInRun limit read terminals.errors) outcome told

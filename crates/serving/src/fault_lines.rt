@@ -25,6 +25,7 @@ pub(crate) fn fault_line(fault: RunFault) -> FaultLine
         RunFault::Board(fault) => line_at("board", fault.line, board_kind_name(fault.kind)),
         RunFault::TooLarge => line("board too large"),
         RunFault::DocumentTooLarge => line("document too large"),
+        RunFault::LastsForever => line("start lasts forever"),
         RunFault::TooManyChains => line("too many chains"),
         RunFault::Proof(fault) => line_at("proof", fault.line, proof_kind_name(fault.kind)),
         RunFault::Memory => line("out of memory"),

@@ -34,6 +34,7 @@ use runs::{
     Chaining, JoinedRun, MAX_BOARD_BYTES, Playing, RunFault, Verdict, Work, run_check, run_climb,
     run_keeping_text, run_nested,
 };
+use positions::Side;
 use std::alloc::Global;
 use std::sync::Wait;
 use std::thread::Threads;
@@ -124,6 +125,7 @@ pub(crate) fn carry_out<'a, F: Folder, I: Source, O: Sink, E: Sink>(
         }
         Job::Solve {
             workers,
+            side,
             limit,
             board,
         } => {
@@ -132,7 +134,7 @@ pub(crate) fn carry_out<'a, F: Folder, I: Source, O: Sink, E: Sink>(
                 limit,
                 shows_size,
             };
-            solve(rt, alloc, work, files, board, console)
+            solve(rt, alloc, work, side, files, board, console)
         }
         Job::Report {
             workers,
@@ -309,11 +311,12 @@ fn write_nested<O: Sink>(alloc: Global, levels: u8, pebbles: u8, output: &mut O)
     Ended::of(outcome, &Inputs::without_files(None))
 }
 
-/// Solves the board at a path.
+/// Solves the board at a path, for `side` alone or for both.
 fn solve<'a, F: Folder, I: Source, O: Sink, E: Sink>(
     rt: &(impl Threads + Wait + Sync),
     alloc: Global,
     work: Work,
+    side: Option<Side>,
     files: &Files<'_, F>,
     board: &'a str,
     console: &mut Console<I, O, E>,
@@ -321,7 +324,7 @@ fn solve<'a, F: Folder, I: Source, O: Sink, E: Sink>(
     requires workers { InRange 1 MAX_WORKERS work.workers }
     requires output_ready { O.has_failed console.old.output ≡ false }
     ensures kept { console.new.input ≡ console.old.input }
-    ensures done { Solves work.workers work.limit (F.at files.now.folder.now board.now)
+    ensures done { Solves work.workers side work.limit (F.at files.now.folder.now board.now)
         (stream_of O.contents O.has_failed console.old.output console.new.output) result.outcome }
     ensures writes { TellsWrites
         (stream_of O.contents O.has_failed console.old.output console.new.output) result.outcome }
@@ -337,6 +340,7 @@ fn solve<'a, F: Folder, I: Source, O: Sink, E: Sink>(
     let solved = work.solve(
         rt,
         alloc,
+        side,
         &mut reader,
         &mut console.output,
         &mut console.errors,

@@ -1,4 +1,4 @@
--- The classes added at a step: the result of a best answer, or those of all answers to a best request.
+-- The normal places added at a step: the result of a best answer, or those of all answers to a best request.
 use Rattle.std.proofs.Common.{◌≡◌, ℕ, ◌<◌, ◌≤◌, List, Option, Some, None, MatchOption, sym, ap, ◌∙◌, subst, arith}
 use Rattle.board_text.specs.PlainBoard.{PlainBoard, IsConfiguration}
 use Rattle.positions.specs.declared.value.Value.{Value}
@@ -13,11 +13,10 @@ use Rattle.strategies.specs.Inside.ReachedRanks.{IsWith, IsWithAll}
 use Rattle.strategies.proofs.AddedRanks.{Below, added_known, added_one, added_same, below_all}
 use Rattle.strategies.proofs.BestAnswers.{same_answer}
 use Rattle.strategies.proofs.ValueOrder.{worthless}
-use Rattle.proof_text.specs.Arranged.{arranged}
-use Rattle.strategies.specs.Inside.ReachedClasses.{class_numbered, number_of_class_at, IsClassAnswerStep}
+use Rattle.strategies.specs.Inside.NormalForm.{IsNormalForm}
+use Rattle.strategies.specs.Inside.ReachedClasses.{class_numbered, normal_number, IsClassAnswerStep}
 use Rattle.strategies.specs.Inside.ReachedClasses.{ClassAnswerLeads}
 use Rattle.strategies.specs.Inside.ReachedClasses.{ClassRequestLeads, IsOnlyOne}
-use Rattle.strategies.proofs.LikePebbles.{arranged-value}
 
 -- the one number of which a fact holds is added, if there is one
 pub found_added : (numbers more : List ℕ) (P : ℕ → Type 0) (found : Option ℕ) → IsOnlyOne P found
@@ -28,9 +27,10 @@ found_added numbers more P None none same =
 
 -- ---- the best answer to one request
 
-module _ (board : PlainBoard) (from : List ℕ) (pebble : ℕ) where
+module _ (board : PlainBoard) (normal : List ℕ → List ℕ) (form : IsNormalForm board normal) (from : List ℕ)
+    (pebble : ℕ) where
   pub no_answer : ((label : ℕ) → Legal board from pebble label → ⊥)
-      → IsOnlyOne (IsClassAnswerStep board from pebble) None
+      → IsOnlyOne (IsClassAnswerStep board normal from pebble) None
   no_answer none = λ to step. none step.label step.best.0.legal
 
   module _ (label : ℕ) (best : IsBestAnswer board from pebble label) (value : Value)
@@ -38,18 +38,18 @@ module _ (board : PlainBoard) (from : List ℕ) (pebble : ℕ) where
     is_next : IsConfiguration board (moved from pebble label)
     is_next = moved_is_configuration board from pebble label best.0.legal.is_label is
 
-    has_next : HasValue board (arranged board.labels (moved from pebble label)) value
-    has_next = arranged-value board (moved from pebble label) is_next value has
+    has_next : HasValue board (normal (moved from pebble label)) value
+    has_next = form.same_value (moved from pebble label) is_next value has
 
-    pub worthless_result : ¬ IsLess (Finite 0) value → IsOnlyOne (IsClassAnswerStep board from pebble) None
+    pub worthless_result : ¬ IsLess (Finite 0) value → IsOnlyOne (IsClassAnswerStep board normal from pebble) None
     worthless_result not = λ to step.
         let same : step.label ≡ label = same_answer board from pebble step.label label step.best best in
-        worthless board (arranged board.labels (moved from pebble label)) value has_next not
-        (subst (λ (l : ℕ). IsAnswerable board (arranged board.labels (moved from pebble l))) same step.some)
+        worthless board (normal (moved from pebble label)) value has_next not
+        (subst (λ (l : ℕ). IsAnswerable board (normal (moved from pebble l))) same step.some)
 
     pub result_is : pebble < board.pebbles → IsLess (Finite 0) value → (to : ℕ)
-        → to ≡ number_of_class_at board (moved from pebble label)
-        → IsOnlyOne (IsClassAnswerStep board from pebble) (Some to)
+        → to ≡ normal_number board normal (moved from pebble label)
+        → IsOnlyOne (IsClassAnswerStep board normal from pebble) (Some to)
     result_is is_pebble some to to_is = (
       record {
         is_pebble = is_pebble;
@@ -60,23 +60,25 @@ module _ (board : PlainBoard) (from : List ℕ) (pebble : ℕ) where
       },
       λ other step.
           let same : step.label ≡ label = same_answer board from pebble step.label label step.best best in
-          step.to_is ∙ ap (λ (l : ℕ). number_of_class_at board (moved from pebble l)) same ∙ sym to_is,
+          step.to_is ∙ ap (λ (l : ℕ). normal_number board normal (moved from pebble l)) same ∙ sym to_is,
     )
 
 -- the best answers to all requests
-pub answers_added : (board : PlainBoard) (number bound : ℕ) (numbers more : List ℕ) → board.pebbles ≤ bound
-    → IsWithAll numbers (Below (IsClassAnswerStep board (class_numbered board number)) bound) more
-    → IsWithAll numbers (ClassAnswerLeads board number) more
-answers_added board number bound numbers more end added =
-    let step = IsClassAnswerStep board (class_numbered board number) in
-    added_same numbers more (Below step bound) (ClassAnswerLeads board number)
+pub answers_added : (board : PlainBoard) (normal : List ℕ → List ℕ) (number bound : ℕ) (numbers more : List ℕ) →
+    board.pebbles ≤ bound
+    → IsWithAll numbers (Below (IsClassAnswerStep board normal (class_numbered board number)) bound) more
+    → IsWithAll numbers (ClassAnswerLeads board normal number) more
+answers_added board normal number bound numbers more end added =
+    let step = IsClassAnswerStep board normal (class_numbered board number) in
+    added_same numbers more (Below step bound) (ClassAnswerLeads board normal number)
     (λ to. below_all step bound to
     (λ pebble is. let low : pebble < board.pebbles = is.is_pebble in omega (arith, low, end))) added
 
 -- ---- the best request
 
-pub no_request_added : (board : PlainBoard) (number : ℕ) (numbers : List ℕ)
+pub no_request_added : (board : PlainBoard) (normal : List ℕ → List ℕ) (number : ℕ) (numbers : List ℕ)
     → IsSmallest (LowersValue board (class_numbered board number)) None
-    → IsWithAll numbers (ClassRequestLeads board number) numbers
-no_request_added board number numbers none =
-    added_known numbers (ClassRequestLeads board number) (λ to leads. absurd (none leads.1.pebble leads.1.best.0))
+    → IsWithAll numbers (ClassRequestLeads board normal number) numbers
+no_request_added board normal number numbers none =
+    added_known numbers (ClassRequestLeads board normal number) (λ to leads. absurd (none leads.1.pebble
+    leads.1.best.0))

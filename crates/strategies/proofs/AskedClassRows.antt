@@ -1,35 +1,137 @@
--- The adversary's rows of a document, where it has any.
-use Rattle.std.proofs.Common.{List, sym, subst, arith}
+-- Rows that were made if they are asked for are those of the document over normal places.
+use Rattle.std.proofs.Common.{◌≡◌, ℕ, Bool, true, false, true≢false, List, [], get_or, map, Option, Some, None, refl}
+use Rattle.std.proofs.Common.{sym, ap, ◌∙◌, subst, inl, inr}
 use Rattle.std.specs.List.{All}
 use Rattle.std.proofs.lemmas.List.Elements.{All-nil}
-use Rattle.board_text.specs.PlainBoard.{PlainBoard}
+use Rattle.board_text.specs.PlainBoard.{PlainBoard, IsConfiguration}
+use Rattle.positions.specs.Claim.{claim_of}
+use Rattle.positions.specs.Table.{AnswerRow, RequestRow}
+use Rattle.positions.specs.Value.{HasValue}
+use Rattle.positions.specs.declared.claim.Claim.{Claim}
+use Rattle.positions.specs.declared.side.Side.{Side as DocumentSide}
+use Rattle.positions.specs.declared.side.Side.TheVariants.{Adversary, Labeller}
 use Rattle.positions.specs.declared.value.Value.{Value}
 use Rattle.positions.specs.declared.value.Value.TheVariants.{Finite, Forever}
-use Rattle.strategies.specs.Document.{AsksAdversary}
-use Rattle.proof_text.specs.ClassProof.{IsClassPadded, class_request_rows}
+use Rattle.positions.proofs.Cited.{same_value}
+use Rattle.proof_text.specs.Arranged.{order_number}
+use Rattle.proof_text.specs.ClassProof.{class_answer_rows, class_request_rows}
+use Rattle.proof_text.specs.Positions.{normal_positions}
+use Rattle.proof_text.specs.Proof.{PlainProof, asks_adversary, asks_labeller}
 use Rattle.proof_text.specs.declared.class_proof.AdversaryClassRow.{AdversaryClassRow}
-use Rattle.strategies.specs.ClassDocument.{AreExactlyClasses, IsAdversaryClassRow}
-use Rattle.strategies.specs.Inside.ClassSide.{AreClassAdversaryRows}
+use Rattle.proof_text.specs.declared.class_proof.LabellerClassRow.{LabellerClassRow}
+use Rattle.strategies.specs.Inside.LongSections.{IsDocumentOverFor}
+use Rattle.strategies.specs.Inside.NormalForm.{IsNormalForm}
+use Rattle.strategies.specs.PositionDocument.{AreExactlyOver, IsAdversaryRowOver, IsDocumentOver, IsLabellerRowOver}
+use Rattle.strategies.specs.Document.{AsksAdversary}
+use Rattle.strategies.specs.Inside.ClassSide.{AreClassRowsIf, class_adversary_side, class_labeller_side}
+use Rattle.strategies.specs.Inside.Side.{Side}
+use Rattle.strategies.specs.Sides.{HasStrategy, claim_for, document_for}
+use Rattle.strategies.proofs.ClassDocumentForm.{adversary_asked}
+use Rattle.strategies.proofs.OneClassList.{same_rows}
+use Rattle.strategies.proofs.OneSide.{adversary_is, always_asked, asks_finite, claim_is, labeller_is}
+use Rattle.strategies.proofs.SomeClassDocument.{document_exists_over}
 
-pub asked_rows : (board : PlainBoard) (value : Value) (rows : List AdversaryClassRow)
-    → AreClassAdversaryRows board value rows
-    → AreExactlyClasses board (λ row. AsksAdversary value × IsAdversaryClassRow board row) (λ row. row.at)
-    (class_request_rows board rows)
-asked_rows board (Finite number) rows are = record {
-  each = λ row. (λ among. (tt, (are.exactly.each row).0 among), λ is. (are.exactly.each row).1 is.1);
-  ascending = are.exactly.ascending;
-}
-asked_rows board Forever rows none = subst
-    (λ (l : List AdversaryClassRow). AreExactlyClasses board (λ row. AsksAdversary Forever
-    × IsAdversaryClassRow board row)
-    (λ row. row.at) (class_request_rows board l)) (sym none) (record {
-      each = λ row. (λ among. absurd (omega (arith, among.1)), λ is. absurd is.0);
-      ascending = λ i j d less inside. absurd (omega (arith, inside));
-    })
+-- rows that aren't asked for are none
+labeller_none : (side : Option DocumentSide) (value : Value) (document : PlainProof)
+    → asks_labeller (claim_for side (claim_of value)) ≡ false → (document_for side document).labeller ≡ []
+labeller_none None value document none = absurd (true≢false (sym (always_asked value) ∙ none))
+labeller_none (Some Labeller) (Finite number) document none = absurd (true≢false none)
+labeller_none (Some Labeller) Forever document none = absurd (true≢false none)
+labeller_none (Some Adversary) value document none = refl
 
-pub asked_filled : (board : PlainBoard) (value : Value) (rows : List AdversaryClassRow)
-    → AreClassAdversaryRows board value rows → All (λ row. IsClassPadded board row.at) rows
-asked_filled board (Finite number) rows are = are.filled
-asked_filled board Forever rows none =
-    subst (All (λ (row : AdversaryClassRow). IsClassPadded board row.at)) (sym none) (All-nil
-    (λ row. IsClassPadded board row.at))
+module _ (board : PlainBoard) (normal : List ℕ → List ℕ) (document : PlainProof)
+    (is : IsDocumentOver (normal_positions normal) (order_number board.labels) board document) where
+  unasked : asks_adversary document.claim ≡ false → document.adversary ≡ []
+  unasked none = elim (adversary_asked (normal_positions normal) board document is) [
+    | inl asked ↦ absurd (true≢false (sym asked ∙ none))
+    | inr empty ↦ empty
+  ]
+
+  adversary_none : (side : Option DocumentSide) (value : Value) → is.value ≡ value → HasStrategy side value
+      → asks_adversary (claim_for side (claim_of value)) ≡ false → (document_for side document).adversary ≡ []
+  adversary_none None value same strategy none =
+      unasked (ap asks_adversary (is.claim ∙ ap claim_of same) ∙ none)
+  adversary_none (Some Labeller) value same strategy none = refl
+  adversary_none (Some Adversary) (Finite number) same strategy none = absurd (true≢false none)
+  adversary_none (Some Adversary) Forever same strategy none = absurd strategy
+
+-- rows that are the same if they are asked for, and none if not
+rows_if : {R X : Type 0} (board : PlainBoard) (side : Side R) (shown : R → X) (asked : Bool) (rows : List R)
+    (others : List X) → AreClassRowsIf asked board side rows
+    → (asked ≡ true → AreClassRowsIf true board side rows → map shown rows ≡ others)
+    → (asked ≡ false → others ≡ []) → map shown rows ≡ others
+rows_if board side shown true rows others are same none = same refl are
+rows_if board side shown false rows others are same none = ap (map shown) are ∙ sym (none refl)
+
+-- what is filled
+pub filled_if : {R : Type 0} (board : PlainBoard) (side : Side R) (P : R → Type 0) (asked : Bool) (rows : List R)
+    → ((row : R) → side.IsFilled row → P row) → AreClassRowsIf asked board side rows → All P rows
+filled_if board side P true rows filled are k d inside = filled (get_or rows k d) (are.filled k d inside)
+filled_if {R} board side P false rows filled are k d inside =
+    subst (λ (rs : List R). All P rs) (sym are) (All-nil P) k d inside
+
+-- a strategy on the start's value is one on that of its document
+pub strategy_is : (board : PlainBoard) (normal : List ℕ → List ℕ) (side : Option DocumentSide) (value : Value)
+    (document : PlainProof) (is : IsDocumentOver (normal_positions normal) (order_number board.labels) board document)
+    → HasValue board board.start value → HasStrategy side value → HasStrategy side is.value
+strategy_is board normal side value document is has strategy =
+    subst (HasStrategy side) (same_value board board.start value is.value has is.has_value) strategy
+
+module _ (board : PlainBoard) (normal : List ℕ → List ℕ) (form : IsNormalForm board normal)
+    (is_start : IsConfiguration board board.start) (side : Option DocumentSide) (value : Value)
+    (has : HasValue board board.start value) (strategy : HasStrategy side value) where
+  abbrev document : PlainProof
+  document = (document_exists_over board normal form is_start).0
+
+  abbrev is : IsDocumentOver (normal_positions normal) (order_number board.labels) board document
+  is = (document_exists_over board normal form is_start).1
+
+  abbrev same : is.value ≡ value
+  same = same_value board board.start is.value value is.has_value has
+
+  abbrev claim : Claim
+  claim = claim_for side (claim_of value)
+
+  pub made_is : (labeller : List LabellerClassRow) (adversary : List AdversaryClassRow)
+      → AreClassRowsIf (asks_labeller claim) board (class_labeller_side board normal value) labeller
+      → AreClassRowsIf (asks_adversary claim) board (class_adversary_side board normal value) adversary
+      → IsDocumentOverFor side board normal (record {
+        claim = claim;
+        labeller = class_answer_rows board labeller;
+        adversary = class_request_rows board adversary;
+      })
+  made_is labeller adversary answers requests =
+      let claims : (document_for side document).claim ≡ claim =
+      claim_is side document ∙ ap (claim_for side) (is.claim ∙ ap claim_of same) in
+      let labellers : class_answer_rows board labeller ≡ (document_for side document).labeller =
+      rows_if board (class_labeller_side board normal value) _ (asks_labeller claim) labeller _ answers
+      (λ asked are. same_rows board (IsLabellerRowOver (normal_positions normal) board value)
+      (λ (row : AnswerRow). row.at) (class_answer_rows board labeller) document.labeller are.exactly
+      (subst (λ (v : Value). AreExactlyOver (order_number board.labels)
+      (IsLabellerRowOver (normal_positions normal) board v) (λ (row : AnswerRow). row.at) document.labeller) same
+      is.labeller)
+      ∙ sym (labeller_is side value document strategy asked))
+      (labeller_none side value document) in
+      let adversarys : class_request_rows board adversary ≡ (document_for side document).adversary =
+      rows_if board (class_adversary_side board normal value) _ (asks_adversary claim) adversary _ requests
+      (λ asked are. same_rows board (IsAdversaryRowOver (normal_positions normal) board) (λ (row : RequestRow). row.at)
+      (class_request_rows board adversary) document.adversary are.exactly (all_asked asked)
+      ∙ sym (adversary_is side value document strategy asked))
+      (adversary_none board normal document is side value same strategy) in
+      let made : ◌≡◌ {A = PlainProof} (record {
+        claim = claim;
+        labeller = class_answer_rows board labeller;
+        adversary = class_request_rows board adversary;
+      }) (document_for side document) = rw (sym claims, labellers, adversarys) refl in
+      (document, is, made)
+    where
+      all_asked : asks_adversary claim ≡ true
+          → AreExactlyOver (order_number board.labels) (IsAdversaryRowOver (normal_positions normal) board)
+          (λ (row : RequestRow). row.at) document.adversary
+      all_asked asked = record {
+        each = λ row. (
+          λ among. ((is.adversary.each row).0 among).1,
+          λ is_row. (is.adversary.each row).1 (subst AsksAdversary (sym same) (asks_finite side value asked), is_row),
+        );
+        ascending = is.adversary.ascending;
+      }

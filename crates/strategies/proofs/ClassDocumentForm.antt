@@ -1,4 +1,4 @@
--- The document by classes of a board has the form of documents.
+-- The document of a board over normal places has the form of documents.
 use Rattle.std.proofs.Common.{◌≡◌, ◌⊎◌, ℕ, ◌-◌, ◌<◌, ◌≤◌, true, true≢false, List, [], ◌∷◌, length}
 use Rattle.std.proofs.Common.{get_or, slice_index, refl, sym, ap, ◌∙◌, subst, inl, inr, arith}
 use Rattle.std.specs.List.{All, Contains}
@@ -22,54 +22,50 @@ use Rattle.strategies.specs.Document.{IsAnswerMove, IsRequestMove, AsksAdversary
 use Rattle.strategies.proofs.ValueOrder.{at_least, less_than_finite}
 use Rattle.classes.specs.Numbers.{class_count, ways}
 use Rattle.classes.proofs.Cited.{ways-within}
-use Rattle.proof_text.specs.Arranged.{arranged}
+use Rattle.proof_text.specs.Arranged.{arranged, order_number}
+use Rattle.proof_text.specs.Positions.{Positions, normal_positions}
 use Rattle.proof_text.specs.ClassProof.{IsClassRequestRow}
 use Rattle.proof_text.specs.Documents.{IsClassProof}
+use Rattle.proof_text.specs.RowForm.{AreRows}
+use Rattle.proof_text.specs.Versions.{answers_by_classes, requests_by_classes}
 use Rattle.proof_text.specs.declared.class_proof.TheConstants.{MAX_CLASS_ROWS}
-use Rattle.proof_text.proofs.Cited.{arranged_is}
-use Rattle.strategies.specs.ClassDocument.{LeadsByClasses, IsLabellerClassRow, IsAdversaryClassRow}
+use Rattle.proof_text.proofs.Cited.{asked_is}
 use Rattle.strategies.specs.ClassDocument.{IsClassDocumentOf, FitsFormat}
-use Rattle.proof_text.proofs.Cited.{arranged-again}
+use Rattle.strategies.specs.Inside.NormalForm.{IsNormalForm}
+use Rattle.strategies.specs.PositionDocument.{IsAdversaryRowOver, IsDocumentOver, IsLabellerRowOver, LeadsOver}
 use Rattle.strategies.proofs.EveryClass.{IsArrangedAt}
 use Rattle.strategies.proofs.FewValues.{few_values}
 use Rattle.strategies.proofs.KeptClassRules.{start_is, start_value, answered_is, requested_is}
-use Rattle.strategies.proofs.LikePebbles.{arranged-value}
+use Rattle.strategies.proofs.NormalForms.{arranged_form}
+use Rattle.strategies.proofs.OneClassList.{adversarys_normal, labellers_normal}
 use Rattle.strategies.proofs.ShownClassClaims.{rows-few}
 
--- moves by classes lead to arranged places
-pub leads_arranged : (labels : ℕ) (IsMove : List ℕ → ℕ → ℕ
-    → Type 0) (from : List ℕ) (moves : List (ℕ × ℕ)) (to : List ℕ)
-    → arranged labels from ≡ from → LeadsByClasses labels IsMove from moves to → arranged labels to ≡ to
-leads_arranged labels IsMove from [] to is leads = subst (λ (c : List ℕ). arranged labels c ≡ c) leads is
-leads_arranged labels IsMove from ((pebble, label) ∷ moves) to is leads =
-    leads_arranged labels IsMove (arranged labels (moved from pebble label)) moves to
-    (arranged-again labels (moved from pebble label)) leads.1
-
 -- best requests don't raise the value
-no_more : (board : PlainBoard) (from : List ℕ) (moves : List (ℕ × ℕ)) (to : List ℕ) (number after : ℕ)
+no_more : (board : PlainBoard) (normal : List ℕ → List ℕ) (form : IsNormalForm board normal) (from : List ℕ)
+    (moves : List (ℕ × ℕ)) (to : List ℕ) (number after : ℕ)
     → IsConfiguration board from → HasValue board from (Finite number)
-    → LeadsByClasses board.labels (IsRequestMove board) from moves to → HasValue board to (Finite after)
+    → LeadsOver (normal_positions normal) (IsRequestMove board) from moves to → HasValue board to (Finite after)
     → after ≤ number
-no_more board from [] to number after is has leads other =
+no_more board normal form from [] to number after is has leads other =
     at_least board after number to other.0 (subst (λ (c : List ℕ). HasValue board c (Finite number)) leads has)
-no_more board from ((pebble, label) ∷ moves) to number after is has leads other =
+no_more board normal form from ((pebble, label) ∷ moves) to number after is has leads other =
     let next : List ℕ = moved from pebble label in
     let is_next : IsConfiguration board next =
     moved_is_configuration board from pebble label leads.0.legal.is_label is in
     let less = less_than_finite board number next from has (leads.0.best.0.lowers label leads.0.legal) in
-    let most : after ≤ less.0 = no_more board (arranged board.labels next) moves to less.0 after
-    (arranged_is board next is_next) (arranged-value board next is_next (Finite less.0) less.2) leads.1 other in
+    let most : after ≤ less.0 = no_more board normal form (normal next) moves to less.0 after
+    (form.is next is_next) (form.same_value next is_next (Finite less.0) less.2) leads.1 other in
     let below : less.0 < number = less.1 in omega arith
 
 -- where best answers lead to a value of 1 or more, the first value is 1 or more
-some_before : (board : PlainBoard) (from : List ℕ) (moves : List (ℕ × ℕ)) (to : List ℕ)
-    → LeadsByClasses board.labels (IsAnswerMove board) from moves to
+some_before : (board : PlainBoard) (normal : List ℕ → List ℕ) (from : List ℕ) (moves : List (ℕ × ℕ)) (to : List ℕ)
+    → LeadsOver (normal_positions normal) (IsAnswerMove board) from moves to
     → (value : Value) → HasValue board to value → IsLess (Finite 0) value
     → (first : Value) → HasValue board from first → IsLess (Finite 0) first
-some_before board from [] to leads value has some first has_first =
+some_before board normal from [] to leads value has some first has_first =
     subst (IsLess (Finite 0))
     (same_value board to value first has (subst (λ (c : List ℕ). HasValue board c first) leads has_first)) some
-some_before board from ((pebble, label) ∷ moves) to leads value has some first has_first =
+some_before board normal from ((pebble, label) ∷ moves) to leads value has some first has_first =
     let answerable = leads.0.answerable in
     subst (IsLess (Finite 0)) (same_value board from answerable.value first answerable.has_value has_first)
     answerable.some
@@ -94,7 +90,8 @@ asked_or_none : (value : Value) (rows : List RequestRow) → ((row : RequestRow)
 asked_or_none (Finite number) rows asks = inl refl
 asked_or_none Forever rows asks = inr (empty rows asks)
 
-module _ (board : PlainBoard) (proof : PlainProof) (is : IsClassDocumentOf board proof) where
+module _ (positions : Positions) (board : PlainBoard) (proof : PlainProof)
+    (is : IsDocumentOver positions (order_number board.labels) board proof) where
   pub labeller_asked : asks_labeller proof.claim ≡ true
   labeller_asked = subst (λ (claim : Claim). asks_labeller claim ≡ true) (sym is.claim) (always_asked is.value)
 
@@ -123,15 +120,16 @@ claim_fits : (board : PlainBoard) (value : Value) → IsConfiguration board boar
 claim_fits board (Finite number) is few has = omega (arith, few_values board board.start number is has, few)
 claim_fits board Forever is few has = tt
 
-module _ (board : PlainBoard) (proof : PlainProof) (is_start : IsConfiguration board board.start)
-    (is : IsClassDocumentOf board proof) where
+module _ (board : PlainBoard) (normal : List ℕ → List ℕ) (form : IsNormalForm board normal) (proof : PlainProof)
+    (is_start : IsConfiguration board board.start)
+    (is : IsDocumentOver (normal_positions normal) (order_number board.labels) board proof) where
   abbrev start : List ℕ
-  start = arranged board.labels board.start
+  start = normal board.start
 
   has_start : HasValue board start is.value
-  has_start = start_value board proof is_start is
+  has_start = start_value board normal form proof is_start is
 
-  answers_are : (row : AnswerRow) → IsLabellerClassRow board is.value row
+  answers_are : (row : AnswerRow) → IsLabellerRowOver (normal_positions normal) board is.value row
       → AreNumbers board.pebbles board.labels row.answers
   answers_are row is_row = (
     is_row.one_each,
@@ -142,32 +140,35 @@ module _ (board : PlainBoard) (proof : PlainProof) (is_start : IsConfiguration b
   )
 
   row_at : (k : ℕ) (d : AnswerRow) → k < length proof.labeller
-      → IsLabellerClassRow board is.value (get_or proof.labeller k d)
+      → IsLabellerRowOver (normal_positions normal) board is.value (get_or proof.labeller k d)
   row_at k d low = (is.labeller.each (get_or proof.labeller k d)).0 (Contains-get_or proof.labeller k d low)
 
   asked_at : (k : ℕ) (d : RequestRow) → k < length proof.adversary
-      → AsksAdversary is.value × IsAdversaryClassRow board (get_or proof.adversary k d)
+      → AsksAdversary is.value × IsAdversaryRowOver (normal_positions normal) board (get_or proof.adversary k d)
   asked_at k d low = (is.adversary.each (get_or proof.adversary k d)).0 (Contains-get_or proof.adversary k d low)
 
   answers_placed : All (λ (row : AnswerRow). IsArrangedAt board row.at) proof.labeller
   answers_placed k d low =
       let is_row = row_at k d low in record {
-        is = answered_is board proof is_start is is_row.moves (get_or proof.labeller k d).at is_row.reached;
-        arranged_is = leads_arranged board.labels (IsAnswerMove board) start is_row.moves
-            (get_or proof.labeller k d).at (arranged-again board.labels board.start) is_row.reached;
+        is = answered_is board normal form proof is_start is is_row.moves (get_or proof.labeller k d).at is_row.reached;
+        arranged_is = labellers_normal board normal form is.value is_start (λ c. arranged board.labels c ≡ c)
+            form.placed
+            (get_or proof.labeller k d) is_row;
       }
 
   requests_placed : All (λ (row : RequestRow). IsArrangedAt board row.at) proof.adversary
   requests_placed k d low =
       let is_row = (asked_at k d low).1 in record {
-        is = requested_is board proof is_start is is_row.moves (get_or proof.adversary k d).at is_row.reached;
-        arranged_is = leads_arranged board.labels (IsRequestMove board) start is_row.moves
-            (get_or proof.adversary k d).at (arranged-again board.labels board.start) is_row.reached;
+        is = requested_is board normal form proof is_start is is_row.moves (get_or proof.adversary k d).at
+            is_row.reached;
+        arranged_is = adversarys_normal board normal form is.value is_start (λ c. arranged board.labels c ≡ c)
+            form.placed
+            (get_or proof.adversary k d) is_row;
       }
 
   -- the document of a board of few classes fits, since its rows are at different classes
-  pub few_classes_fit : class_count board ≤ MAX_CLASS_ROWS → FitsFormat board proof
-  few_classes_fit few = record {
+  pub few_fit : class_count board ≤ MAX_CLASS_ROWS → FitsFormat board proof
+  few_fit few = record {
     gaps = omega (arith, gaps_few board is_start, few);
     labeller = omega (
       arith,
@@ -181,57 +182,80 @@ module _ (board : PlainBoard) (proof : PlainProof) (is_start : IsConfiguration b
     );
   }
 
-  module _ (fits : FitsFormat board proof) where
+  module _ (gaps : ways (board.pebbles - 1) (places board) ≤ MOST_TURNS) where
     small : IsClaim (claim_of is.value)
-    small = claim_fits board is.value is_start fits.gaps is.has_value
+    small = claim_fits board is.value is_start gaps is.has_value
 
-    answer_form : (row : AnswerRow) → IsLabellerClassRow board is.value row → IsAnswerRow board proof.claim row
+    answer_form : (row : AnswerRow) → IsLabellerRowOver (normal_positions normal) board is.value row → IsAnswerRow
+        board proof.claim row
     answer_form row is_row = record {
-      at = answered_is board proof is_start is is_row.moves row.at is_row.reached;
+      at = answered_is board normal form proof is_start is is_row.moves row.at is_row.reached;
       turns = subst (λ (claim : Claim). AreTurns claim row.turns) (sym is.claim)
           (subst (AreTurns (claim_of is.value)) (sym is_row.turns)
           (turns_fit is.value small
-          (some_before board start is_row.moves row.at is_row.reached is_row.value is_row.has_value is_row.some is.value
+          (some_before board normal start is_row.moves row.at is_row.reached is_row.value is_row.has_value
+          is_row.some is.value
           has_start)
           is_row.value is_row.some));
       answers = answers_are row is_row;
     }
 
     left_few : (value : Value) → IsClaim (claim_of value) → HasValue board start value → AsksAdversary value
-        → (row : RequestRow) → IsAdversaryClassRow board row → row.left ≤ MOST_TURNS
+        → (row : RequestRow) → IsAdversaryRowOver (normal_positions normal) board row → row.left ≤ MOST_TURNS
     left_few (Finite number) most has asks row is_row =
-        let below : row.left ≤ number = no_more board start is_row.moves row.at number row.left
-        (start_is board proof is_start is) has is_row.reached is_row.has_value in
+        let below : row.left ≤ number = no_more board normal form start is_row.moves row.at number row.left
+        (start_is board normal form proof is_start is) has is_row.reached is_row.has_value in
         omega (arith, most, below)
     left_few Forever most has asks row is_row = absurd asks
 
-    request_form : (row : RequestRow) → AsksAdversary is.value → IsAdversaryClassRow board row
+    request_form : (row : RequestRow) → AsksAdversary is.value → IsAdversaryRowOver (normal_positions normal) board row
         → IsClassRequestRow board row
     request_form row asks is_row = record {
-      at = requested_is board proof is_start is is_row.moves row.at is_row.reached;
+      at = requested_is board normal form proof is_start is is_row.moves row.at is_row.reached;
       left = left_few is.value small has_start asks row is_row;
-      request = is_row.asked;
+      request = asked_is row is_row.asks;
     }
 
-    pub has_class_form : IsClassProof board proof
-    has_class_form = record {
-      claim = subst IsClaim (sym is.claim) small;
-      labeller = record {
-        few = fits.labeller;
-        each = λ k d low. answer_form (get_or proof.labeller k d) (row_at k d low);
-        in_order = λ k d low. (answers_placed k d low).arranged_is;
-        ascending = is.labeller.ascending;
-      };
-      adversary = record {
-        few = fits.adversary;
-        each = λ k d low.
-            let asked = asked_at k d low in request_form (get_or proof.adversary k d) asked.0 asked.1;
-        in_order = λ k d low. (requests_placed k d low).arranged_is;
-        ascending = is.adversary.ascending;
-      };
-      no_labeller = λ e. absurd (true≢false (sym (labeller_asked board proof is) ∙ e));
-      no_adversary = λ e. elim (adversary_asked board proof is) [
-        | inl asked ↦ absurd (true≢false (sym asked ∙ e))
-        | inr none ↦ none
-      ];
+    pub claim_form : IsClaim proof.claim
+    claim_form = subst IsClaim (sym is.claim) small
+
+    pub labeller_form : length proof.labeller ≤ MAX_CLASS_ROWS
+        → AreRows (answers_by_classes board proof.claim) proof.labeller
+    labeller_form few = record {
+      few = few;
+      each = λ k d low. answer_form (get_or proof.labeller k d) (row_at k d low);
+      in_order = λ k d low. (answers_placed k d low).arranged_is;
+      ascending = is.labeller.ascending;
     }
+
+    pub adversary_form : length proof.adversary ≤ MAX_CLASS_ROWS
+        → AreRows (requests_by_classes board proof.claim) proof.adversary
+    adversary_form few = record {
+      few = few;
+      each = λ k d low.
+          let asked = asked_at k d low in request_form (get_or proof.adversary k d) asked.0 asked.1;
+      in_order = λ k d low. (requests_placed k d low).arranged_is;
+      ascending = is.adversary.ascending;
+    }
+
+  pub has_form : FitsFormat board proof → IsClassProof board proof
+  has_form fits = record {
+    claim = claim_form fits.gaps;
+    labeller = labeller_form fits.gaps fits.labeller;
+    adversary = adversary_form fits.gaps fits.adversary;
+    no_labeller = λ e. absurd (true≢false (sym (labeller_asked (normal_positions normal) board proof is) ∙ e));
+    no_adversary = λ e. elim (adversary_asked (normal_positions normal) board proof is) [
+      | inl asked ↦ absurd (true≢false (sym asked ∙ e))
+      | inr none ↦ none
+    ];
+  }
+
+-- ---- by classes
+
+pub few_classes_fit : (board : PlainBoard) (proof : PlainProof) → IsConfiguration board board.start
+    → IsClassDocumentOf board proof → class_count board ≤ MAX_CLASS_ROWS → FitsFormat board proof
+few_classes_fit board = few_fit board (arranged board.labels) (arranged_form board)
+
+pub has_class_form : (board : PlainBoard) (proof : PlainProof) → IsConfiguration board board.start
+    → IsClassDocumentOf board proof → FitsFormat board proof → IsClassProof board proof
+has_class_form board = has_form board (arranged board.labels) (arranged_form board)

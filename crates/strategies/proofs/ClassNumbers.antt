@@ -1,4 +1,4 @@
--- Classes by their numbers in the order of documents.
+-- Places by their numbers in the order of documents.
 use Rattle.std.proofs.Common.{◌≡◌, ℕ, ◌+◌, ◌^◌, ◌<◌, List, [], ◌∷◌, length, map, sym, ap, ◌∙◌, subst, inl, inr, refl}
 use Rattle.std.proofs.lemmas.Bool.{cases_eq}
 use Rattle.std.proofs.lemmas.List.{length-map}
@@ -9,8 +9,9 @@ use Rattle.proof_text.specs.Arranged.{order_of, arranged, order_number}
 use Rattle.proof_text.proofs.Cited.{arranged_is}
 use Rattle.proof_text.proofs.Cited.{order-none, order-label, orders-below}
 use Rattle.proof_text.proofs.Cited.{places-few}
-use Rattle.strategies.specs.Inside.ReachedClasses.{place_of, class_numbered, number_of_class_at, IsClassNumber}
-use Rattle.proof_text.proofs.Cited.{arranged-again}
+use Rattle.strategies.specs.Inside.NormalForm.{IsNormalForm}
+use Rattle.strategies.specs.Inside.ReachedClasses.{place_of, class_numbered, number_of_class_at, normal_number}
+use Rattle.strategies.specs.Inside.ReachedClasses.{IsClassNumber}
 
 place_of-order : (labels place : ℕ) → place_of labels (order_of labels place) ≡ place
 place_of-order labels place = elim (cases_eq place labels) [
@@ -51,23 +52,26 @@ pub number-ends : (board : PlainBoard) (number : ℕ) → IsClassNumber board nu
 number-ends board number is =
     subst (λ n. n < last_number board) is.number_is (numbers-end board (class_numbered board number) is.is)
 
--- the number of arranged places is that of a class, which has these places
-pub number-of : (board : PlainBoard) (at : List ℕ) → IsConfiguration board at → arranged board.labels at ≡ at
+-- the number of a configuration is that of its places
+pub number-of : (board : PlainBoard) (at : List ℕ) → IsConfiguration board at
     → IsClassNumber board (order_number board.labels at)
-number-of board at is placed =
+number-of board at is =
     let same : class_numbered board (order_number board.labels at) ≡ at = class_numbered-order board at is in
     record {
       is = subst (IsConfiguration board) (sym same) is;
-      arranged_is = subst (λ (c : List ℕ). arranged board.labels c ≡ c) (sym same) placed;
       number_is = ap (order_number board.labels) same;
     }
 
--- the number of a configuration's class is that of a class, which has its places arranged
-pub number_of_class_at-is : (board : PlainBoard) (c : List ℕ) → IsConfiguration board c
-    → IsClassNumber board (number_of_class_at board c)
-number_of_class_at-is board c is =
-    number-of board (arranged board.labels c) (arranged_is board c is) (arranged-again board.labels c)
-
+-- the number of a configuration's class is that of its arranged places
 pub class_numbered-number_at : (board : PlainBoard) (c : List ℕ) → IsConfiguration board c
     → class_numbered board (number_of_class_at board c) ≡ arranged board.labels c
 class_numbered-number_at board c is = class_numbered-order board (arranged board.labels c) (arranged_is board c is)
+
+-- the number of a configuration's normal places is that of these places
+module _ (board : PlainBoard) (normal : List ℕ → List ℕ) (form : IsNormalForm board normal) (c : List ℕ)
+    (is : IsConfiguration board c) where
+  pub normal_number-is : IsClassNumber board (normal_number board normal c)
+  normal_number-is = number-of board (normal c) (form.is c is)
+
+  pub class_numbered-normal : class_numbered board (normal_number board normal c) ≡ normal c
+  class_numbered-normal = class_numbered-order board (normal c) (form.is c is)

@@ -1,4 +1,4 @@
--- The classes after the answers to the requests of one gap are the same, and are added once.
+-- The normal places after the answers to the requests of one gap are the same, and are added once.
 use Rattle.std.proofs.Common.{◌≡◌, ℕ, ◌<◌, ◌↔◌, inl, inr, List, [], length, refl, sym, ap, ◌∙◌, subst, arith}
 use Rattle.std.specs.List.{Contains}
 use Rattle.board_text.specs.PlainBoard.{PlainBoard, IsConfiguration}
@@ -17,10 +17,10 @@ use Rattle.classes.specs.ClassGaps.{gap_at}
 use Rattle.classes.proofs.Cited.{class_of-set, legal-answers, put-cancel}
 use Rattle.proof_text.specs.Arranged.{arranged, order_number}
 use Rattle.proof_text.proofs.Cited.{class-arranged}
-use Rattle.strategies.specs.Inside.ReachedClasses.{class_numbered, number_of_class_at}
+use Rattle.strategies.specs.Inside.NormalForm.{IsNormalForm}
+use Rattle.strategies.specs.Inside.ReachedClasses.{class_numbered, normal_number, number_of_class_at}
 use Rattle.strategies.specs.Inside.ReachedClasses.{ClassRequestLeads, IsClassAnswerStep, LegalLeads}
 use Rattle.strategies.specs.Inside.ReachedClasses.{AreExpandedBy}
-use Rattle.proof_text.proofs.Cited.{arranged-class}
 use Rattle.strategies.proofs.ClassNumbers.{class_numbered-number_at}
 use Rattle.strategies.proofs.LikePebbles.{same-value}
 
@@ -32,16 +32,6 @@ one_class board one other is too same =
     sym (class_numbered-number_at board one is) ∙ ap (class_numbered board) same
     ∙ class_numbered-number_at board other too in
     sym (class-arranged board.labels one) ∙ ap class_of placed ∙ class-arranged board.labels other
-
--- and one class has one arrangement, and one number
-one_placed : (board : PlainBoard) (one other : List ℕ) → class_of one ≡ class_of other
-    → arranged board.labels one ≡ arranged board.labels other
-one_placed board one other same =
-    sym (arranged-class board.labels one) ∙ ap (arranged board.labels) same ∙ arranged-class board.labels other
-
-one_number : (board : PlainBoard) (one other : List ℕ) → class_of one ≡ class_of other
-    → number_of_class_at board one ≡ number_of_class_at board other
-one_number board one other same = ap (order_number board.labels) (one_placed board one other same)
 
 module _ (board : PlainBoard) (one other : List ℕ) (pebble partner : ℕ) (is : IsConfiguration board one)
     (too : IsConfiguration board other) (inside : pebble < board.pebbles) (there : partner < board.pebbles)
@@ -77,16 +67,22 @@ module _ (board : PlainBoard) (one other : List ℕ) (pebble partner : ℕ) (is 
       (subst (λ g. AnswersGap board g label) (same_gap (omega (arith, is_label)))
       ((legal-answers board one pebble label is.each_pebble inside).0 legal))
 
-  -- so their legal answers lead to the same classes
-  leads_too : (to : ℕ) → LegalLeads board one pebble to → LegalLeads board other partner to
-  leads_too to (label, step) = (
-    label,
-    record {
-      legal = legal_too label step.legal;
-      to_is = step.to_is ∙ one_number board (moved one pebble label) (moved other partner label)
-          (one_result label step.legal.is_label);
-    },
-  )
+  module _ (normal : List ℕ → List ℕ) (form : IsNormalForm board normal) where
+    -- which has one list of normal places
+    one_placed : (label : ℕ) → label < board.labels → normal (moved one pebble label) ≡ normal (moved other partner
+        label)
+    one_placed label is_label =
+        form.one (moved one pebble label) (moved other partner label) (one_result label is_label)
+
+    -- so their legal answers lead to the same places
+    leads_too : (to : ℕ) → LegalLeads board normal one pebble to → LegalLeads board normal other partner to
+    leads_too to (label, step) = (
+      label,
+      record {
+        legal = legal_too label step.legal;
+        to_is = step.to_is ∙ ap (order_number board.labels) (one_placed label step.legal.is_label);
+      },
+    )
 
   value_too : (label : ℕ) → label < board.labels → (value : Value) → HasValue board (moved one pebble label) value
       → HasValue board (moved other partner label) value
@@ -117,15 +113,17 @@ module _ (board : PlainBoard) (one other : List ℕ) (pebble partner : ℕ) (is 
         };
   }
 
-module _ (board : PlainBoard) (one other : List ℕ) (pebble partner : ℕ) (is : IsConfiguration board one)
-    (too : IsConfiguration board other) (inside : pebble < board.pebbles) (there : partner < board.pebbles)
+module _ (board : PlainBoard) (normal : List ℕ → List ℕ) (form : IsNormalForm board normal) (one other : List ℕ)
+    (pebble partner : ℕ) (is : IsConfiguration board one) (too : IsConfiguration board other) (inside : pebble <
+    board.pebbles) (there : partner < board.pebbles)
     (same : number_of_class_at board (moved one pebble 0) ≡ number_of_class_at board (moved other partner 0)) where
-  -- so their best answers lead to the same class
-  answers_too : (to : ℕ) → IsClassAnswerStep board one pebble to → IsClassAnswerStep board other partner to
+  -- so their best answers lead to the same places
+  answers_too : (to : ℕ) → IsClassAnswerStep board normal one pebble to → IsClassAnswerStep board normal other
+      partner to
   answers_too to step =
       let label : ℕ = step.label in
       let is_label : label < board.labels = step.best.0.legal.is_label in
-      let result = one_result board one other pebble partner is too inside there same label is_label in
+      let placed = one_placed board one other pebble partner is too inside there same normal form label is_label in
       record {
         is_pebble = there;
         label = label;
@@ -134,9 +132,8 @@ module _ (board : PlainBoard) (one other : List ℕ) (pebble partner : ℕ) (is 
           λ rival great. step.best.1 rival
               (greatest_too board other one partner pebble too is there inside (sym same) rival great),
         );
-        to_is = step.to_is ∙ one_number board (moved one pebble label) (moved other partner label) result;
-        some = subst (IsAnswerable board)
-            (one_placed board (moved one pebble label) (moved other partner label) result) step.some;
+        to_is = step.to_is ∙ ap (order_number board.labels) placed;
+        some = subst (IsAnswerable board) placed step.some;
       }
 
 pub none_expanded : (board : PlainBoard) (Leads : List ℕ → ℕ → ℕ → Type 0) (numbers : List ℕ)
@@ -144,20 +141,23 @@ pub none_expanded : (board : PlainBoard) (Leads : List ℕ → ℕ → ℕ → T
 none_expanded board Leads numbers from pebble is inside among to leads =
     absurd (let none : among.0 < 0 = among.1 in omega arith)
 
--- requests of one gap lead to the same classes
+-- requests of one gap lead to the same places
 abbrev pub IsOfGaps : PlainBoard → (List ℕ → ℕ → ℕ → Type 0) → Type 0
 IsOfGaps board Leads = (one other : List ℕ) (pebble partner : ℕ) → IsConfiguration board one
     → IsConfiguration board other → pebble < board.pebbles → partner < board.pebbles
     → number_of_class_at board (moved one pebble 0) ≡ number_of_class_at board (moved other partner 0)
     → (to : ℕ) → Leads one pebble to → Leads other partner to
 
-pub answers_of_gaps : (board : PlainBoard) → IsOfGaps board (IsClassAnswerStep board)
+pub answers_of_gaps : (board : PlainBoard) (normal : List ℕ → List ℕ) → IsNormalForm board normal
+    → IsOfGaps board (IsClassAnswerStep board normal)
 answers_of_gaps = answers_too
 
-pub results_of_gaps : (board : PlainBoard) → IsOfGaps board (LegalLeads board)
-results_of_gaps = leads_too
+pub results_of_gaps : (board : PlainBoard) (normal : List ℕ → List ℕ) → IsNormalForm board normal
+    → IsOfGaps board (LegalLeads board normal)
+results_of_gaps board normal form one other pebble partner is too inside there same =
+    leads_too board one other pebble partner is too inside there same normal form
 
--- the classes to which one request leads were added, and its gap
+-- the places to which one request leads were added, and its gap
 pub expanded_more : (board : PlainBoard) (Leads : List ℕ → ℕ → ℕ → Type 0) → IsOfGaps board Leads
     → (from : List ℕ) (pebble gap : ℕ) (expanded after numbers more : List ℕ)
     → IsConfiguration board from → pebble < board.pebbles → gap ≡ number_of_class_at board (moved from pebble 0)
@@ -174,18 +174,20 @@ expanded_more board Leads of_gaps from pebble gap expanded after numbers more is
     ]
 
 -- the gap was expanded before
-pub answers_known : (board : PlainBoard) (from : List ℕ) (pebble gap : ℕ) (expanded numbers : List ℕ)
+pub answers_known : (board : PlainBoard) (normal : List ℕ → List ℕ) (from : List ℕ) (pebble gap : ℕ)
+    (expanded numbers : List ℕ)
     → IsConfiguration board from → pebble < board.pebbles → gap ≡ number_of_class_at board (moved from pebble 0)
-    → AreExpandedBy board (IsClassAnswerStep board) expanded numbers → Contains expanded gap
-    → IsWithAll numbers (IsClassAnswerStep board from pebble) numbers
-answers_known board from pebble gap expanded numbers is inside gap_is are there =
-    added_known numbers (IsClassAnswerStep board from pebble)
+    → AreExpandedBy board (IsClassAnswerStep board normal) expanded numbers → Contains expanded gap
+    → IsWithAll numbers (IsClassAnswerStep board normal from pebble) numbers
+answers_known board normal from pebble gap expanded numbers is inside gap_is are there =
+    added_known numbers (IsClassAnswerStep board normal from pebble)
     (are from pebble is inside (subst (Contains expanded) gap_is there))
 
-module _ (board : PlainBoard) (number pebble : ℕ)
+module _ (board : PlainBoard) (normal : List ℕ → List ℕ) (number pebble : ℕ)
     (best : IsBestRequest board (class_numbered board number) pebble) where
-  -- the best request leads to the classes after its legal answers
-  leads_is : (to : ℕ) → LegalLeads board (class_numbered board number) pebble to ↔ ClassRequestLeads board number to
+  -- the best request leads to the places after its legal answers
+  leads_is : (to : ℕ) → LegalLeads board normal (class_numbered board number) pebble to ↔ ClassRequestLeads board
+      normal number to
   leads_is to = (
     λ leads. (leads.0, record { pebble = pebble; best = best; legal = leads.1.legal; to_is = leads.1.to_is }),
     λ leads.
@@ -194,24 +196,25 @@ module _ (board : PlainBoard) (number pebble : ℕ)
           leads.0,
           record {
             legal = subst (λ (p : ℕ). Legal board c p leads.0) same leads.1.legal;
-            to_is = leads.1.to_is ∙ ap (λ (p : ℕ). number_of_class_at board (moved c p leads.0)) same;
+            to_is = leads.1.to_is ∙ ap (λ (p : ℕ). normal_number board normal (moved c p leads.0)) same;
           },
         ),
   )
 
   pub results_added : (numbers more : List ℕ)
-      → IsWithAll numbers (LegalLeads board (class_numbered board number) pebble) more
-      → IsWithAll numbers (ClassRequestLeads board number) more
+      → IsWithAll numbers (LegalLeads board normal (class_numbered board number) pebble) more
+      → IsWithAll numbers (ClassRequestLeads board normal number) more
   results_added numbers more added =
-      added_same numbers more (LegalLeads board (class_numbered board number) pebble) (ClassRequestLeads board number)
+      added_same numbers more (LegalLeads board normal (class_numbered board number) pebble) (ClassRequestLeads board
+      normal number)
       leads_is added
 
   -- the gap was expanded before
   pub results_known : (gap : ℕ) (expanded numbers : List ℕ) → IsConfiguration board (class_numbered board number)
       → gap ≡ number_of_class_at board (moved (class_numbered board number) pebble 0)
-      → AreExpandedBy board (LegalLeads board) expanded numbers → Contains expanded gap
-      → IsWithAll numbers (ClassRequestLeads board number) numbers
+      → AreExpandedBy board (LegalLeads board normal) expanded numbers → Contains expanded gap
+      → IsWithAll numbers (ClassRequestLeads board normal number) numbers
   results_known gap expanded numbers is gap_is are there =
-      added_known numbers (ClassRequestLeads board number) (λ to leads.
+      added_known numbers (ClassRequestLeads board normal number) (λ to leads.
       are (class_numbered board number) pebble is best.0.is_pebble (subst (Contains expanded) gap_is there) to
       ((leads_is to).1 leads))

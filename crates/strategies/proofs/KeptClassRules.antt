@@ -1,4 +1,4 @@
--- The document by classes of a board breaks no rule of checking.
+-- The document of a board over normal places breaks no rule of checking.
 use Rattle.std.proofs.Common.{◌≡◌, ℕ, zero, suc, ◌<◌, ◌≤◌, List, [], get_or, slice_index, refl, sym, subst, arith}
 use Rattle.std.proofs.lemmas.List.Elements.{Contains-get_or}
 use Rattle.std.proofs.lemmas.Option.{slice_get-get_or}
@@ -19,15 +19,14 @@ use Rattle.strategies.specs.Document.{IsAnswerMove, IsRequestMove, AsksAdversary
 use Rattle.strategies.proofs.ValueOrder.{at_least, less_than_finite}
 use Rattle.strategies.proofs.BestAnswers.{lasts_after}
 use Rattle.strategies.proofs.RowTurns.{Keeps, enough_left, enough_at_start}
-use Rattle.proof_text.specs.Arranged.{arranged}
-use Rattle.proof_text.specs.Positions.{asked_pebble, class_positions}
+use Rattle.proof_text.specs.Arranged.{arranged, order_number}
+use Rattle.proof_text.specs.Positions.{asked_pebble, class_positions, normal_positions}
 use Rattle.proof_text.specs.Rules.{MeetsRequests, MeetsAnswers, BreaksNoRule}
-use Rattle.proof_text.proofs.Cited.{asked_below}
-use Rattle.proof_text.proofs.Cited.{arranged_is}
-use Rattle.strategies.specs.ClassDocument.{LeadsByClasses, IsLabellerClassRow, IsAdversaryClassRow}
 use Rattle.strategies.specs.ClassDocument.{IsClassDocumentOf}
-use Rattle.strategies.proofs.LikePebbles.{arranged-value}
+use Rattle.strategies.specs.Inside.NormalForm.{IsNormalForm}
+use Rattle.strategies.specs.PositionDocument.{IsAdversaryRowOver, IsDocumentOver, IsLabellerRowOver, LeadsOver}
 use Rattle.strategies.proofs.ClassMoves.{one_more, lead_to, stays_forever, answer_row_for, request_row_for}
+use Rattle.strategies.proofs.NormalForms.{arranged_form}
 
 -- if a tree for the first configuration leaves one less for the second, the value is at most one less there
 pub keeps : (board : PlainBoard) (from to : List ℕ)
@@ -42,31 +41,34 @@ keeps board from to lasts Forever (Finite after) one other =
     at_least board (suc after) after to (lasts (suc after) (one (suc (suc after)))) other in absurd (omega arith)
 keeps board from to lasts Forever Forever one other = tt
 
-module _ (board : PlainBoard) (proof : PlainProof) (is_start : IsConfiguration board board.start)
-    (is : IsClassDocumentOf board proof) where
+module _ (board : PlainBoard) (normal : List ℕ → List ℕ) (form : IsNormalForm board normal) (proof : PlainProof)
+    (is_start : IsConfiguration board board.start)
+    (is : IsDocumentOver (normal_positions normal) (order_number board.labels) board proof) where
   abbrev start : List ℕ
-  start = arranged board.labels board.start
+  start = normal board.start
 
   pub start_is : IsConfiguration board start
-  start_is = arranged_is board board.start is_start
+  start_is = form.is board.start is_start
 
   pub start_value : HasValue board start is.value
-  start_value = arranged-value board board.start is_start is.value is.has_value
+  start_value = form.same_value board.start is_start is.value is.has_value
 
   abbrev Answered : List (ℕ × ℕ) → List ℕ → Type 0
-  Answered moves to = LeadsByClasses board.labels (IsAnswerMove board) start moves to
+  Answered moves to = LeadsOver (normal_positions normal) (IsAnswerMove board) start moves to
 
   abbrev Requested : List (ℕ × ℕ) → List ℕ → Type 0
-  Requested moves to = LeadsByClasses board.labels (IsRequestMove board) start moves to
+  Requested moves to = LeadsOver (normal_positions normal) (IsRequestMove board) start moves to
 
   pub answered_is : (moves : List (ℕ × ℕ)) (to : List ℕ) → Answered moves to → IsConfiguration board to
   answered_is moves to leads =
-      lead_to board (IsAnswerMove board) (λ c pebble label move. move.best.0.legal.is_label) start moves to start_is
+      lead_to board normal form (IsAnswerMove board) (λ c pebble label move. move.best.0.legal.is_label) start moves
+      to start_is
       leads
 
   pub requested_is : (moves : List (ℕ × ℕ)) (to : List ℕ) → Requested moves to → IsConfiguration board to
   requested_is moves to leads =
-      lead_to board (IsRequestMove board) (λ c pebble label move. move.legal.is_label) start moves to start_is leads
+      lead_to board normal form (IsRequestMove board) (λ c pebble label move. move.legal.is_label) start moves to
+      start_is leads
 
   -- ---- the labeller's rows
 
@@ -75,7 +77,7 @@ module _ (board : PlainBoard) (proof : PlainProof) (is_start : IsConfiguration b
       → (wanted : Turns) → IsLess (Finite 0) value × IsEnough wanted (turns_of is.value value)
       → IsListedFor proof.labeller to wanted
   listed moves to leads value has wanted (some, enough) =
-      let found = answer_row_for board is.value value moves to (answered_is moves to leads) leads has some in
+      let found = answer_row_for board normal is.value value moves to (answered_is moves to leads) leads has some in
       record {
         row = found.0;
         among = (is.labeller.each found.0).1 found.1;
@@ -84,19 +86,19 @@ module _ (board : PlainBoard) (proof : PlainProof) (is_start : IsConfiguration b
       }
 
   -- each row meets each request
-  meets : (row : AnswerRow) → IsLabellerClassRow board is.value row
-      → MeetsRequests (class_positions board.labels) board proof.labeller row
+  meets : (row : AnswerRow) → IsLabellerRowOver (normal_positions normal) board is.value row
+      → MeetsRequests (normal_positions normal) board proof.labeller row
   meets row is_row pebble below =
       let label = slice_index row.answers pebble in
       let best = is_row.best pebble below in
       let next : List ℕ = moved row.at pebble label in
-      let to : List ℕ = arranged board.labels next in
+      let to : List ℕ = normal next in
       let is_at : IsConfiguration board row.at = answered_is is_row.moves row.at is_row.reached in
       let is_next : IsConfiguration board next =
       moved_is_configuration board row.at pebble label best.0.legal.is_label is_at in
       let after = some_value board next is_next in
-      let has : HasValue board to after.0 = arranged-value board next is_next after.0 after.1 in
-      let leads = one_more board.labels (IsAnswerMove board) start is_row.moves row.at pebble label is_row.reached
+      let has : HasValue board to after.0 = form.same_value next is_next after.0 after.1 in
+      let leads = one_more normal (IsAnswerMove board) start is_row.moves row.at pebble label is_row.reached
       (record {
         is_pebble = below;
         answerable = record { value = is_row.value; has_value = is_row.has_value; some = is_row.some };
@@ -106,7 +108,7 @@ module _ (board : PlainBoard) (proof : PlainProof) (is_start : IsConfiguration b
       (λ number. lasts_after board number row.at pebble label below best) is_row.value after.0 is_row.has_value
       after.1 in
       let stays : is.value ≡ Forever → after.0 ≡ Forever = λ same.
-      same_value board to after.0 Forever has (stays_forever board start _ to start_is
+      same_value board to after.0 Forever has (stays_forever board normal form start _ to start_is
       (subst (HasValue board start) same start_value) leads) in
       let turns = one_less (turns_of is.value is_row.value) in
       let serves : Serves proof.labeller to turns = λ wanted.
@@ -125,7 +127,7 @@ module _ (board : PlainBoard) (proof : PlainProof) (is_start : IsConfiguration b
       → (number bound : ℕ)
       → HasValue board to (Finite number) → number < bound → IsListedBelow proof.adversary to bound
   listed_below asks moves to leads number bound has below =
-      let found = request_row_for board number moves to (requested_is moves to leads) leads has in
+      let found = request_row_for board normal number moves to (requested_is moves to leads) leads has in
       record {
         row = found.0;
         among = (is.adversary.each found.0).1 (asks, found.1);
@@ -133,22 +135,22 @@ module _ (board : PlainBoard) (proof : PlainProof) (is_start : IsConfiguration b
         below = omega (arith, found.3, below);
       }
 
-  meets_answers : (row : RequestRow) → AsksAdversary is.value → IsAdversaryClassRow board row
-      → MeetsAnswers (class_positions board.labels) board proof.adversary row
+  meets_answers : (row : RequestRow) → AsksAdversary is.value → IsAdversaryRowOver (normal_positions normal) board row
+      → MeetsAnswers (normal_positions normal) board proof.adversary row
   meets_answers row asks is_row = record {
-    asks = asked_below row is_row.asked;
+    asks = is_row.asks;
     each = λ label legal.
         let pebble : ℕ = asked_pebble row in
         let next : List ℕ = moved row.at pebble label in
-        let to : List ℕ = arranged board.labels next in
+        let to : List ℕ = normal next in
         let is_next : IsConfiguration board next =
         moved_is_configuration board row.at pebble label legal.is_label
         (requested_is is_row.moves row.at is_row.reached) in
         let less = less_than_finite board row.left next row.at is_row.has_value (is_row.best.0.lowers label legal) in
         listed_below asks _ to
-        (one_more board.labels (IsRequestMove board) start is_row.moves row.at pebble label is_row.reached
+        (one_more normal (IsRequestMove board) start is_row.moves row.at pebble label is_row.reached
         (record { best = is_row.best; legal = legal }))
-        less.0 row.left (arranged-value board next is_next (Finite less.0) less.2) less.1;
+        less.0 row.left (form.same_value next is_next (Finite less.0) less.2) less.1;
   }
 
   -- ---- the document
@@ -159,8 +161,8 @@ module _ (board : PlainBoard) (proof : PlainProof) (is_start : IsConfiguration b
       listed_below (asks tt) [] start refl number (suc number) has (omega arith)
   start_below Forever has asks = tt
 
-  pub breaks_no_class_rule : BreaksNoRule (class_positions board.labels) board proof
-  breaks_no_class_rule = record {
+  pub breaks_no_rule_over : BreaksNoRule (normal_positions normal) board proof
+  breaks_no_rule_over = record {
     start_serves = subst (λ (claim : Claim). Serves proof.labeller start (wanted_of claim)) (sym is.claim)
         (λ wanted. listed [] start refl is.value start_value (wanted_of (claim_of is.value))
         (enough_at_start is.value wanted));
@@ -172,3 +174,8 @@ module _ (board : PlainBoard) (proof : PlainProof) (is_start : IsConfiguration b
         let is_row = (is.adversary.each (get_or proof.adversary k d)).0 (Contains-get_or proof.adversary k d inside) in
         meets_answers (get_or proof.adversary k d) is_row.0 is_row.1;
   }
+
+-- the document by classes breaks none
+pub breaks_no_class_rule : (board : PlainBoard) (proof : PlainProof) → IsConfiguration board board.start
+    → IsClassDocumentOf board proof → BreaksNoRule (class_positions board.labels) board proof
+breaks_no_class_rule board = breaks_no_rule_over board (arranged board.labels) (arranged_form board)

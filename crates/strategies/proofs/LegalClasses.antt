@@ -1,4 +1,4 @@
--- The classes after all legal answers to a request, added by a walk over the legal labels.
+-- The normal places after all legal answers to a request, added by a walk over the legal labels.
 use Rattle.std.proofs.Common.{◌≡◌, ℕ, ◌<◌, ◌≤◌, ◌↔◌, inl, inr, true, List, Some, sym, ◌∙◌, subst, arith}
 use Rattle.std.proofs.lemmas.Bool.{cases_lt}
 use Rattle.board_text.specs.Domination.{has_bit}
@@ -10,17 +10,19 @@ use Rattle.positions.specs.LabelWalk.{Walk, TakesSmallest}
 use Rattle.positions.proofs.Cited.{AreFrom, after_step, from_zero, next_of, none_left, walk_begins}
 use Rattle.strategies.specs.Inside.ReachedRanks.{IsWith, IsWithAll}
 use Rattle.strategies.proofs.AddedRanks.{Below, added_one, added_same, added_start, added_more, below_same, below_all}
-use Rattle.strategies.specs.Inside.ReachedClasses.{number_of_class_at, IsLegalStep, LegalLeads}
+use Rattle.strategies.specs.Inside.ReachedClasses.{normal_number, IsLegalStep, LegalLeads}
 
--- the walk is over the legal labels from its bound on, and the classes after those below are added
-pub record AreAddedBefore (board : PlainBoard) (from : List ℕ) (pebble : ℕ) (walk : Walk) (numbers more : List ℕ)
+-- the walk is over the legal labels from its bound on, and the normal places after those below are added
+pub record AreAddedBefore (board : PlainBoard) (normal : List ℕ → List ℕ) (from : List ℕ) (pebble : ℕ) (walk : Walk)
+    (numbers more : List ℕ)
     : Type 0 where
   pub most : walk.from ≤ MAX_LABELS
   pub left : AreFrom (Legal board from pebble) walk
-  pub added : IsWithAll numbers (Below (IsLegalStep board from pebble) walk.from) more
+  pub added : IsWithAll numbers (Below (IsLegalStep board normal from pebble) walk.from) more
 
-module _ (board : PlainBoard) (is_board : IsBoard board) (from : List ℕ) (pebble : ℕ) (walk : Walk)
-    (numbers some : List ℕ) (so : AreAddedBefore board from pebble walk numbers some) where
+module _ (board : PlainBoard) (normal : List ℕ → List ℕ) (is_board : IsBoard board) (from : List ℕ) (pebble : ℕ)
+    (walk : Walk)
+    (numbers some : List ℕ) (so : AreAddedBefore board normal from pebble walk numbers some) where
   few : (label : ℕ) → Legal board from pebble label → label < MAX_LABELS
   few label legal = omega (arith, legal.is_label, is_board.labels.1)
 
@@ -28,10 +30,10 @@ module _ (board : PlainBoard) (is_board : IsBoard board) (from : List ℕ) (pebb
     pub next_legal : IsSmallest (λ l. (walk.from ≤ l) × Legal board from pebble l) (Some label)
     next_legal = next_of (Legal board from pebble) few walk so.left after label step
 
-    pub class_added : (to : ℕ) (more : List ℕ) → to ≡ number_of_class_at board (moved from pebble label)
-        → IsWith some to more → AreAddedBefore board from pebble after numbers more
+    pub class_added : (to : ℕ) (more : List ℕ) → to ≡ normal_number board normal (moved from pebble label)
+        → IsWith some to more → AreAddedBefore board normal from pebble after numbers more
     class_added to more to_is with =
-        let leads = IsLegalStep board from pebble in
+        let leads = IsLegalStep board normal from pebble in
         let before = added_same numbers some (Below leads walk.from) (Below leads label)
         (λ other. below_same leads walk.from label other next_legal.0.0 (λ number late early at.
         let least = next_legal.1 number (late, at.legal) in omega (arith, least, early))) so.added in
@@ -45,23 +47,24 @@ module _ (board : PlainBoard) (is_board : IsBoard board) (from : List ℕ) (pebb
         }
 
   pub classes_added : ((label : ℕ) → label < MAX_LABELS → has_bit walk.left label ≡ true → ⊥)
-      → IsWithAll numbers (LegalLeads board from pebble) some
+      → IsWithAll numbers (LegalLeads board normal from pebble) some
   classes_added over =
-      let leads = IsLegalStep board from pebble in
-      added_same numbers some (Below leads walk.from) (LegalLeads board from pebble)
+      let leads = IsLegalStep board normal from pebble in
+      added_same numbers some (Below leads walk.from) (LegalLeads board normal from pebble)
       (λ to. below_all leads walk.from to (λ number at. elim (cases_lt number walk.from) [
         | inl early ↦ early
         | inr late ↦ absurd (none_left (Legal board from pebble) few walk so.left over number (late, at.legal))
       ])) so.added
 
 -- a walk over the legal labels begins
-pub classes_begin : (board : PlainBoard) (from : List ℕ) (pebble : ℕ) (labels numbers : List ℕ)
+pub classes_begin : (board : PlainBoard) (normal : List ℕ → List ℕ) (from : List ℕ) (pebble : ℕ) (labels numbers :
+    List ℕ)
     → ((label : ℕ) → label < MAX_LABELS → (has_bit labels label ≡ true) ↔ Legal board from pebble label)
     → (walk : Walk) → walk ≡ record { left = labels; from = 0 }
-    → AreAddedBefore board from pebble walk numbers numbers
-classes_begin board from pebble labels numbers each walk begins = record {
+    → AreAddedBefore board normal from pebble walk numbers numbers
+classes_begin board normal from pebble labels numbers each walk begins = record {
   most = let zero_is = from_zero labels walk begins in omega (arith, zero_is);
   left = walk_begins (Legal board from pebble) labels walk begins each;
-  added = subst (λ bound. IsWithAll numbers (Below (IsLegalStep board from pebble) bound) numbers)
-      (sym (from_zero labels walk begins)) (added_start numbers (IsLegalStep board from pebble));
+  added = subst (λ bound. IsWithAll numbers (Below (IsLegalStep board normal from pebble) bound) numbers)
+      (sym (from_zero labels walk begins)) (added_start numbers (IsLegalStep board normal from pebble));
 }

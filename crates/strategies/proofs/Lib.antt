@@ -40,6 +40,7 @@ pub mod SiblingRanks
 pub mod WrittenLines
 pub mod JoinedLines
 pub mod LikePebbles
+pub mod NormalForms
 pub mod ClassMoves
 pub mod KeptClassRules
 pub mod ClassNumbers
@@ -65,3 +66,7 @@ pub mod ReachedLists
 pub mod SomeClassDocument
 pub mod Cited
 pub mod PositionDocuments
+pub mod OneSide
+pub mod SymmetricDocuments
+pub mod MadeUpTo
+pub mod ClassesMade

@@ -1,5 +1,5 @@
--- The text of a document by classes has at least eight bytes for each row, so that a short text has few rows.
-use Rattle.std.proofs.Common.{◌≡◌, ℕ, ◌+◌, ◌-◌, ◌*◌, ◌≤◌, Bool, true, false, true≢false, List, [], ◌∷◌, ◌++◌, length}
+-- The text of a document has at least eight bytes for each row, so that a short text has few rows.
+use Rattle.std.proofs.Common.{◌≡◌, ℕ, ◌-◌, ◌*◌, ◌≤◌, Bool, true, false, true≢false, List, [], ◌∷◌, ◌++◌, length}
 use Rattle.std.proofs.Common.{codes}
 use Rattle.std.proofs.Common.{refl, sym, inl, inr, arith}
 use Rattle.std.specs.List.{flat_map}
@@ -12,11 +12,16 @@ use Rattle.board_text.specs.PlainBoard.{PlainBoard, places}
 use Rattle.positions.specs.Table.{AnswerRow, RequestRow}
 use Rattle.classes.specs.Numbers.{ways}
 use Rattle.proof_text.specs.Proof.{PlainProof, asks_labeller, asks_adversary}
-use Rattle.proof_text.specs.ProofText.{answer_line, class_request_line, class_text, class_version_line, first_two_lines}
-use Rattle.proof_text.specs.ProofText.{section_text, turns_text}
+use Rattle.proof_text.specs.Arranged.{order_number}
+use Rattle.proof_text.specs.Positions.{Positions, class_positions}
+use Rattle.proof_text.specs.ProofText.{answer_line, class_request_line, class_sections_text, class_text}
+use Rattle.proof_text.specs.ProofText.{class_version_line, first_two_lines, maps_text, section_text, symmetry_text}
+use Rattle.proof_text.specs.ProofText.{symmetry_version_line, turns_text}
+use Rattle.proof_text.specs.SymmetryProof.{PlainSymmetryProof}
 use Rattle.proof_text.specs.declared.class_proof.TheConstants.{MAX_CLASS_ROWS}
 use Rattle.proof_text.specs.declared.proof.TheConstants.{MOST_TURNS}
 use Rattle.strategies.specs.ClassDocument.{IsClassDocumentOf, FitsFormat}
+use Rattle.strategies.specs.PositionDocument.{IsDocumentOver}
 use Rattle.strategies.proofs.ClassDocumentForm.{labeller_asked, adversary_asked}
 
 -- ---- the lines of rows
@@ -59,18 +64,7 @@ whole_section word true line rows is =
     omega (arith, length-append (number_line word (length rows)) (flat_map line rows))
 whole_section word false line rows is = absurd (true≢false (sym is))
 
--- parts of a text are no longer than the text
-within : (head first second end : List ℕ)
-    → length first + length second ≤ length ((head ++ (first ++ second)) ++ end)
-within head first second end =
-    omega (
-      arith,
-      length-append (head ++ (first ++ second)) end,
-      length-append head (first ++ second),
-      length-append first second,
-    )
-
-module _ (board : PlainBoard) (proof : PlainProof) (is : IsClassDocumentOf board proof) where
+module _ (board : PlainBoard) (proof : PlainProof) where
   abbrev labeller_text : List ℕ
   labeller_text = section_text (codes "labeller") (asks_labeller proof.claim) (answer_line board) proof.labeller
 
@@ -78,42 +72,77 @@ module _ (board : PlainBoard) (proof : PlainProof) (is : IsClassDocumentOf board
   adversary_text =
       section_text (codes "adversary") (asks_adversary proof.claim) (class_request_line board) proof.adversary
 
-  sections_within : length labeller_text + length adversary_text ≤ length (class_text board proof)
-  sections_within = within (first_two_lines class_version_line proof.claim) labeller_text adversary_text end_line
-
-  -- the lines of rows are parts of the text
-  pub labeller_section : length (flat_map (answer_line board) proof.labeller) ≤ length (class_text board proof)
-  labeller_section = omega (
+  -- the lines of rows are parts of the sections
+  pub labeller_section : asks_labeller proof.claim ≡ true
+      → length (flat_map (answer_line board) proof.labeller) ≤ length (class_sections_text board proof)
+  labeller_section asked = omega (
     arith,
-    sections_within,
-    whole_section (codes "labeller") (asks_labeller proof.claim) (answer_line board) proof.labeller
-        (labeller_asked board proof is),
+    length-append labeller_text adversary_text,
+    whole_section (codes "labeller") (asks_labeller proof.claim) (answer_line board) proof.labeller asked,
   )
 
-  pub adversary_section : length (flat_map (class_request_line board) proof.adversary)
-      ≤ length (class_text board proof)
-  adversary_section = elim (adversary_asked board proof is) [
+  pub adversary_section : asks_adversary proof.claim ≡ true
+      → length (flat_map (class_request_line board) proof.adversary) ≤ length (class_sections_text board proof)
+  adversary_section asked = omega (
+    arith,
+    length-append labeller_text adversary_text,
+    whole_section (codes "adversary") (asks_adversary proof.claim) (class_request_line board) proof.adversary asked,
+  )
+
+module _ (positions : Positions) (board : PlainBoard) (proof : PlainProof)
+    (is : IsDocumentOver positions (order_number board.labels) board proof) where
+  pub labeller_long : 8 * length proof.labeller ≤ length (class_sections_text board proof)
+  labeller_long = omega (
+    arith,
+    labeller_section board proof (labeller_asked positions board proof is),
+    long_lines (answer_line board) (answers_long board) proof.labeller,
+  )
+
+  pub adversary_long : 8 * length proof.adversary ≤ length (class_sections_text board proof)
+  adversary_long = elim (adversary_asked positions board proof is) [
     | inl asked ↦ omega (
       arith,
-      sections_within,
-      whole_section (codes "adversary") (asks_adversary proof.claim) (class_request_line board) proof.adversary asked,
+      adversary_section board proof asked,
+      long_lines (class_request_line board) (requests_long board) proof.adversary,
     )
     | inr none ↦ rw none (omega arith)
   ]
 
-  pub labeller_long : 8 * length proof.labeller ≤ length (class_text board proof)
-  labeller_long =
-      omega (arith, labeller_section, long_lines (answer_line board) (answers_long board) proof.labeller)
-
-  pub adversary_long : 8 * length proof.adversary ≤ length (class_text board proof)
-  adversary_long =
-      omega (arith, adversary_section, long_lines (class_request_line board) (requests_long board) proof.adversary)
-
-  -- a text of at most eight bytes for each of the most rows
-  pub short_text_fits : ways (board.pebbles - 1) (places board) ≤ MOST_TURNS
-      → length (class_text board proof) ≤ 8 * MAX_CLASS_ROWS → FitsFormat board proof
-  short_text_fits few short = record {
+  -- sections of at most eight bytes for each of the most rows
+  pub short_sections_fit : ways (board.pebbles - 1) (places board) ≤ MOST_TURNS
+      → length (class_sections_text board proof) ≤ 8 * MAX_CLASS_ROWS → FitsFormat board proof
+  short_sections_fit few short = record {
     gaps = few;
     labeller = omega (arith, short, labeller_long);
     adversary = omega (arith, short, adversary_long);
   }
+
+-- ---- the texts
+
+-- parts of a text are no longer than the text
+within : (head sections end : List ℕ) → length sections ≤ length ((head ++ sections) ++ end)
+within head sections end = omega (arith, length-append (head ++ sections) end, length-append head sections)
+
+pub in_class_text : (board : PlainBoard) (proof : PlainProof)
+    → length (class_sections_text board proof) ≤ length (class_text board proof)
+in_class_text board proof =
+    within (first_two_lines class_version_line proof.claim) (class_sections_text board proof) end_line
+
+pub in_symmetry_text : (board : PlainBoard) (document : PlainSymmetryProof)
+    → length (class_sections_text board document.rows) ≤ length (symmetry_text board document)
+in_symmetry_text board document =
+    let maps : List ℕ = maps_text board.labels document.maps in
+    let sections : List ℕ = class_sections_text board document.rows in
+    omega (
+      arith,
+      within (first_two_lines symmetry_version_line document.rows.claim) (maps ++ sections) end_line,
+      length-append maps sections,
+    )
+
+-- a text by classes of at most eight bytes for each of the most rows
+pub short_text_fits : (board : PlainBoard) (proof : PlainProof) → IsClassDocumentOf board proof
+    → ways (board.pebbles - 1) (places board) ≤ MOST_TURNS
+    → length (class_text board proof) ≤ 8 * MAX_CLASS_ROWS → FitsFormat board proof
+short_text_fits board proof is few short =
+    short_sections_fit (class_positions board.labels) board proof is few
+    (omega (arith, short, in_class_text board proof))

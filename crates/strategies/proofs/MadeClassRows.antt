@@ -1,4 +1,4 @@
--- One row of a document by classes, as it is made.
+-- One row of a document over normal places, as it is made.
 use Rattle.std.proofs.Common.{◌≡◌, ℕ, ◌<◌, ◌≤◌, List, length, take, get_or, None, refl, sym, ap, ◌∙◌, subst}
 use Rattle.std.proofs.Common.{arith}
 use Rattle.std.proofs.lemmas.List.{length-take-le, get_or-take}
@@ -12,30 +12,33 @@ use Rattle.strategies.specs.Best.{IsLess, IsBestAnswer, IsBestFor, IsBestRequest
 use Rattle.strategies.specs.Document.{turns_of}
 use Rattle.strategies.proofs.DocumentRows.{answers_one}
 use Rattle.strategies.proofs.MadeRows.{AreTaken}
-use Rattle.strategies.specs.ClassDocument.{IsLabellerClassRow, IsAdversaryClassRow}
+use Rattle.proof_text.specs.Positions.{normal_positions}
+use Rattle.proof_text.proofs.Cited.{asked_below}
+use Rattle.strategies.specs.PositionDocument.{IsLabellerRowOver, IsAdversaryRowOver}
 use Rattle.strategies.specs.Inside.ReachedClasses.{class_numbered, IsClassNumber, IsClassReachedByAnswers}
 use Rattle.strategies.specs.Inside.ReachedClasses.{IsClassReachedByRequests}
 use Rattle.strategies.proofs.LikePebbles.{first-best}
 
--- the places of the class of the number, in room for more
-module _ (board : PlainBoard) (number size : ℕ) (at : List ℕ) (size_is : size ≡ board.pebbles)
+-- the places of the number, in room for more
+module _ (board : PlainBoard) (normal : List ℕ → List ℕ) (number size : ℕ) (at : List ℕ) (size_is : size ≡
+    board.pebbles)
     (here : take board.pebbles at ≡ class_numbered board number) where
   pub held_is : take size at ≡ class_numbered board number
   held_is = ap (λ (n : ℕ). take n at) size_is ∙ here
 
-  -- a class of value 1 or more has an answer to each request
-  pub has_answer : IsClassReachedByAnswers board number → (pebble : ℕ) → pebble < board.pebbles
+  -- places of value 1 or more have an answer to each request
+  pub has_answer : IsClassReachedByAnswers board normal number → (pebble : ℕ) → pebble < board.pebbles
       → IsBestFor board (take size at) pebble None → ⊥
   has_answer reached pebble is_pebble none =
       let answer = answers_one board (class_numbered board number) reached.holds.value reached.holds.has_value
       reached.holds.some pebble is_pebble in
       (subst (λ (c : List ℕ). IsBestFor board c pebble None) held_is none) answer.0 answer.1
 
-  -- the labeller's row of the class
+  -- the labeller's row there
   pub labeller_row_is : (start value : Value) (bound : ℕ) (labels : List ℕ) → IsBoard board → board.pebbles ≤ bound
-      → IsClassReachedByAnswers board number → HasValue board (take size at) value
+      → IsClassReachedByAnswers board normal number → HasValue board (take size at) value
       → AreTaken board (class_numbered board number) bound labels
-      → IsLabellerClassRow board start
+      → IsLabellerRowOver (normal_positions normal) board start
       (record { at = take board.pebbles at; turns = turns_of start value; answers = take board.pebbles labels })
   labeller_row_is start value bound labels is_board enough reached has_held taken =
       let c : List ℕ = class_numbered board number in
@@ -45,7 +48,7 @@ module _ (board : PlainBoard) (number size : ℕ) (at : List ℕ) (size_is : siz
       let most = is_board.pebbles in
       let room : board.pebbles ≤ length labels = omega (arith, most, taken.six) in
       let row : AnswerRow = record { at = c; turns = turns_of start value; answers = take board.pebbles labels } in
-      let is_row : IsLabellerClassRow board start row = record {
+      let is_row : IsLabellerRowOver (normal_positions normal) board start row = record {
         moves = reached.moves;
         reached = reached.reached;
         value = value;
@@ -57,13 +60,13 @@ module _ (board : PlainBoard) (number size : ℕ) (at : List ℕ) (size_is : siz
             (sym (get_or-take board.pebbles labels pebble 0 below))
             (taken.best pebble (omega (arith, below, enough)));
       } in
-      subst (λ (l : List ℕ). IsLabellerClassRow board start
+      subst (λ (l : List ℕ). IsLabellerRowOver (normal_positions normal) board start
       (record { at = l; turns = turns_of start value; answers = take board.pebbles labels })) (sym here) is_row
 
-  -- the adversary's row of the class
-  pub adversary_row_is : (pebble left : ℕ) → IsClassNumber board number → IsClassReachedByRequests board number
+  -- the adversary's row there
+  pub adversary_row_is : (pebble left : ℕ) → IsClassNumber board number → IsClassReachedByRequests board normal number
       → HasValue board (take size at) (Finite left) → IsBestRequest board (take size at) pebble
-      → IsAdversaryClassRow board
+      → IsAdversaryRowOver (normal_positions normal) board
       (record { at = take board.pebbles at; left = left; request = get_or (take size at) pebble 0 })
   adversary_row_is pebble left is reached has_held best_held =
       let c : List ℕ = class_numbered board number in
@@ -72,18 +75,23 @@ module _ (board : PlainBoard) (number size : ℕ) (at : List ℕ) (size_is : siz
       (l : List ℕ). IsBestRequest board l pebble) held_is best_held in
       let row : RequestRow = record { at = c; left = left; request = ask } in
       let first = first-best board row pebble is.is best (ap (λ (l : List ℕ). get_or l pebble 0) held_is) in
-      let is_row : IsAdversaryClassRow board row = record {
+      let is_row : IsAdversaryRowOver (normal_positions normal) board row = record {
         moves = reached.moves;
         reached = reached.reached;
         has_value = subst (λ (l : List ℕ). HasValue board l (Finite left)) held_is has_held;
-        asked = first.0;
+        asks = asked_below row first.0;
         best = first.1;
       } in
-      subst (λ (l : List ℕ). IsAdversaryClassRow board (record { at = l; left = left; request = ask }))
+      subst (λ (l : List ℕ). IsAdversaryRowOver (normal_positions normal) board (record {
+        at = l;
+        left = left;
+        request = ask;
+      }))
       (sym here) is_row
 
-  -- a class that lasts forever has no row
-  pub no_request : HasValue board (take size at) Forever → (row : RequestRow) → IsAdversaryClassRow board row
+  -- places that last forever have no row
+  pub no_request : HasValue board (take size at) Forever → (row : RequestRow) → IsAdversaryRowOver (normal_positions
+      normal) board row
       → row.at ≡ class_numbered board number → ⊥
   no_request forever row is_row there =
       let c : List ℕ = class_numbered board number in

@@ -1,11 +1,9 @@
--- A board has one document by classes at most, and that has one row at most for each class.
-use Rattle.std.proofs.Common.{◌≡◌, ◌↔◌, ℕ, zero, suc, ◌<◌, ◌==◌, Bool, List, [], ◌∷◌, length, get_or, slice_index, refl}
+-- A board has one document over normal places at most, and that has one row at most for all that are alike.
+use Rattle.std.proofs.Common.{◌≡◌, ◌↔◌, ℕ, zero, suc, ◌<◌, List, [], ◌∷◌, length, get_or, slice_index, refl}
 use Rattle.std.proofs.Common.{sym, ap, ◌∙◌, subst, arith}
-use Rattle.std.proofs.Common.{eqb-true}
 use Rattle.std.specs.List.{Contains}
 use Rattle.std.proofs.lemmas.List.{ext_get_or}
 use Rattle.std.proofs.lemmas.List.Elements.{Contains-append_right}
-use Rattle.std.proofs.lemmas.List.Sums.{passes_at_first}
 use Rattle.std.proofs.lemmas.Map.Made.{Contains-tail}
 use Rattle.board_text.specs.PlainBoard.{PlainBoard, IsConfiguration}
 use Rattle.positions.specs.declared.value.Value.{Value}
@@ -20,18 +18,17 @@ use Rattle.strategies.specs.Document.{AsksAdversary, IsAnswerable, IsAnswerMove,
 use Rattle.strategies.proofs.BestAnswers.{same_answer}
 use Rattle.strategies.proofs.BestRequests.{same_request}
 use Rattle.strategies.proofs.OneList.{IsAscending, behind_first, tail_ascends}
-use Rattle.proof_text.specs.Arranged.{arranged, order_number}
-use Rattle.proof_text.specs.Positions.{asked_pebble}
-use Rattle.proof_text.proofs.Cited.{arranged_is}
-use Rattle.proof_text.proofs.Cited.{asked_below, asked_place}
-use Rattle.strategies.specs.ClassDocument.{AreExactlyClasses, IsAdversaryClassRow, IsClassDocumentOf}
-use Rattle.strategies.specs.ClassDocument.{IsLabellerClassRow, LeadsByClasses}
+use Rattle.proof_text.specs.Arranged.{order_number}
+use Rattle.proof_text.specs.Positions.{Positions, asked_pebble, class_positions, normal_positions}
+use Rattle.proof_text.proofs.Cited.{asked_place}
+use Rattle.strategies.specs.ClassDocument.{IsClassDocumentOf}
 use Rattle.strategies.specs.Inside.ClassSide.{AreOfReachedClasses, class_labeller_side, class_adversary_side}
-use Rattle.proof_text.proofs.Cited.{arranged-again}
-use Rattle.strategies.proofs.ClassMoves.{lead_to}
-use Rattle.strategies.proofs.ClassDocumentForm.{leads_arranged}
+use Rattle.strategies.specs.Inside.NormalForm.{IsNormalForm}
+use Rattle.strategies.specs.PositionDocument.{AreExactlyOver, IsAdversaryRowOver, IsDocumentOver}
+use Rattle.strategies.specs.PositionDocument.{IsLabellerRowOver, LeadsOver}
+use Rattle.strategies.proofs.ClassMoves.{lead_normal, lead_to}
 
--- ---- one row for each class
+-- ---- one row for all places that are alike
 
 same_answers : (board : PlainBoard) (configuration ones others : List ℕ) → length ones ≡ board.pebbles
     → length others ≡ board.pebbles
@@ -43,10 +40,11 @@ same_answers board configuration ones others size long best also =
     (λ k inside. same_answer board configuration k (slice_index ones k) (slice_index others k)
     (best k (omega (arith, inside, size))) (also k (omega (arith, inside, size))))
 
-pub one_answer_row : (board : PlainBoard) (start : Value) (first second : AnswerRow)
-    → IsLabellerClassRow board start first → IsLabellerClassRow board start second
+pub one_answer_row : (board : PlainBoard) (normal : List ℕ → List ℕ) (start : Value) (first second : AnswerRow)
+    → IsLabellerRowOver (normal_positions normal) board start first
+    → IsLabellerRowOver (normal_positions normal) board start second
     → first.at ≡ second.at → first ≡ second
-one_answer_row board start first second one other at =
+one_answer_row board normal start first second one other at =
     let value : one.value ≡ other.value = same_value board second.at one.value other.value
     (subst (λ (c : List ℕ). HasValue board c one.value) at one.has_value) other.has_value in
     let turns : first.turns ≡ second.turns = one.turns ∙ ap (turns_of start) value ∙ sym other.turns in
@@ -58,24 +56,21 @@ one_answer_row board start first second one other at =
     rw (at, turns, answers) refl in
     same
 
--- the asked pebble is on the asked place
-asked_there : (row : RequestRow) → Contains row.at row.request → get_or row.at (asked_pebble row) 0 ≡ row.request
-asked_there row among = asked_place row (asked_below row among)
-
 finite_is : (a b : ℕ) → Finite a ≡ Finite b → a ≡ b
 finite_is a b same = cc
 
-pub one_request_row : (board : PlainBoard) (first second : RequestRow) → IsAdversaryClassRow board first
-    → IsAdversaryClassRow board second → first.at ≡ second.at → first ≡ second
-one_request_row board first second one other at =
+pub one_request_row : (board : PlainBoard) (normal : List ℕ → List ℕ) (first second : RequestRow)
+    → IsAdversaryRowOver (normal_positions normal) board first
+    → IsAdversaryRowOver (normal_positions normal) board second → first.at ≡ second.at → first ≡ second
+one_request_row board normal first second one other at =
     let left : first.left ≡ second.left =
     finite_is first.left second.left (same_value board second.at (Finite first.left) (Finite second.left)
     (subst (λ (c : List ℕ). HasValue board c (Finite first.left)) at one.has_value) other.has_value) in
     let pebble : asked_pebble first ≡ asked_pebble second = same_request board second.at (asked_pebble first)
     (asked_pebble second) (subst (λ (c : List ℕ). IsBestRequest board c (asked_pebble first)) at one.best) other.best in
     let request : first.request ≡ second.request =
-    sym (asked_there first one.asked) ∙ ap (λ n. get_or first.at n 0) pebble
-    ∙ ap (λ (c : List ℕ). get_or c (asked_pebble second) 0) at ∙ asked_there second other.asked in
+    sym (asked_place first one.asks) ∙ ap (λ n. get_or first.at n 0) pebble
+    ∙ ap (λ (c : List ℕ). get_or c (asked_pebble second) 0) at ∙ asked_place second other.asks in
     let same : ◌≡◌ {A = RequestRow} (record { at = first.at; left = first.left; request = first.request }) second =
     rw (at, left, request) refl in
     same
@@ -121,67 +116,83 @@ module _ {X : Type 0} (number : X → ℕ) where
 -- ---- one document
 
 -- lists of exactly the same rows are the same
-same_rows : {X : Type 0} (board : PlainBoard) (IsRow : X → Type 0) (at : X → List ℕ) (ones others : List X)
-    → AreExactlyClasses board IsRow at ones → AreExactlyClasses board IsRow at others → ones ≡ others
+pub same_rows : {X : Type 0} (board : PlainBoard) (IsRow : X → Type 0) (at : X → List ℕ) (ones others : List X)
+    → AreExactlyOver (order_number board.labels) IsRow at ones
+    → AreExactlyOver (order_number board.labels) IsRow at others → ones ≡ others
 same_rows board IsRow at ones others exactly also =
     same_list (λ row. order_number board.labels (at row)) ones others exactly.ascending also.ascending (λ row. (
       λ among. (also.each row).1 ((exactly.each row).0 among),
       λ among. (exactly.each row).1 ((also.each row).0 among),
     ))
 
-pub one_class_document : (board : PlainBoard) (first second : PlainProof) → IsClassDocumentOf board first
-    → IsClassDocumentOf board second → first ≡ second
-one_class_document board first second one other =
+pub one_document_over : (positions : Positions) (board : PlainBoard) (first second : PlainProof)
+    → IsDocumentOver positions (order_number board.labels) board first
+    → IsDocumentOver positions (order_number board.labels) board second → first ≡ second
+one_document_over positions board first second one other =
     let value : other.value ≡ one.value =
     same_value board board.start other.value one.value other.has_value one.has_value in
     let claim : first.claim ≡ second.claim = one.claim ∙ sym (ap claim_of value) ∙ sym other.claim in
     let labeller : first.labeller ≡ second.labeller =
-    same_rows board (IsLabellerClassRow board one.value)
+    same_rows board (IsLabellerRowOver positions board one.value)
     (λ (row : AnswerRow). row.at) first.labeller second.labeller one.labeller
-    (subst (λ (v : Value). AreExactlyClasses board (IsLabellerClassRow board v)
+    (subst (λ (v : Value). AreExactlyOver (order_number board.labels) (IsLabellerRowOver positions board v)
     (λ (row : AnswerRow). row.at) second.labeller) value other.labeller) in
     let adversary : first.adversary ≡ second.adversary =
-    same_rows board (λ (row : RequestRow). AsksAdversary one.value × IsAdversaryClassRow board row)
+    same_rows board (λ (row : RequestRow). AsksAdversary one.value × IsAdversaryRowOver positions board row)
     (λ (row : RequestRow). row.at) first.adversary second.adversary one.adversary
-    (subst (λ (v : Value). AreExactlyClasses board (λ (row : RequestRow). AsksAdversary v
-    × IsAdversaryClassRow board row)
+    (subst (λ (v : Value). AreExactlyOver (order_number board.labels) (λ (row : RequestRow). AsksAdversary v
+    × IsAdversaryRowOver positions board row)
     (λ (row : RequestRow). row.at) second.adversary) value other.adversary) in
     let same : ◌≡◌ {A = PlainProof}
     (record { claim = first.claim; labeller = first.labeller; adversary = first.adversary }) second =
     rw (claim, labeller, adversary) refl in
     same
 
--- ---- rows stand at classes that are reached
+pub one_class_document : (board : PlainBoard) (first second : PlainProof) → IsClassDocumentOf board first
+    → IsClassDocumentOf board second → first ≡ second
+one_class_document board = one_document_over (class_positions board.labels) board
 
-module _ (board : PlainBoard) (start : Value) (is : IsConfiguration board board.start) where
+-- ---- rows stand at places that are reached
+
+module _ (board : PlainBoard) (normal : List ℕ → List ℕ) (form : IsNormalForm board normal) (start : Value)
+    (is : IsConfiguration board board.start) where
   abbrev from : List ℕ
-  from = arranged board.labels board.start
+  from = normal board.start
 
-  pub labellers : AreOfReachedClasses board (class_labeller_side board start)
+  pub labellers : AreOfReachedClasses board (class_labeller_side board normal start)
   labellers = record {
-    is = λ row is_row. lead_to board (IsAnswerMove board) (λ c pebble label move. move.best.0.legal.is_label) from
-        is_row.moves row.at (arranged_is board board.start is) is_row.reached;
-    arranged_is = λ row is_row. leads_arranged board.labels (IsAnswerMove board) from is_row.moves row.at
-        (arranged-again board.labels board.start) is_row.reached;
+    is = λ row is_row. lead_to board normal form (IsAnswerMove board)
+        (λ c pebble label move. move.best.0.legal.is_label) from is_row.moves row.at (form.is board.start is)
+        is_row.reached;
     reached = λ row number is_row at. record {
       moves = is_row.moves;
-      reached = subst (LeadsByClasses board.labels (IsAnswerMove board) from is_row.moves) at is_row.reached;
+      reached = subst (LeadsOver (normal_positions normal) (IsAnswerMove board) from is_row.moves) at is_row.reached;
       holds = subst (IsAnswerable board) at
           (record { value = is_row.value; has_value = is_row.has_value; some = is_row.some });
     };
-    one = one_answer_row board start;
+    one = one_answer_row board normal start;
   }
 
-  pub adversarys : AreOfReachedClasses board (class_adversary_side board start)
+  pub adversarys : AreOfReachedClasses board (class_adversary_side board normal start)
   adversarys = record {
-    is = λ row is_row. lead_to board (IsRequestMove board) (λ c pebble label move. move.legal.is_label) from
-        is_row.moves row.at (arranged_is board board.start is) is_row.reached;
-    arranged_is = λ row is_row. leads_arranged board.labels (IsRequestMove board) from is_row.moves row.at
-        (arranged-again board.labels board.start) is_row.reached;
+    is = λ row is_row. lead_to board normal form (IsRequestMove board) (λ c pebble label move. move.legal.is_label) from
+        is_row.moves row.at (form.is board.start is) is_row.reached;
     reached = λ row number is_row at. record {
       moves = is_row.moves;
-      reached = subst (LeadsByClasses board.labels (IsRequestMove board) from is_row.moves) at is_row.reached;
+      reached = subst (LeadsOver (normal_positions normal) (IsRequestMove board) from is_row.moves) at is_row.reached;
       holds = tt;
     };
-    one = one_request_row board;
+    one = one_request_row board normal;
   }
+
+  -- a fact of all normal places is one of the places of each row
+  module _ (P : List ℕ → Type 0) (each : (c : List ℕ) → IsConfiguration board c → P (normal c)) where
+    pub labellers_normal : (row : AnswerRow) → IsLabellerRowOver (normal_positions normal) board start row → P row.at
+    labellers_normal row is_row =
+        lead_normal board normal form (IsAnswerMove board) (λ c pebble label move. move.best.0.legal.is_label) P each
+        from is_row.moves row.at (form.is board.start is) (each board.start is) is_row.reached
+
+    pub adversarys_normal : (row : RequestRow) → IsAdversaryRowOver (normal_positions normal) board row → P row.at
+    adversarys_normal row is_row =
+        lead_normal board normal form (IsRequestMove board) (λ c pebble label move. move.legal.is_label) P each
+        from is_row.moves row.at (form.is board.start is) (each board.start is) is_row.reached

@@ -71,7 +71,7 @@ module _ {X : Type 0} (rank : X → ℕ) where
       ap (λ (r : X). r ∷ ones) equal ∙ ap (λ (rs : List X). other ∷ rs) rest
 
 -- lists of exactly the same rows are the same
-same_rows : {X : Type 0} (board : PlainBoard) (IsRow : X → Type 0) (at : X → List ℕ) (ones others : List X)
+pub same_rows : {X : Type 0} (board : PlainBoard) (IsRow : X → Type 0) (at : X → List ℕ) (ones others : List X)
     → AreExactly board IsRow at ones → AreExactly board IsRow at others → ones ≡ others
 same_rows board IsRow at ones others exactly also =
     same_list (λ row. rank_of board (at row)) ones others exactly.ascending also.ascending (λ row. (

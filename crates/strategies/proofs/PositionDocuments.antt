@@ -1,4 +1,4 @@
--- The documents of both versions that there are today are documents over positions.
+-- The document of a board by configurations is a document over positions.
 use Rattle.std.proofs.Common.{◌≡◌, ◌↔◌, ℕ, ◌<◌, List, [], ◌∷◌, length, sym, ap, ◌∙◌, arith}
 use Rattle.std.proofs.lemmas.List.{length-set}
 use Rattle.board_text.specs.PlainBoard.{PlainBoard, IsConfiguration}
@@ -6,76 +6,10 @@ use Rattle.positions.specs.declared.value.Value.{Value}
 use Rattle.positions.specs.Ranks.{rank_of}
 use Rattle.positions.specs.Table.{AnswerRow, RequestRow}
 use Rattle.positions.specs.Game.{moved}
-use Rattle.proof_text.specs.Arranged.{arranged, order_number}
 use Rattle.proof_text.specs.Proof.{PlainProof}
-use Rattle.proof_text.proofs.Cited.{asked_below, asked_is}
-use Rattle.strategies.specs.ClassDocument.{LeadsByClasses, IsLabellerClassRow, IsAdversaryClassRow, IsClassDocumentOf}
 use Rattle.strategies.specs.Document.{LeadsBy, IsLabellerRow, IsAdversaryRow, IsDocumentOf, IsRequestMove}
 use Rattle.strategies.specs.PositionDocument.{LeadsOver, IsLabellerRowOver, IsAdversaryRowOver, IsDocumentOver}
-use Rattle.proof_text.specs.Positions.{class_positions, configuration_positions}
-
-module _ (labels : ℕ) (IsMove : List ℕ → ℕ → ℕ → Type 0) where
-  leads_over : (from : List ℕ) (moves : List (ℕ × ℕ)) (to : List ℕ) → LeadsByClasses labels IsMove from moves to
-      → LeadsOver (class_positions labels) IsMove from moves to
-  leads_over from [] to leads = leads
-  leads_over from ((pebble, label) ∷ moves) to leads =
-      (leads.0, leads_over (arranged labels (moved from pebble label)) moves to leads.1)
-
-  leads_by_classes : (from : List ℕ) (moves : List (ℕ × ℕ)) (to : List ℕ)
-      → LeadsOver (class_positions labels) IsMove from moves to
-      → LeadsByClasses labels IsMove from moves to
-  leads_by_classes from [] to leads = leads
-  leads_by_classes from ((pebble, label) ∷ moves) to leads =
-      (leads.0, leads_by_classes (arranged labels (moved from pebble label)) moves to leads.1)
-
-labeller_over : (board : PlainBoard) (start : Value) (row : AnswerRow) → IsLabellerClassRow board start row
-    → IsLabellerRowOver (class_positions board.labels) board start row
-labeller_over board start row is = record {
-  moves = is.moves;
-  reached = leads_over board.labels _ _ is.moves row.at is.reached;
-  value = is.value;
-  has_value = is.has_value;
-  some = is.some;
-  turns = is.turns;
-  one_each = is.one_each;
-  best = is.best;
-}
-
-labeller_by_classes : (board : PlainBoard) (start : Value) (row : AnswerRow)
-    → IsLabellerRowOver (class_positions board.labels) board start row → IsLabellerClassRow board start row
-labeller_by_classes board start row is = record {
-  moves = is.moves;
-  reached = leads_by_classes board.labels _ _ is.moves row.at is.reached;
-  value = is.value;
-  has_value = is.has_value;
-  some = is.some;
-  turns = is.turns;
-  one_each = is.one_each;
-  best = is.best;
-}
-
-adversary_over : (board : PlainBoard) (row : RequestRow) → IsAdversaryClassRow board row
-    → IsAdversaryRowOver (class_positions board.labels) board row
-adversary_over board row is = record {
-  moves = is.moves;
-  reached = leads_over board.labels _ _ is.moves row.at is.reached;
-  has_value = is.has_value;
-  asks = asked_below row is.asked;
-  best = is.best;
-}
-
-adversary_by_classes : (board : PlainBoard) (row : RequestRow)
-    → IsAdversaryRowOver (class_positions board.labels) board row
-    → IsAdversaryClassRow board row
-adversary_by_classes board row is = record {
-  moves = is.moves;
-  reached = leads_by_classes board.labels _ _ is.moves row.at is.reached;
-  has_value = is.has_value;
-  asked = asked_is row is.asks;
-  best = is.best;
-}
-
--- ---- by configurations
+use Rattle.proof_text.specs.Positions.{configuration_positions}
 
 module _ (IsMove : List ℕ → ℕ → ℕ → Type 0) where
   leads_plainly : (from : List ℕ) (moves : List (ℕ × ℕ)) (to : List ℕ) → LeadsBy IsMove from moves to
@@ -183,53 +117,6 @@ document_over board proof start = (
         λ among.
             let found = (is.adversary.each row).0 among in (found.0, (plain_adversary board row start).1 found.1),
         λ by. (is.adversary.each row).1 (by.0, (plain_adversary board row start).0 by.1),
-      );
-      ascending = is.adversary.ascending;
-    };
-  },
-)
-
--- ---- by classes
-
--- the document by classes of a board is its document over classes
-pub class_document_over : (board : PlainBoard) (proof : PlainProof)
-    → IsClassDocumentOf board proof
-    ↔ IsDocumentOver (class_positions board.labels) (order_number board.labels) board proof
-class_document_over board proof = (
-  λ is. record {
-    value = is.value;
-    has_value = is.has_value;
-    claim = is.claim;
-    labeller = record {
-      each = λ row. (
-        λ among. labeller_over board is.value row ((is.labeller.each row).0 among),
-        λ over. (is.labeller.each row).1 (labeller_by_classes board is.value row over),
-      );
-      ascending = is.labeller.ascending;
-    };
-    adversary = record {
-      each = λ row. (
-        λ among. let found = (is.adversary.each row).0 among in (found.0, adversary_over board row found.1),
-        λ over. (is.adversary.each row).1 (over.0, adversary_by_classes board row over.1),
-      );
-      ascending = is.adversary.ascending;
-    };
-  },
-  λ is. record {
-    value = is.value;
-    has_value = is.has_value;
-    claim = is.claim;
-    labeller = record {
-      each = λ row. (
-        λ among. labeller_by_classes board is.value row ((is.labeller.each row).0 among),
-        λ by. (is.labeller.each row).1 (labeller_over board is.value row by),
-      );
-      ascending = is.labeller.ascending;
-    };
-    adversary = record {
-      each = λ row. (
-        λ among. let found = (is.adversary.each row).0 among in (found.0, adversary_by_classes board row found.1),
-        λ by. (is.adversary.each row).1 (by.0, adversary_over board row by.1),
       );
       ascending = is.adversary.ascending;
     };

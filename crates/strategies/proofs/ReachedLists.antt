@@ -1,4 +1,4 @@
--- Moves of one kind lead from the start's class to exactly the classes of some list.
+-- Moves of one kind lead from the start's normal places to exactly the places of some list.
 use Rattle.std.proofs.Common.{◌≡◌, ◌≢◌, ℕ, zero, suc, ◌+◌, ◌<◌, ◌≤◌, ◌⊎◌, inl, inr, List, [], ◌∷◌, ◌++◌}
 use Rattle.std.proofs.Common.{refl, ap, ◌∙◌, subst, arith}
 use Rattle.std.specs.List.{AllPairs, Contains}
@@ -21,9 +21,8 @@ use Rattle.strategies.proofs.BestRequests.{best_request, same_request, not_lower
 use Rattle.strategies.proofs.Closure.{answerable_or_not}
 use Rattle.strategies.proofs.DocumentRows.{answers_one}
 use Rattle.strategies.proofs.SpreadRanks.{get_there}
-use Rattle.proof_text.specs.Arranged.{arranged}
-use Rattle.proof_text.proofs.Cited.{arranged_is}
-use Rattle.strategies.specs.Inside.ReachedClasses.{class_numbered, number_of_class_at, IsClassNumber}
+use Rattle.strategies.specs.Inside.NormalForm.{IsNormalForm}
+use Rattle.strategies.specs.Inside.ReachedClasses.{class_numbered, normal_number, IsClassNumber}
 use Rattle.strategies.specs.Inside.ReachedClasses.{IsClassAnswerStep, ClassAnswerLeads}
 use Rattle.strategies.specs.Inside.ReachedClasses.{IsClassRequestStep, ClassRequestLeads, IsClassReachedBy}
 use Rattle.strategies.specs.Inside.ReachedClasses.{IsClassReachedByAnswers}
@@ -94,46 +93,49 @@ add_all P bound low one numbers apart =
 
 -- ---- a list that is worked off comes to an end
 
-module _ (board : PlainBoard) (IsMove : List ℕ → ℕ → ℕ → Type 0) (Holds : List ℕ → Type 0) (Leads : ℕ → ℕ → Type 0)
-    (is : IsConfiguration board board.start) (are : AreMoves board IsMove Holds Leads)
+module _ (board : PlainBoard) (normal : List ℕ → List ℕ) (form : IsNormalForm board normal)
+    (IsMove : List ℕ → ℕ → ℕ → Type 0) (Holds : List ℕ → Type 0) (Leads : ℕ → ℕ → Type 0)
+    (is : IsConfiguration board board.start) (are : AreMoves board normal IsMove Holds Leads)
     (add : (number : ℕ) → IsClassNumber board number → Holds (class_numbered board number)
     → (numbers : List ℕ) → AreApart numbers → CanAdd numbers (Leads number)) where
   works_off : (left place : ℕ) (numbers : List ℕ) → last_number board ≤ place + left
-      → IsSpreadBy board IsMove Holds Leads place numbers
-      → AreApart numbers → (all : List ℕ) × AreClassNumbersOf board (IsClassReachedBy board IsMove Holds) all
+      → IsSpreadBy board normal IsMove Holds Leads place numbers
+      → AreApart numbers → (all : List ℕ) × AreClassNumbersOf board (IsClassReachedBy board normal IsMove Holds) all
   works_off zero place numbers enough spread apart = elim (slice_get_cases numbers place).1 [
-    | inr end ↦ (numbers, spread_ends board IsMove Holds Leads is are place numbers spread end.1)
+    | inr end ↦ (numbers, spread_ends board normal form IsMove Holds Leads is are place numbers spread end.1)
     | inl there ↦
         let few = few_apart numbers (last_number board) apart
         (λ number among. number-ends board number (spread.on.sound number among).0) in
         absurd (omega (arith, few, there.1, enough))
   ]
   works_off (suc left) place numbers enough spread apart = elim (slice_get_cases numbers place).1 [
-    | inr end ↦ (numbers, spread_ends board IsMove Holds Leads is are place numbers spread end.1)
+    | inr end ↦ (numbers, spread_ends board normal form IsMove Holds Leads is are place numbers spread end.1)
     | inl there ↦
         let found = spread.on.sound there.0 (get_there numbers place there.0 there.2) in
         let added = add there.0 found.0 found.1.holds numbers apart in
         works_off left (place + 1) added.0 (omega (arith, enough))
-        (spread_more board IsMove Holds Leads is are place there.0 numbers added.0 spread there.2 added.1) added.2
+        (spread_more board normal form IsMove Holds Leads is are place there.0 numbers added.0 spread there.2
+        added.1) added.2
   ]
 
-  all_reached : Holds (arranged board.labels board.start) ⊎ ¬ Holds (arranged board.labels board.start)
-      → (all : List ℕ) × AreClassNumbersOf board (IsClassReachedBy board IsMove Holds) all
+  all_reached : Holds (normal board.start) ⊎ ¬ Holds (normal board.start)
+      → (all : List ℕ) × AreClassNumbersOf board (IsClassReachedBy board normal IsMove Holds) all
   all_reached either =
-      let one : OneOrNone (IsStart board IsMove Holds Leads is) = elim either [
-        | inl holds ↦ inl (number_of_class_at board board.start, (holds, refl), λ number starts. starts.1)
+      let one : OneOrNone (IsStart board normal form IsMove Holds Leads is) = elim either [
+        | inl holds ↦ inl (normal_number board normal board.start, (holds, refl), λ number starts. starts.1)
         | inr not ↦ inr (λ number starts. not starts.0)
       ] in
-      let begun = add_one (IsStart board IsMove Holds Leads is) one [] none_apart in
+      let begun = add_one (IsStart board normal form IsMove Holds Leads is) one [] none_apart in
       works_off (last_number board) 0 begun.0 (omega arith)
-      (spread_begins board IsMove Holds Leads is begun.0 begun.1) begun.2
+      (spread_begins board normal form IsMove Holds Leads is begun.0 begun.1) begun.2
 
 -- ---- best answers
 
 -- a request of a pebble leads to one class, or to none
-answer_step : (board : PlainBoard) (c : List ℕ) (pebble : ℕ) → IsConfiguration board c → IsAnswerable board c
-    → pebble < board.pebbles → OneOrNone (IsClassAnswerStep board c pebble)
-answer_step board c pebble is some is_pebble =
+answer_step : (board : PlainBoard) (normal : List ℕ → List ℕ) (form : IsNormalForm board normal) (c : List ℕ)
+    (pebble : ℕ) → IsConfiguration board c → IsAnswerable board c
+    → pebble < board.pebbles → OneOrNone (IsClassAnswerStep board normal c pebble)
+answer_step board normal form c pebble is some is_pebble =
     let answer = answers_one board c some.value some.has_value some.some pebble is_pebble in
     let best = best_answer board c pebble is answer.0 answer.1 in
     let next : List ℕ = moved c pebble best.0 in
@@ -141,35 +143,37 @@ answer_step board c pebble is some is_pebble =
     moved_is_configuration board c pebble best.0 best.1.0.legal.is_label is in
     let one : (label : ℕ) → IsBestAnswer board c pebble label → label ≡ best.0 =
     λ label is_best. same_answer board c pebble label best.0 is_best best.1 in
-    elim (answerable_or_not board (arranged board.labels next) (arranged_is board next is_next)) [
+    elim (answerable_or_not board (normal next) (form.is next is_next)) [
       | inl holds ↦ inl (
-        number_of_class_at board next,
+        normal_number board normal next,
         record { is_pebble = is_pebble; label = best.0; best = best.1; to_is = refl; some = holds },
-        λ other step. step.to_is ∙ ap (λ (l : ℕ). number_of_class_at board (moved c pebble l))
+        λ other step. step.to_is ∙ ap (λ (l : ℕ). normal_number board normal (moved c pebble l))
             (one step.label step.best),
       )
       | inr not ↦ inr (λ other step. not
-          (subst (λ (l : ℕ). IsAnswerable board (arranged board.labels (moved c pebble l))) (one step.label step.best)
+          (subst (λ (l : ℕ). IsAnswerable board (normal (moved c pebble l))) (one step.label step.best)
           step.some))
     ]
 
-pub answers_reach : (board : PlainBoard) → IsConfiguration board board.start
-    → (numbers : List ℕ) × AreClassNumbersOf board (IsClassReachedByAnswers board) numbers
-answers_reach board is =
-    all_reached board _ (IsAnswerable board) (ClassAnswerLeads board) is (answer_moves board)
-    (λ number class some. add_all (IsClassAnswerStep board (class_numbered board number)) board.pebbles
+pub answers_reach : (board : PlainBoard) (normal : List ℕ → List ℕ) → IsNormalForm board normal
+    → IsConfiguration board board.start
+    → (numbers : List ℕ) × AreClassNumbersOf board (IsClassReachedByAnswers board normal) numbers
+answers_reach board normal form is =
+    all_reached board normal form _ (IsAnswerable board) (ClassAnswerLeads board normal) is (answer_moves board normal)
+    (λ number class some. add_all (IsClassAnswerStep board normal (class_numbered board number)) board.pebbles
     (λ pebble to step. step.is_pebble)
-    (λ pebble. answer_step board (class_numbered board number) pebble class.is some))
-    (answerable_or_not board (arranged board.labels board.start) (arranged_is board board.start is))
+    (λ pebble. answer_step board normal form (class_numbered board number) pebble class.is some))
+    (answerable_or_not board (normal board.start) (form.is board.start is))
 
 -- ---- best requests
 
 -- a label leads to one class, or to none
-request_step : (board : PlainBoard) (c : List ℕ) (label : ℕ) → IsConfiguration board c → label < board.labels
-    → OneOrNone (IsClassRequestStep board c label)
-request_step board c label is is_label = let value = some_value board c is in by value.0 value.1
+request_step : (board : PlainBoard) (normal : List ℕ → List ℕ) (c : List ℕ) (label : ℕ) → IsConfiguration board c →
+    label < board.labels
+    → OneOrNone (IsClassRequestStep board normal c label)
+request_step board normal c label is is_label = let value = some_value board c is in by value.0 value.1
   where
-    by : (value : Value) → HasValue board c value → OneOrNone (IsClassRequestStep board c label)
+    by : (value : Value) → HasValue board c value → OneOrNone (IsClassRequestStep board normal c label)
     by Forever has = inr (λ to step. not_lowered board c step.pebble is has step.best.0)
     by (Finite number) has =
         let best = best_request board number c has in
@@ -177,24 +181,25 @@ request_step board c label is is_label = let value = some_value board c is in by
         λ pebble is_best. same_request board c pebble best.0 is_best best.1 in
         elim (dominates_or_not board c best.0 label) [
           | inl dominates ↦ inl (
-            number_of_class_at board (moved c best.0 label),
+            normal_number board normal (moved c best.0 label),
             record {
               pebble = best.0;
               best = best.1;
               legal = record { is_label = is_label; dominates = dominates };
               to_is = refl;
             },
-            λ other step. step.to_is ∙ ap (λ (p : ℕ). number_of_class_at board (moved c p label))
+            λ other step. step.to_is ∙ ap (λ (p : ℕ). normal_number board normal (moved c p label))
                 (one step.pebble step.best),
           )
           | inr not ↦ inr (λ other step. not
               (subst (λ (p : ℕ). Legal board c p label) (one step.pebble step.best) step.legal).dominates)
         ]
 
-pub requests_reach : (board : PlainBoard) → IsConfiguration board board.start
-    → (numbers : List ℕ) × AreClassNumbersOf board (IsClassReachedByRequests board) numbers
-requests_reach board is =
-    all_reached board _ (λ c. Unit {0}) (ClassRequestLeads board) is (request_moves board)
-    (λ number class holds. add_all (IsClassRequestStep board (class_numbered board number)) board.labels
+pub requests_reach : (board : PlainBoard) (normal : List ℕ → List ℕ) → IsNormalForm board normal
+    → IsConfiguration board board.start
+    → (numbers : List ℕ) × AreClassNumbersOf board (IsClassReachedByRequests board normal) numbers
+requests_reach board normal form is =
+    all_reached board normal form _ (λ c. Unit {0}) (ClassRequestLeads board normal) is (request_moves board normal)
+    (λ number class holds. add_all (IsClassRequestStep board normal (class_numbered board number)) board.labels
     (λ label to step. step.legal.is_label)
-    (λ label. request_step board (class_numbered board number) label class.is)) (inl tt)
+    (λ label. request_step board normal (class_numbered board number) label class.is)) (inl tt)

@@ -1,4 +1,4 @@
--- The rows at some classes, one after the other.
+-- The rows at some places, one after the other.
 use Rattle.std.proofs.Common.{◌≡◌, ℕ, ◌<◌, List, [], ◌∷◌, ◌++◌, map, Option, Some, None, get_or}
 use Rattle.std.proofs.Common.{refl, sym, ap, ◌∙◌, subst, inl, inr, arith}
 use Rattle.std.specs.List.{All, AllPairs, Contains, cons_option}
@@ -161,8 +161,7 @@ module _ {R : Type 0} (board : PlainBoard) (side : Side R) where
             let number : ℕ = order_number board.labels (side.at row) in
             let is = are.rows.is row is_row in
             let at : side.at row ≡ class_numbered board number = sym (class_numbered-order board (side.at row) is) in
-            let below : IsClassNumber board number = number-of board (side.at row) is
-            (are.rows.arranged_is row is_row) in
+            let below : IsClassNumber board number = number-of board (side.at row) is in
             row_is_there are.rows numbers rows rows_are number
             ((order.each number).1 ((are.each number).1 (below, are.rows.reached row number is_row at))) row is_row at,
       );

@@ -1,4 +1,4 @@
--- The list of reached classes is worked off: it has no repetitions, so a place in it is below a bound.
+-- The list of reached places is worked off: it has no repetitions, so a place in it is below a bound.
 use Rattle.std.proofs.Common.{◌≡◌, ◌≢◌, ℕ, ◌+◌, ◌-◌, ◌^◌, ◌<◌, ◌≤◌, List, Some, length, slice_get, arith}
 use Rattle.std.specs.List.{AllPairs}
 use Rattle.std.proofs.Math.Nat.{pow-le-pow_left, pow-le-pow_right}
@@ -8,8 +8,9 @@ use Rattle.strategies.proofs.AddedRanks.{few_apart}
 use Rattle.strategies.proofs.ClassNumbers.{last_number, number-ends}
 use Rattle.strategies.proofs.SpreadClasses.{IsSpreadBy}
 
-module _ (board : PlainBoard) (IsMove : List ℕ → ℕ → ℕ → Type 0) (Holds : List ℕ → Type 0) (Leads : ℕ → ℕ → Type 0)
-    (place number : ℕ) (numbers : List ℕ) (spread : IsSpreadBy board IsMove Holds Leads place numbers)
+module _ (board : PlainBoard) (normal : List ℕ → List ℕ) (IsMove : List ℕ → ℕ → ℕ → Type 0)
+    (Holds : List ℕ → Type 0) (Leads : ℕ → ℕ → Type 0)
+    (place number : ℕ) (numbers : List ℕ) (spread : IsSpreadBy board normal IsMove Holds Leads place numbers)
     (once : AllPairs (λ first second. first ≢ second) numbers) (there : slice_get numbers place ≡ Some number) where
   pub place_below : place < last_number board
   place_below =

@@ -1,6 +1,6 @@
 -- The lines of rows, as they are written.
-use Rattle.std.proofs.Common.{◌≡◌, ℕ, ◌+◌, ◌<◌, ◌≤◌, Bool, List, [], ◌∷◌, ◌++◌, codes, length, map, Some, None}
-use Rattle.std.proofs.Common.{refl, sym, ap, ◌∙◌, arith, inl, inr}
+use Rattle.std.proofs.Common.{◌≡◌, ℕ, ◌+◌, ◌<◌, ◌≤◌, Bool, true, false, true≢false, List, [], ◌∷◌, ◌++◌, codes, length}
+use Rattle.std.proofs.Common.{map, Option, Some, None, refl, sym, ap, ◌∙◌, subst, arith, inl, inr}
 use Rattle.std.specs.List.{flat_map, sum_by}
 use Rattle.std.proofs.Common.{append_assoc, length-append}
 use Rattle.std.proofs.lemmas.Bool.{cases_lt}
@@ -10,24 +10,34 @@ use Rattle.std.proofs.lemmas.List.Folds.{flat_map-map}
 use Rattle.std.proofs.lemmas.List.Sums.{sum_by-cons}
 use Rattle.board_text.specs.BoardText.{end_line}
 use Rattle.board_text.specs.LineForms.{number_line}
-use Rattle.board_text.specs.PlainBoard.{PlainBoard}
+use Rattle.board_text.specs.PlainBoard.{PlainBoard, IsConfiguration}
+use Rattle.positions.specs.declared.claim.Claim.{Claim}
+use Rattle.positions.specs.declared.side.Side.{Side as DocumentSide}
+use Rattle.positions.specs.declared.side.Side.TheVariants.{Adversary, Labeller}
 use Rattle.positions.specs.declared.value.Value.{Value}
 use Rattle.positions.specs.declared.value.Value.TheVariants.{Finite, Forever}
 use Rattle.positions.specs.Value.{HasValue}
 use Rattle.positions.specs.Claim.{claim_of}
 use Rattle.positions.specs.Counts.{IsSmallest}
+use Rattle.positions.specs.Table.{AnswerRow, RequestRow}
 use Rattle.positions.specs.declared.space.TheConstants.{MAX_CONFIGURATIONS}
-use Rattle.proof_text.specs.Proof.{answer_row, request_row}
-use Rattle.proof_text.specs.ProofText.{answer_line, first_two_lines, proof_version_line, request_line}
-use Rattle.strategies.specs.DocumentTexts.{IsDocumentText}
 use Rattle.positions.specs.Ranks.{configurations}
+use Rattle.positions.proofs.Cited.{same_value}
+use Rattle.proof_text.specs.Proof.{PlainProof, answer_row, asks_adversary, asks_labeller, request_row}
+use Rattle.proof_text.specs.ProofText.{answer_line, first_two_lines, proof_version_line, request_line, section_text}
+use Rattle.strategies.specs.Document.{AreExactly, AsksAdversary, IsAdversaryRow, IsDocumentOf, IsLabellerRow}
+use Rattle.strategies.specs.DocumentTexts.{IsDocumentText}
+use Rattle.strategies.specs.Sides.{HasStrategy, claim_for, document_for}
 use Rattle.strategies.specs.declared.lines.Lines.{Lines}
-use Rattle.strategies.specs.Inside.Lines.{AreAdversaryLines, AreLinesAt, AreLinesBetween, AreSectionLines}
-use Rattle.strategies.specs.Inside.Lines.{labeller_line}
-use Rattle.strategies.specs.Inside.Side.{Side, AreOfReached, AreReached, IsRowAt, labeller_side}
-use Rattle.strategies.proofs.AskedRows.{asked_rows}
+use Rattle.strategies.specs.Inside.Lines.{AreLinesAt, AreLinesBetween, AreLinesIf, AreSectionLines, adversary_line}
+use Rattle.strategies.specs.Inside.Lines.{labeller_line, section_lines_text}
+use Rattle.strategies.specs.Inside.Side.{Side, AreOfReached, AreReached, IsRowAt, adversary_side, labeller_side}
 use Rattle.strategies.proofs.DocumentForm.{section}
+use Rattle.strategies.proofs.OneList.{same_rows}
+use Rattle.strategies.proofs.OneSide.{adversary_is, asks_finite, claim_is, labeller_is}
+use Rattle.strategies.proofs.RowLists.{same_fact}
 use Rattle.strategies.proofs.RowsAtRanks.{rows_push, section_is}
+use Rattle.strategies.proofs.SomeDocument.{document_exists}
 
 -- the first below an end is the first of all
 pub first_of_all : (P : ℕ → Type 0) (bound end next : ℕ)
@@ -89,7 +99,18 @@ module _ {R : Type 0} (board : PlainBoard) (side : Side R) (line : R → List �
       of_reached.is_configuration (λ row is_row. tt) are.are_rows.exactly in
       omega (arith, are.count_is, length-map are.rows side.shown, formed.0)
 
+  pub few_if : (asked : Bool) (parts : List Lines) → asked ≡ true → configurations board ≤ MAX_CONFIGURATIONS
+      → AreOfReached board side → AreLinesIf asked board side line parts
+      → sum_by (λ (part : Lines). part.rows) parts ≤ MAX_CONFIGURATIONS
+  few_if true parts is few of_reached are = few_lines parts few of_reached are
+  few_if false parts is few of_reached are = absurd (true≢false (sym is))
+
 -- ---- the text of a document
+
+-- the lines of a section, if it is asked for
+abbrev pub lines_if : List ℕ → Bool → List Lines → List ℕ
+lines_if word true parts = section_lines_text word parts
+lines_if word false parts = []
 
 -- the lines of a section
 of_section : {R X : Type 0} (word : List ℕ) (line : X → List ℕ) (shown : R → X) (rows : List R) (count : ℕ)
@@ -99,70 +120,92 @@ of_section word line shown rows count bytes count_is bytes_are =
     (λ i. number_line word (count_is i) ++ bytes_are i)
     ∙ (λ i. number_line word (sym (length-map rows shown) i) ++ sym (flat_map-map line shown rows) i)
 
--- the adversary's section of the document of a start with the value
-abbrev pub adversary_part : Value → List Lines → List ℕ
-adversary_part (Finite number) parts =
-    number_line (codes "adversary") (sum_by (λ (part : Lines). part.rows) parts)
-    ++ flat_map (λ (part : Lines). part.bytes.items) parts
-adversary_part Forever parts = []
+-- the lines are those of the section of rows that are the same
+section_if : {R X : Type 0} (board : PlainBoard) (side : Side R) (word : List ℕ) (line : X → List ℕ) (shown : R → X)
+    (asked : Bool) (parts : List Lines) (rows : List X)
+    → AreLinesIf asked board side (λ row. line (shown row)) parts
+    → ((are : AreSectionLines board side (λ row. line (shown row)) parts) → asked ≡ true → rows ≡ map shown are.rows)
+    → lines_if word asked parts ≡ section_text word asked line rows
+section_if board side word line shown true parts rows are same =
+    of_section word line shown are.rows _ _ are.count_is are.bytes_are
+    ∙ (λ i. number_line word (length (sym (same are refl) i)) ++ flat_map line (sym (same are refl) i))
+section_if board side word line shown false parts rows are same = refl
 
-bracketed : (a b c d e : List ℕ) → (((a ++ b) ++ c) ++ d) ++ e ≡ (a ++ ((b ++ c) ++ d)) ++ e
-bracketed a b c d e = simp append_assoc
+module _ (board : PlainBoard) (is_start : IsConfiguration board board.start) (side : Option DocumentSide)
+    (value : Value) (has : HasValue board board.start value) (strategy : HasStrategy side value) where
+  abbrev document : PlainProof
+  document = (document_exists board is_start).0
 
-pub whole_text : (board : PlainBoard) (value : Value) (labeller adversary : List Lines) (whole : List ℕ)
-    → HasValue board board.start value
-    → AreSectionLines board (labeller_side board value) (labeller_line board) labeller
-    → AreAdversaryLines board value adversary
-    → whole ≡ (((first_two_lines proof_version_line (claim_of value)
-    ++ number_line (codes "labeller") (sum_by (λ (part : Lines). part.rows) labeller))
-    ++ flat_map (λ (part : Lines). part.bytes.items) labeller) ++ adversary_part value adversary) ++ end_line
-    → IsDocumentText board whole
-whole_text board (Finite number) labeller adversary whole has answers requests whole_is = (
-  record {
-    claim = claim_of (Finite number);
-    labeller = map (answer_row board) answers.rows;
-    adversary = map (request_row board) requests.rows;
-  },
-  record {
-    value = Finite number;
-    has_value = has;
-    claim = refl;
-    labeller = answers.are_rows.exactly;
-    adversary = asked_rows board (Finite number) requests.rows requests.are_rows;
-  },
-  whole_is ∙ bracketed (first_two_lines proof_version_line (claim_of (Finite number)))
-      (number_line (codes "labeller") (sum_by (λ (part : Lines). part.rows) labeller))
-      (flat_map (λ (part : Lines). part.bytes.items) labeller)
-      (adversary_part (Finite number) adversary) end_line
-      ∙ (λ i. (first_two_lines proof_version_line (claim_of (Finite number))
-      ++ (of_section (codes "labeller") (answer_line board) (answer_row board) answers.rows _ _ answers.count_is
-      answers.bytes_are i
-      ++ of_section (codes "adversary") (request_line board) (request_row board) requests.rows _ _ requests.count_is
-      requests.bytes_are i)) ++ end_line),
-)
-whole_text board Forever labeller adversary whole has answers requests whole_is = (
-  record { claim = claim_of Forever; labeller = map (answer_row board) answers.rows; adversary = [] },
-  record {
-    value = Forever;
-    has_value = has;
-    claim = refl;
-    labeller = answers.are_rows.exactly;
-    adversary = asked_rows board Forever [] refl;
-  },
-  whole_is ∙ bracketed (first_two_lines proof_version_line (claim_of Forever))
-      (number_line (codes "labeller") (sum_by (λ (part : Lines). part.rows) labeller))
-      (flat_map (λ (part : Lines). part.bytes.items) labeller) [] end_line
-      ∙ (λ i. (first_two_lines proof_version_line (claim_of Forever)
-      ++ (of_section (codes "labeller") (answer_line board) (answer_row board) answers.rows _ _ answers.count_is
-      answers.bytes_are i
-      ++ [])) ++ end_line),
-)
+  abbrev is_document : IsDocumentOf board document
+  is_document = (document_exists board is_start).1
+
+  abbrev same : is_document.value ≡ value
+  same = same_value board board.start is_document.value value is_document.has_value has
+
+  abbrev claim : Claim
+  claim = claim_for side (claim_of value)
+
+  pub whole_text : (labeller adversary : List Lines) (whole : List ℕ)
+      → AreLinesIf (asks_labeller claim) board (labeller_side board value) (labeller_line board) labeller
+      → AreLinesIf (asks_adversary claim) board (adversary_side board value) (adversary_line board) adversary
+      → whole ≡ (first_two_lines proof_version_line claim
+      ++ (lines_if (codes "labeller") (asks_labeller claim) labeller
+      ++ lines_if (codes "adversary") (asks_adversary claim) adversary)) ++ end_line
+      → IsDocumentText side board whole
+  whole_text labeller adversary whole answers requests whole_is = (
+    document,
+    is_document,
+    whole_is ∙ (λ i. (first_two_lines proof_version_line claim
+        ++ (section_if board (labeller_side board value) (codes "labeller") (answer_line board) (answer_row board)
+        (asks_labeller claim) labeller (document_for side document).labeller answers labellers_are i
+        ++ section_if board (adversary_side board value) (codes "adversary") (request_line board) (request_row board)
+        (asks_adversary claim) adversary (document_for side document).adversary requests adversarys_are i)) ++ end_line)
+        ∙ ap (λ (c : Claim). (first_two_lines proof_version_line c
+        ++ (section_text (codes "labeller") (asks_labeller c) (answer_line board)
+        (document_for side document).labeller
+        ++ section_text (codes "adversary") (asks_adversary c) (request_line board)
+        (document_for side document).adversary)) ++ end_line) (sym claims),
+  )
+    where
+      claims : (document_for side document).claim ≡ claim
+      claims = claim_is side document ∙ ap (claim_for side) (is_document.claim ∙ ap claim_of same)
+      labellers_are : (are : AreSectionLines board (labeller_side board value) (labeller_line board) labeller)
+          → asks_labeller claim ≡ true → (document_for side document).labeller ≡ map (answer_row board) are.rows
+      labellers_are are asked = labeller_is side value document strategy asked
+          ∙ same_rows board (IsLabellerRow board value) (λ (row : AnswerRow). row.at) document.labeller
+          (map (answer_row board) are.rows)
+          (subst (λ (v : Value). AreExactly board (IsLabellerRow board v) (λ (row : AnswerRow). row.at)
+          document.labeller) same is_document.labeller) are.are_rows.exactly
+      adversarys_are : (are : AreSectionLines board (adversary_side board value) (adversary_line board) adversary)
+          → asks_adversary claim ≡ true → (document_for side document).adversary ≡ map (request_row board) are.rows
+      adversarys_are are asked = adversary_is side value document strategy asked
+          ∙ same_rows board (IsAdversaryRow board) (λ (row : RequestRow). row.at) document.adversary
+          (map (request_row board) are.rows)
+          (same_fact board (λ (row : RequestRow). row.at) _ _ document.adversary
+          (λ row. ((λ is. is.1), (λ is. (subst AsksAdversary (sym same) (asks_finite side value asked), is))))
+          is_document.adversary) are.are_rows.exactly
+
+-- lines that are asked for, and lines that aren't
+pub lines_then : (word : List ℕ) (asked : Bool) (parts : List Lines) → asked ≡ true
+    → section_lines_text word parts ≡ lines_if word asked parts
+lines_then word true parts is = refl
+lines_then word false parts is = absurd (true≢false (sym is))
+
+pub no_lines_then : (word : List ℕ) (asked : Bool) (parts : List Lines) → asked ≡ false → lines_if word asked parts ≡ []
+no_lines_then word true parts is = absurd (true≢false is)
+no_lines_then word false parts is = refl
 
 -- the parts of a text of two sections and its last line
-pub parts_written : {X : Type 0} (f : X → List ℕ) (none one two all : List X) (last : X) (first second end : List ℕ)
-    → none ≡ [] → flat_map f one ≡ flat_map f none ++ first → flat_map f two ≡ flat_map f one ++ second
-    → all ≡ two ++ last ∷ [] → f last ≡ end → flat_map f all ≡ (first ++ second) ++ end
-parts_written f none one two all last first second end none_is one_is two_is all_is last_is =
-    ap (flat_map f) all_is ∙ flat_map-append f two (last ∷ [])
-    ∙ (λ i. two_is i ++ (flat_map-cons f last [] ∙ append-nil (f last) ∙ last_is) i)
-    ∙ ap (λ l. (l ++ second) ++ end) (one_is ∙ ap (λ l. flat_map f l ++ first) none_is)
+pub parts_written : {X : Type 0} (f : X → List ℕ) (none one two three all : List X) (first last : X)
+    (head labeller adversary end : List ℕ) → none ≡ [] → one ≡ none ++ first ∷ [] → f first ≡ head
+    → flat_map f two ≡ flat_map f one ++ labeller → flat_map f three ≡ flat_map f two ++ adversary
+    → all ≡ three ++ last ∷ [] → f last ≡ end → flat_map f all ≡ (head ++ (labeller ++ adversary)) ++ end
+parts_written f none one two three all first last head labeller adversary end none_is one_is first_is two_is three_is
+    all_is last_is =
+    let begun : flat_map f one ≡ head =
+    ap (flat_map f) (one_is ∙ ap (λ l. l ++ first ∷ []) none_is) ∙ flat_map-cons f first [] ∙ append-nil (f first)
+    ∙ first_is in
+    ap (flat_map f) all_is ∙ flat_map-append f three (last ∷ [])
+    ∙ (λ i. three_is i ++ (flat_map-cons f last [] ∙ append-nil (f last) ∙ last_is) i)
+    ∙ ap (λ l. (l ++ adversary) ++ end) (two_is ∙ ap (λ l. l ++ labeller) begun)
+    ∙ ap (λ l. l ++ end) (append_assoc head labeller adversary)

@@ -10,5 +10,7 @@ pub mod Side
 pub mod ReachedRanks
 pub mod ReachedMarks
 pub mod Lines
+pub mod NormalForm
 pub mod ReachedClasses
 pub mod ClassSide
+pub mod LongSections

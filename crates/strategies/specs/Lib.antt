@@ -6,3 +6,5 @@ pub mod Example
 pub mod Inside
 pub mod Meaning
 pub mod PositionDocument
+pub mod Sides
+pub mod SymmetricDocument

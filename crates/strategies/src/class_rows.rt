@@ -1,11 +1,13 @@
-//! The rows of a section, in the order of their classes, made one after the other or in parts.
+//! The rows of a section, in the order of their places, made one after the other or in parts.
 
 ghost use Rattle.std.specs.Prelude.{◌≤◌, All, IfErr, IfOk, flat_map};
+ghost use Rattle.strategies.specs.Inside.NormalForm.{IsNormalBy, normal_by};
 ghost use Rattle.strategies.specs.Inside.ClassSide.{AreRowsAtClasses, AreClassSection};
 ghost use Rattle.strategies.specs.Inside.ClassSide.{HasNoSection, MayStandAtClass};
 
 use crate::class_sections::ClassSectionRow;
 use crate::moves::Moves;
+use crate::normal::Normal;
 use crate::unmade::Unmade;
 use board_text::Memory;
 use positions::Value;
@@ -18,16 +20,19 @@ use std::thread::Threads;
 pub(crate) fn section<R: ClassSectionRow, M: Moves>(
     alloc: Global,
     moves: &M,
+    normal: &Normal,
     start: Value,
     most: usize,
 ) -> Result<Vec<R>, Unmade>
+    requires { IsNormalBy (M.board moves.now) normal.now }
     ensures ok { IfOk result (λ rows.
-        AreClassSection (M.board moves.now) (R.side (M.board moves.now) start) rows.items) }
-    ensures fault { IfErr result
-        (HasNoSection (M.board moves.now) (R.side (M.board moves.now) start) most) }
+        AreClassSection (M.board moves.now) (R.side (M.board moves.now) (normal_by
+        (M.board moves.now) normal.now) start) rows.items) }
+    ensures fault { IfErr result (HasNoSection (M.board moves.now) (R.side (M.board moves.now)
+        (normal_by (M.board moves.now) normal.now) start) most) }
 {
-    let numbers = R::reached(alloc, moves, most)?.in_order(alloc)?;
-    let rows = rows_at(alloc, moves, start, &numbers)?;
+    let numbers = R::reached(alloc, moves, normal, most)?.in_order(alloc)?;
+    let rows = rows_at(alloc, moves, normal, start, &numbers)?;
     Ok(rows)
 }
 
@@ -37,38 +42,44 @@ pub(crate) fn section_in_parts<R: ClassSectionRow + Send + Sync, M: Moves + Sync
     rt: &(impl Threads + Sync),
     alloc: Global,
     moves: &M,
+    normal: &Normal,
     start: Value,
     most: usize,
     parts: u32,
 ) -> Result<Vec<R>, Unmade>
+    requires normal { IsNormalBy (M.board moves.now) normal.now }
     requires parts { 1 ≤ parts }
     ensures ok { IfOk result (λ rows.
-        AreClassSection (M.board moves.now) (R.side (M.board moves.now) start) rows.items) }
-    ensures fault { IfErr result
-        (HasNoSection (M.board moves.now) (R.side (M.board moves.now) start) most) }
+        AreClassSection (M.board moves.now) (R.side (M.board moves.now) (normal_by
+        (M.board moves.now) normal.now) start) rows.items) }
+    ensures fault { IfErr result (HasNoSection (M.board moves.now) (R.side (M.board moves.now)
+        (normal_by (M.board moves.now) normal.now) start) most) }
 {
-    let numbers = R::reached(alloc, moves, most)?.in_order(alloc)?;
+    let numbers = R::reached(alloc, moves, normal, most)?.in_order(alloc)?;
     let mut rows = Vec::with_capacity(alloc, numbers.len())?;
-    for part in &rows_in_parts::<R, M>(rt, alloc, moves, start, &numbers, parts)? {
+    for part in &rows_in_parts::<R, M>(rt, alloc, moves, normal, start, &numbers, parts)? {
         rows.extend_from_slice(part)?;
     }
     Ok(rows)
 }
 
-/// The rows at the classes of `numbers`, in at most `parts` parts, in their order.
+/// The rows at the places of `numbers`, in at most `parts` parts, in their order.
 fn rows_in_parts<R: ClassSectionRow + Send + Sync, M: Moves + Sync>(
     rt: &(impl Threads + Sync),
     alloc: Global,
     moves: &M,
+    normal: &Normal,
     start: Value,
     numbers: &[u64],
     parts: u32,
 ) -> Result<Vec<Vec<R>>, Memory>
     requires numbers { All
-        (MayStandAtClass (M.board moves.now) (R.side (M.board moves.now) start)) numbers.now }
+        (MayStandAtClass (M.board moves.now) (R.side (M.board moves.now) (normal_by
+        (M.board moves.now) normal.now) start)) numbers.now }
     requires parts { 1 ≤ parts }
     ensures { IfOk result (λ parts.
-        AreRowsAtClasses (M.board moves.now) (R.side (M.board moves.now) start) numbers.now
+        AreRowsAtClasses (M.board moves.now) (R.side (M.board moves.now) (normal_by
+        (M.board moves.now) normal.now) start) numbers.now
         (flat_map (λ part. part.items) parts.items)) }
 {
     let size = numbers.len().div_ceil(parts as usize).max(1);
@@ -77,32 +88,34 @@ fn rows_in_parts<R: ClassSectionRow + Send + Sync, M: Moves + Sync>(
         .map(
             |part: &[u64]| -> Result<Vec<R>, Memory>
                 requires { All
-                    (MayStandAtClass (M.board moves.now) (R.side
-                    (M.board moves.now) start)) part.now }
+                    (MayStandAtClass (M.board moves.now) (R.side (M.board moves.now)
+                    (normal_by (M.board moves.now) normal.now) start)) part.now }
                 ensures { IfOk result (λ rows. AreRowsAtClasses (M.board moves.entry.now)
-                    (R.side (M.board moves.entry.now) start) part.now rows.items) }
-            { rows_at(alloc, moves, start, part) },
+                    (R.side (M.board moves.entry.now) (normal_by (M.board moves.entry.now)
+                    normal.entry.now) start) part.now rows.items) }
+            { rows_at(alloc, moves, normal, start, part) },
         )
         .collect(rt, alloc)?;
     rows
 }
 
-/// The rows at the classes of `numbers`, in their order.
+/// The rows at the places of `numbers`, in their order.
 fn rows_at<R: ClassSectionRow, M: Moves>(
     alloc: Global,
     moves: &M,
+    normal: &Normal,
     start: Value,
     numbers: &[u64],
 ) -> Result<Vec<R>, Memory>
-    requires { All (MayStandAtClass (M.board moves.now) (R.side
-        (M.board moves.now) start)) numbers.now }
+    requires { All (MayStandAtClass (M.board moves.now) (R.side (M.board moves.now)
+        (normal_by (M.board moves.now) normal.now) start)) numbers.now }
     ensures { IfOk result (λ rows.
-        AreRowsAtClasses (M.board moves.now) (R.side
-        (M.board moves.now) start) numbers.now rows.items) }
+        AreRowsAtClasses (M.board moves.now) (R.side (M.board moves.now) (normal_by
+        (M.board moves.now) normal.now) start) numbers.now rows.items) }
 {
     let mut rows = Vec::with_capacity(alloc, numbers.len())?;
     for number in numbers {
-        if let Some(row) = R::at(moves, start, *number) {
+        if let Some(row) = R::at(moves, normal, start, *number) {
             rows.push(row)?;
         }
     }

@@ -1,10 +1,11 @@
-//! The sections of a document by classes: a row for each class that was reached.
+//! The sections of a document over normal places: a row for each of those that were reached.
 
-ghost use Rattle.std.specs.Prelude.{◌≡◌, IfErr, IfOk};
+ghost use Rattle.std.specs.Prelude.{◌≡◌, ℕ, List, IfErr, IfOk};
 ghost use Rattle.board_text.specs.PlainBoard.{PlainBoard};
 ghost use Rattle.positions.specs.declared.value.Value.{Value as ValueData};
 ghost use Rattle.strategies.specs.Document.{turns_of};
 ghost use Rattle.strategies.specs.Inside.Side.{Side};
+ghost use Rattle.strategies.specs.Inside.NormalForm.{IsNormalBy, normal_by};
 ghost use Rattle.strategies.specs.Inside.ClassSide.{AreClassesReached, IsClassRowAt};
 ghost use Rattle.strategies.specs.Inside.ClassSide.{HasNoSection, MayStandAtClass};
 ghost use Rattle.strategies.specs.Inside.ClassSide.{class_adversary_side};
@@ -12,54 +13,76 @@ ghost use Rattle.strategies.specs.Inside.ClassSide.{class_labeller_side};
 
 use crate::class_steps::{add_answers, add_results};
 use crate::moves::Moves;
+use crate::normal::Normal;
 use crate::reached_classes::ReachedClasses;
 use crate::unmade::Unmade;
 use board_text::MAX_PEBBLES;
 use positions::{Turns, Value};
-use proof_text::{AdversaryClassRow, LabellerClassRow, class_order, places_at};
+use proof_text::{AdversaryClassRow, LabellerClassRow, places_at};
 use std::alloc::Global;
 
 /// A row of one side's section.
 pub(crate) trait ClassSectionRow: Copy {
-    ghost side: { PlainBoard → ValueData → Side Self };
+    ghost side: { PlainBoard → (List ℕ → List ℕ) → ValueData → Side Self };
 
-    /// The classes that a row may stand at, if they are at most `most`.
-    fn reached<M: Moves>(alloc: Global, moves: &M, most: usize) -> Result<ReachedClasses, Unmade>
-        ensures ok { IfOk result (λ reached. (start : ValueData)
-            → AreClassesReached (M.board moves.now) (side (M.board moves.now) start) reached) }
-        ensures fault { IfErr result (λ fault. (start : ValueData)
-            → HasNoSection (M.board moves.now) (side (M.board moves.now) start) most fault) };
+    /// The normal places that a row may stand at, if they are at most `most`.
+    fn reached<M: Moves>(
+        alloc: Global,
+        moves: &M,
+        normal: &Normal,
+        most: usize,
+    ) -> Result<ReachedClasses, Unmade>
+        requires { IsNormalBy (M.board moves.now) normal.now }
+        ensures ok { IfOk result (λ reached. (start : ValueData) → AreClassesReached
+            (M.board moves.now) (side (M.board moves.now) (normal_by (M.board moves.now)
+            normal.now) start) reached) }
+        ensures fault { IfErr result (λ fault. (start : ValueData) → HasNoSection
+            (M.board moves.now) (side (M.board moves.now) (normal_by (M.board moves.now)
+            normal.now) start) most fault) };
 
-    /// The row of the reached class of `number`, if it has one. The start has the value `start`.
-    fn at<M: Moves>(moves: &M, start: Value, number: u64) -> Option<Self>
-        requires { MayStandAtClass (M.board moves.now) (side (M.board moves.now) start) number }
-        ensures { IsClassRowAt (M.board moves.now) (side (M.board moves.now) start) number result };
+    /// The row at the reached places of `number`, if they have one. The start has the value
+    /// `start`.
+    fn at<M: Moves>(moves: &M, normal: &Normal, start: Value, number: u64) -> Option<Self>
+        requires { MayStandAtClass (M.board moves.now) (side (M.board moves.now) (normal_by
+            (M.board moves.now) normal.now) start) number }
+        ensures { IsClassRowAt (M.board moves.now) (side (M.board moves.now) (normal_by
+            (M.board moves.now) normal.now) start) number result };
 }
 
 impl ClassSectionRow for LabellerClassRow {
     ghost side = { class_labeller_side };
 
-    /// The classes of value 1 or more that best answers reach from the start's class, through such
-    /// classes only.
-    fn reached<M: Moves>(alloc: Global, moves: &M, most: usize) -> Result<ReachedClasses, Unmade> {
+    /// The normal places of value 1 or more that best answers reach from the start's, through such
+    /// places only.
+    fn reached<M: Moves>(
+        alloc: Global,
+        moves: &M,
+        normal: &Normal,
+        most: usize,
+    ) -> Result<ReachedClasses, Unmade> {
         let mut reached = ReachedClasses::new(alloc);
         let mut expanded = ReachedClasses::new(alloc);
         let board = moves.board();
         if Value::Finite(0) < moves.value(board.start()) {
-            reached.add(class_order(board, board.start()))?;
+            reached.add(normal.order(board, board.start()))?;
         }
         let mut index = 0;
         while let Some(number) = reached.at(index) {
             if reached.len() > most {
                 return Err(Unmade::TooLong);
             }
-            add_answers(moves, number, &mut reached, &mut expanded)?;
+            add_answers(moves, normal, number, &mut reached, &mut expanded)?;
             index += 1;
         }
         Ok(reached)
     }
 
-    fn at<M: Moves>(moves: &M, start: Value, number: u64) -> Option<LabellerClassRow> {
+    fn at<M: Moves>(
+        moves: &M,
+        _normal: &Normal,
+        start: Value,
+        number: u64,
+    ) -> Option<LabellerClassRow> {
         let board = moves.board();
         let at = places_at(board, number);
         let held = &at[..board.pebbles() as usize];
@@ -78,24 +101,34 @@ impl ClassSectionRow for LabellerClassRow {
 impl ClassSectionRow for AdversaryClassRow {
     ghost side = { class_adversary_side };
 
-    /// The classes that legal answers to best requests lead to from the start's class.
-    fn reached<M: Moves>(alloc: Global, moves: &M, most: usize) -> Result<ReachedClasses, Unmade> {
+    /// The normal places that legal answers to best requests lead to from the start's.
+    fn reached<M: Moves>(
+        alloc: Global,
+        moves: &M,
+        normal: &Normal,
+        most: usize,
+    ) -> Result<ReachedClasses, Unmade> {
         let mut reached = ReachedClasses::new(alloc);
         let mut expanded = ReachedClasses::new(alloc);
         let board = moves.board();
-        reached.add(class_order(board, board.start()))?;
+        reached.add(normal.order(board, board.start()))?;
         let mut index = 0;
         while let Some(number) = reached.at(index) {
             if reached.len() > most {
                 return Err(Unmade::TooLong);
             }
-            add_results(moves, number, &mut reached, &mut expanded)?;
+            add_results(moves, normal, number, &mut reached, &mut expanded)?;
             index += 1;
         }
         Ok(reached)
     }
 
-    fn at<M: Moves>(moves: &M, _start: Value, number: u64) -> Option<AdversaryClassRow> {
+    fn at<M: Moves>(
+        moves: &M,
+        _normal: &Normal,
+        _start: Value,
+        number: u64,
+    ) -> Option<AdversaryClassRow> {
         let board = moves.board();
         let at = places_at(board, number);
         let held = &at[..board.pebbles() as usize];
@@ -109,7 +142,7 @@ impl ClassSectionRow for AdversaryClassRow {
     }
 }
 
-/// The turns for which a class with `value` is listed, if the start has the value `start`.
+/// The turns for which places with `value` are listed, if the start has the value `start`.
 fn turns(start: Value, value: Value) -> Turns
     ensures { result ≡ turns_of start value }
 {

@@ -16,18 +16,24 @@ mod gap_walk;
 mod laws;
 mod laws_of_class_documents;
 mod laws_of_documents;
+mod laws_of_sides;
+mod laws_of_symmetric_documents;
 mod lines;
 mod marks;
 mod moves;
 mod moves_at;
 mod moves_here;
+mod normal;
 mod numbered_moves;
+mod position_documents;
 mod rank_moves;
 mod reached;
 mod reached_classes;
 mod reached_ranks;
 mod rows;
 mod sections;
+mod sides;
+mod symmetric_documents;
 mod text;
 mod unmade;
 mod walk;
@@ -49,7 +55,14 @@ pub use laws_of_documents::{
     documents_mean_their_value, documents_of_small_boards, documents_show_their_claim,
     each_board_has_a_document, one_document_of_a_board,
 };
+pub use laws_of_sides::one_side_shows_its_part;
+pub use laws_of_symmetric_documents::{
+    documents_up_to_symmetries_break_no_rule, documents_up_to_symmetries_have_the_form,
+    documents_without_maps_are_documents_by_classes, each_board_has_a_document_up_to_symmetries,
+    one_document_up_to_symmetries_of_a_board,
+};
 pub use moves::Moves;
 pub use numbered_moves::NumberedMoves;
+pub use symmetric_documents::{SymmetricDocument, document_up_to_symmetries};
 pub use text::{DocumentText, document_text, document_text_in_parts};
 pub use unmade::Unmade;

@@ -1,21 +1,27 @@
 //! The text of the document of a board, made without a list of its rows.
 
-ghost use Rattle.std.specs.Prelude.{◌≡◌, ◌≤◌, ◌++◌, ◌<◌, ◌^◌, IfOk, OnOk, flat_map, sum_by};
-ghost use Rattle.board_text.specs.LineForms.{number_line};
+ghost use Rattle.std.specs.Prelude.{◌≡◌, ◌≤◌, ◌++◌, ◌<◌, ◌^◌, None, IfOk, OnOk, flat_map, sum_by};
 ghost use Rattle.board_text.specs.PlainBoard.{IsConfiguration};
+ghost use Rattle.positions.specs.Claim.{claim_of};
 ghost use Rattle.positions.specs.Ranks.{configurations};
 ghost use Rattle.positions.specs.Value.{HasValue};
+ghost use Rattle.positions.specs.declared.value.Value.{Value as ValueData};
+ghost use Rattle.proof_text.specs.Proof.{asks_adversary as asks_adversary_by};
+ghost use Rattle.proof_text.specs.Proof.{asks_labeller as asks_labeller_by};
 ghost use Rattle.strategies.specs.DocumentTexts.{IsDocumentText};
-ghost use Rattle.strategies.specs.Inside.Lines.{AreAdversaryLines, AreSectionLines, labeller_line};
-ghost use Rattle.strategies.specs.Inside.Side.{labeller_side};
+ghost use Rattle.strategies.specs.Inside.Lines.{AreLinesIf, adversary_line, labeller_line};
+ghost use Rattle.strategies.specs.Inside.Lines.{section_lines_text};
+ghost use Rattle.strategies.specs.Inside.Side.{adversary_side, labeller_side};
+ghost use Rattle.strategies.specs.Sides.{HasStrategy, claim_for as claim_by};
 
 use crate::lines::{Lines, section_lines, section_lines_in_parts};
 use crate::moves::Moves;
 use crate::moves_here::MovesHere;
 use crate::rank_moves::RankMoves;
+use crate::sides::{asks_adversary, asks_labeller, claim_for};
 use crate::walk::Walk;
 use board_text::Memory;
-use positions::{Claim, MAX_CONFIGURATIONS, Space, Value};
+use positions::{MAX_CONFIGURATIONS, Side, Space, Value};
 use proof_text::{AdversaryRow, LabellerRow, PlaceWords, RowText, first_lines};
 use std::alloc::Global;
 use std::thread::Threads;
@@ -38,7 +44,7 @@ pub fn document_text<M: Moves>(
     requires same_board { space.now ≡ M.board moves.now }
     ensures value { IfOk result (λ made.
         HasValue (M.board moves.now) (M.board moves.now).start made.value) }
-    ensures text { IfOk result (λ made. IsDocumentText (M.board moves.now)
+    ensures text { IfOk result (λ made. IsDocumentText None (M.board moves.now)
         (flat_map (λ part. part.items) made.parts.items)) }
 {
     let ranked = RankMoves::of(alloc, moves, space)?;
@@ -49,66 +55,80 @@ pub fn document_text<M: Moves>(
         Value::Finite(_) => section_lines::<AdversaryRow>(alloc, &ranked, &words, value)?,
         Value::Forever => Vec::new(alloc),
     };
-    ranked.text_of(alloc, value, labeller, adversary)
+    ranked.text_of(alloc, value, None, labeller, adversary)
 }
 
-/// The same, with the lines of each section made in at most `parts` parts, by threads if the board
-/// has many configurations.
+/// The same for `side` alone, or for both: the rows of `side`, and the part of the claim that they
+/// show. The lines of each section are made in at most `parts` parts, by threads if the board has
+/// many configurations.
+///
+/// The adversary can't be asked for alone if requests are answered for ever from the start.
 pub fn document_text_in_parts<M: Moves>(
     rt: &(impl Threads + Sync),
     alloc: Global,
     moves: &M,
     space: &Space,
+    side: Option<Side>,
     parts: u32,
 ) -> Result<DocumentText, Memory>
     requires same_board { space.now ≡ M.board moves.now }
+    requires strategy { (value : ValueData)
+        → HasValue (M.board moves.now) (M.board moves.now).start value → HasStrategy side value }
     requires parts { 1 ≤ parts }
     ensures value { IfOk result (λ made.
         HasValue (M.board moves.now) (M.board moves.now).start made.value) }
-    ensures text { IfOk result (λ made. IsDocumentText (M.board moves.now)
+    ensures text { IfOk result (λ made. IsDocumentText side (M.board moves.now)
         (flat_map (λ part. part.items) made.parts.items)) }
 {
     let ranked = RankMoves::of(alloc, moves, space)?;
     let words = PlaceWords::of(alloc, space.labels())?;
     let value = Walk::at(&ranked, ranked.start()).value();
-    let labeller = section_lines_in_parts::<LabellerRow>(rt, alloc, &ranked, &words, value, parts)?;
-    let adversary = match value {
-        Value::Finite(_) => {
-            section_lines_in_parts::<AdversaryRow>(rt, alloc, &ranked, &words, value, parts)?
-        }
-        Value::Forever => Vec::new(alloc),
+    let claim = claim_for(side, value);
+    let labeller = if asks_labeller(claim) {
+        section_lines_in_parts::<LabellerRow>(rt, alloc, &ranked, &words, value, parts)?
+    } else {
+        Vec::new(alloc)
     };
-    ranked.text_of(alloc, value, labeller, adversary)
+    let adversary = if asks_adversary(claim) {
+        section_lines_in_parts::<AdversaryRow>(rt, alloc, &ranked, &words, value, parts)?
+    } else {
+        Vec::new(alloc)
+    };
+    ranked.text_of(alloc, value, side, labeller, adversary)
 }
 
 impl RankMoves<'_> {
-    /// The text of the document of the board, whose start has the value `value`, with the lines of
-    /// the rows of both sides. A start that lasts forever has no rows for the adversary.
+    /// The text of the document of the board, whose start has the value `value`, for `side` alone
+    /// or for both, with the lines of the rows of each side that it has.
     fn text_of(
         &self,
         alloc: Global,
         value: Value,
+        side: Option<Side>,
         labeller: Vec<Lines>,
         adversary: Vec<Lines>,
     ) -> Result<DocumentText, Memory>
         requires value { HasValue self.now self.now.start value }
+        requires strategy { HasStrategy side value }
         requires start { IsConfiguration self.now self.now.start }
         requires few { configurations self.now ≤ MAX_CONFIGURATIONS }
-        requires labeller { AreSectionLines self.now (labeller_side self.now value)
-            (labeller_line self.now) labeller.items }
-        requires adversary { AreAdversaryLines self.now value adversary.items }
+        requires labeller { AreLinesIf (asks_labeller_by (claim_by side (claim_of value))) self.now
+            (labeller_side self.now value) (labeller_line self.now) labeller.items }
+        requires adversary { AreLinesIf (asks_adversary_by (claim_by side (claim_of value)))
+            self.now (adversary_side self.now value) (adversary_line self.now) adversary.items }
         ensures value { IfOk result (λ made. made.value ≡ value) }
-        ensures text { IfOk result (λ made. IsDocumentText self.now
+        ensures text { IfOk result (λ made. IsDocumentText side self.now
             (flat_map (λ part. part.items) made.parts.items)) }
     {
         let space = self.space();
-        let claim = Claim::from(value);
-        let text = first_lines(alloc, claim, space.labels(), space.pebbles(), 0)?;
+        let claim = claim_for(side, value);
         let mut parts = Vec::new(alloc);
-        add_section(&mut parts, text, "labeller", labeller)?;
-        if let Value::Finite(_) = value {
-            let text = RowText::new(String::new(alloc));
-            add_section(&mut parts, text, "adversary", adversary)?;
+        parts.push(first_lines(alloc, claim, space.labels(), space.pebbles(), 0)?.finish()?)?;
+        if asks_labeller(claim) {
+            add_section(alloc, &mut parts, "labeller", labeller)?;
+        }
+        if asks_adversary(claim) {
+            add_section(alloc, &mut parts, "adversary", adversary)?;
         }
         let mut end = RowText::new(String::new(alloc));
         end.push_end()?;
@@ -117,21 +137,19 @@ impl RankMoves<'_> {
     }
 }
 
-/// Adds `text`, the first line of the section with the word `word` after it, and the section's
-/// `lines` to `parts`.
+/// Adds the first line of the section with the word `word`, and the section's `lines`, to `parts`.
 fn add_section(
+    alloc: Global,
     parts: &mut Vec<Vec<u8>>,
-    text: RowText,
     word: &str,
     lines: Vec<Lines>,
 ) -> Result<(), Memory>
     requires few { sum_by (λ part. part.rows) lines.items < 2 ^ 32 }
     ensures { OnOk result (flat_map (λ part. part.items) parts.new.items
         ≡ flat_map (λ part. part.items) parts.old.items
-        ++ (text.bytes ++ number_line word.now (sum_by (λ part. part.rows) lines.items))
-        ++ flat_map (λ part. part.bytes.items) lines.items) }
+        ++ section_lines_text word.now lines.items) }
 {
-    let mut head = text;
+    let mut head = RowText::new(String::new(alloc));
     head.push_head(word, count_rows(&lines) as usize)?;
     parts.push(head.finish()?)?;
     for part in lines {

@@ -1,12 +1,12 @@
 -- Definitions that this crate's own functions cite beside `Reading`.
-use Rattle.std.specs.Prelude.{◌≡◌, ◌≢◌, ◌⊎◌, MatchOption, ℕ, ℤ, pos, negsuc, Bool, ◌&&◌, ◌||◌}
+use Rattle.std.specs.Prelude.{◌≡◌, ◌≢◌, ◌⊎◌, MatchOption, ℕ, ℤ, pos, negsuc, Bool, not, ◌&&◌, ◌||◌}
 use Rattle.std.specs.Prelude.{true, false, List, Option, Some, None, is_some, codes, string_bytes}
 use Rattle.std.specs.Str.{bytes_eq}
 use Rattle.std.specs.List.{list_all, list_any}
 use Rattle.std.specs.Option.{option_map_or}
 use Rattle.clap.specs.Simple.{Shape}
 use Rattle.clap.specs.ValueTests.{is_unsigned_in}
-use Rattle.clap.specs.Walk.{Row, Text, first_of, one_of}
+use Rattle.clap.specs.Walk.{Row, Rule, Text, first_of, is_empty, one_of}
 use Rattle.clap.specs.declared.builder.action.ArgAction.{ArgAction}
 use Rattle.clap.specs.declared.builder.action.ArgAction.TheVariants.{SetTrue}
 use Rattle.clap.specs.declared.builder.value_parser.ValueParser.{ValueParser}
@@ -49,10 +49,19 @@ abbrev pub has_value : List Row → Text → Option ArgAction → Option ValuePa
 has_value rows id (Some SetTrue) parser = has_flag rows id
 has_value rows id _ parser = has_value_by rows id parser
 
--- the matches give a value for each argument of the command
+-- the argument may be left out: it needs no value, has none of its own, and is no word that stands
+-- alone
+abbrev pub may_be_left_out : Rule → Bool
+may_be_left_out rule = not rule.required && is_empty rule.defaults && not (is_some rule.action)
+
+-- the matches give a value for the argument, of the kind that it asks for, or it is left out
+abbrev pub is_read_in : List Row → Rule → Bool
+is_read_in rows rule = (may_be_left_out rule && not (is_some (first_of rule.id rows)))
+    || has_value rows rule.id rule.action rule.parser
+
+-- so of each argument of the command
 abbrev pub has_values : List Row → Shape → Bool
-has_values rows command = list_all (λ rule. has_value rows rule.id rule.action rule.parser)
-    command.rules
+has_values rows command = list_all (is_read_in rows) command.rules
 
 -- the job that the command is asked for; none if the matches lack one of its values
 abbrev pub Reads : Shape → List Row → Option Job → Type 0

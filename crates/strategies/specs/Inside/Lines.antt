@@ -1,16 +1,15 @@
 -- The lines of the rows of one side, in parts.
-use Rattle.std.specs.Prelude.{◌≡◌, ℕ, Bool, List, [], length}
+use Rattle.std.specs.Prelude.{◌≡◌, ℕ, Bool, true, false, List, [], ◌++◌, length}
 use Rattle.std.specs.List.{flat_map, sum_by}
+use Rattle.board_text.specs.LineForms.{number_line}
 use Rattle.board_text.specs.PlainBoard.{PlainBoard}
-use Rattle.positions.specs.declared.value.Value.{Value}
-use Rattle.positions.specs.declared.value.Value.TheVariants.{Finite, Forever}
 use Rattle.proof_text.specs.declared.proof.LabellerRow.{LabellerRow}
 use Rattle.proof_text.specs.declared.proof.AdversaryRow.{AdversaryRow}
 use Rattle.proof_text.specs.Proof.{answer_row, request_row}
 use Rattle.proof_text.specs.ProofText.{answer_line, request_line}
 use Rattle.strategies.specs.declared.lines.Lines.{Lines}
 use Rattle.strategies.specs.Inside.Marks.{AreListed, IsMarked}
-use Rattle.strategies.specs.Inside.Side.{Side, AreRowsAt, AreSection, adversary_side}
+use Rattle.strategies.specs.Inside.Side.{Side, AreRowsAt, AreSection}
 
 -- the line of a labeller's row
 abbrev pub labeller_line : PlainBoard → LabellerRow → List ℕ
@@ -43,9 +42,13 @@ pub record AreSectionLines {R : Type 0} (board : PlainBoard) (side : Side R) (li
   pub bytes_are : flat_map (λ part. part.bytes.items) parts ≡ flat_map line rows
   pub count_is : sum_by (λ part. part.rows) parts ≡ length rows
 
--- the lines of the adversary's rows of the document of a start with the value, which has none if
--- that is forever
-abbrev pub AreAdversaryLines : PlainBoard → Value → List Lines → Type 0
-AreAdversaryLines board (Finite number) parts =
-    AreSectionLines board (adversary_side board (Finite number)) (adversary_line board) parts
-AreAdversaryLines board Forever parts = parts ≡ []
+-- the lines of a side's rows if they are asked for, and none else
+abbrev pub AreLinesIf : {R : Type 0} → Bool → PlainBoard → Side R → (R → List ℕ) → List Lines
+    → Type 0
+AreLinesIf true board side line parts = AreSectionLines board side line parts
+AreLinesIf false board side line parts = parts ≡ []
+
+-- the text of a section with the word at its head and these lines of its rows
+abbrev pub section_lines_text : List ℕ → List Lines → List ℕ
+section_lines_text word parts = number_line word (sum_by (λ part. part.rows) parts)
+    ++ flat_map (λ part. part.bytes.items) parts

@@ -12,5 +12,5 @@ returns c =
     let most = c.match-checker.most in
     let claim : (proof.claim ≡ Exactly most) ⊎ (proof.claim ≡ AtMost most) =
     elim c.match-checker.branch [ in-Exactly w ↦ search rules | in-Exactly-2 w ↦ search rules ] in
-    bound_meant board c.args.checker.now.group.now (plain_class_proof board proof) most
+    bound_meant board c.args.checker.now.alike.now.group (plain_class_proof board proof) most
     c.number_fault.result claim (rw c.start.ensures.value at c.number_fault.ensures)

@@ -22,7 +22,7 @@ returns-then-row-eq0 c = inl (c.if-row-eq0.true, ap (λ at. faults.NotStuck at c
 pub returns : goal.returns
 returns c =
     let board = c.args.checker.now.board.now in
-    let group = c.args.checker.now.group.now in
+    let group = c.args.checker.now.alike.now.group in
     let rows : List RequestRow = class_request_rows board c.args.checker.now.proof.now.adversary.items in
     let row : RequestRow = class_request_row board c.args.row.now in
     let pebble = c.args.pebble in

@@ -14,7 +14,7 @@ find-requires-clause-rows c =
 pub returns-in_default : goal.returns-in_default
 returns-in_default c =
     let board = c.args.checker.now.board.now in
-    let wanted : List ℕ = least_by board.labels c.args.checker.now.group.now c.args.places.now in
+    let wanted : List ℕ = least_by board.labels c.args.checker.now.alike.now.group c.args.places.now in
     inl (
       none_for board (class_request_row board) (λ r. r.at) (λ r. r.at)
           (λ r. refl) c.args.checker.now.proof.now.adversary.items wanted
@@ -25,7 +25,7 @@ returns-in_default c =
 pub returns : goal.returns
 returns c =
     let board = c.args.checker.now.board.now in
-    let wanted : List ℕ = least_by board.labels c.args.checker.now.group.now c.args.places.now in
+    let wanted : List ℕ = least_by board.labels c.args.checker.now.alike.now.group c.args.places.now in
     let rows = c.args.checker.now.proof.now.adversary.items in
     let row = class_request_row board c.in-Some.row.now in
     let found = row_for board (class_request_row board) (λ r. r.at) (λ r. r.at) (λ r. refl) rows wanted

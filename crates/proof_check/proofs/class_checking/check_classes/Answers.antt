@@ -8,20 +8,26 @@ pub returns-in-Some-clause-accepts : goal.returns-in-Some-clause-accepts
 returns-in-Some-clause-accepts g c =
     λ rules. absurd (no_fault (arranged c.args.board.now.labels) c.args.board.now
     (plain_class_proof c.args.board.now c.args.proof.now) c.in-Some.fault rules
-    c.in-Some.ensures.fault)
+    (rw c.by_classes-alike.ensures at c.in-Some.ensures.fault))
 
 pub returns-in-Some-clause-named : goal.returns-in-Some-clause-named
 returns-in-Some-clause-named g c =
     names_class (arranged c.args.board.now.labels) c.args.board.now
     (plain_class_proof c.args.board.now c.args.proof.now) c.in-Some.fault c.requires.document.is_proof
-    c.in-Some.ensures.fault
+    (rw c.by_classes-alike.ensures at c.in-Some.ensures.fault)
 
-pub returns-in-None-clause-holds : goal.returns-in-None-clause-holds
-returns-in-None-clause-holds g c =
+pub returns-clause-holds : goal.returns-clause-holds
+returns-clause-holds g c =
     start_claim_holds c.args.board.now (plain_class_proof c.args.board.now c.args.proof.now) c.in-None.ensures.start
-    c.in-None.ensures.fault
+    (rw c.by_classes-alike.ensures at c.in-None.ensures.fault)
 
-pub returns-in-None-clause-each : goal.returns-in-None-clause-each
-returns-in-None-clause-each g c = λ configuration is same.
+pub returns-clause-each : goal.returns-clause-each
+returns-clause-each g c = λ configuration is same.
     claim_holds c.args.board.now (plain_class_proof c.args.board.now c.args.proof.now) configuration
-    c.in-None.ensures.start is same c.in-None.ensures.fault
+    c.in-None.ensures.start is same (rw c.by_classes-alike.ensures at c.in-None.ensures.fault)
+
+pub returns-in-Some-clause-fault : goal.returns-in-Some-clause-fault
+returns-in-Some-clause-fault g c = rw c.by_classes-alike.ensures at c.in-Some.ensures.fault
+
+pub returns-clause-rules : goal.returns-clause-rules
+returns-clause-rules g c = rw c.by_classes-alike.ensures at c.in-None.ensures.fault

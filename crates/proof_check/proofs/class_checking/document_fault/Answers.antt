@@ -13,20 +13,20 @@ use Rattle.proof_check.proofs.class_checking.document_fault.Goals as goal
 
 pub first_fault-requires-after_bounds : goal.first_fault-requires-after_bounds
 first_fault-requires-after_bounds g c = λ lifetimes lives. rw c.deref.ensures.value
-    (answering c.args.board.now c.args.proof.now c.requires.document c.args.numbers.now c.args.group.now
-    (record { document = c.requires.document; numbers_are = c.requires.numbers; keep_labels = c.requires.group }))
+    (answering c.args.board.now c.args.proof.now c.requires.document c.args.numbers.now c.args.alike.now
+    (record { document = c.requires.document; numbers_are = c.requires.numbers; same_labels = c.requires.alike }))
 
 pub first_fault-requires-2-after_bounds : goal.first_fault-requires-2-after_bounds
 first_fault-requires-2-after_bounds g c = λ lifetimes lives. rw c.deref-2.ensures.value
-    (requesting c.args.board.now c.args.proof.now c.requires.document c.args.numbers.now c.args.group.now
-    (record { document = c.requires.document; numbers_are = c.requires.numbers; keep_labels = c.requires.group }))
+    (requesting c.args.board.now c.args.proof.now c.requires.document c.args.numbers.now c.args.alike.now
+    (record { document = c.requires.document; numbers_are = c.requires.numbers; same_labels = c.requires.alike }))
 
 pub returns-in-Some-first_fault-clause-fault : goal.returns-in-Some-first_fault-clause-fault
 returns-in-Some-first_fault-clause-fault g c =
     let board = c.args.board.now in
     let proof = plain_class_proof board c.args.proof.now in
-    let positions : Positions = normal_positions (least_by board.labels c.args.group.now) in
-    let refusals = refusals_by board c.args.group.now in
+    let positions : Positions = normal_positions (least_by board.labels c.args.alike.now.group) in
+    let refusals = refusals_by board c.args.alike.now.group in
     let starts : StartServes positions board proof =
     record { labeller = c.in_default.ensures; adversary = c.in_default-bound_fault.ensures } in
     let wrong =
@@ -39,8 +39,8 @@ pub returns-clause-fault : goal.returns-clause-fault
 returns-clause-fault g c =
     let board = c.args.board.now in
     let proof = plain_class_proof board c.args.proof.now in
-    let positions : Positions = normal_positions (least_by board.labels c.args.group.now) in
-    let refusals = refusals_by board c.args.group.now in
+    let positions : Positions = normal_positions (least_by board.labels c.args.alike.now.group) in
+    let refusals = refusals_by board c.args.alike.now.group in
     let starts : StartServes positions board proof =
     record { labeller = c.in_default.ensures; adversary = c.in_default-bound_fault.ensures } in
     let obeys =

@@ -38,7 +38,7 @@ returns c =
     let answer = answer_is board.pebbles row.take pebble c.requires.pebble fits in
     let legal = (rw c.pebbles-pebbles.ensures.value at c.is_legal.ensures).0 c.if-not-is_legal.false in
     let result =
-    moved_result (least_by board.labels c.args.checker.now.group.now) board.pebbles pebble label row.at
+    moved_result (least_by board.labels c.args.checker.now.alike.now.group) board.pebbles pebble label row.at
     c.requires.pebble in
     match_then c.turns_fault.result
     (λ serves. record { label = label; answer = answer; legal = legal; serves = serves })

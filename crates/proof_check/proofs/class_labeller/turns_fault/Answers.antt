@@ -14,7 +14,7 @@ find-requires-clause-rows c =
 pub returns-in_default : goal.returns-in_default
 returns-in_default c =
     let board = c.args.checker.now.board.now in
-    let wanted : List ℕ = least_by board.labels c.args.checker.now.group.now c.args.places.now in
+    let wanted : List ℕ = least_by board.labels c.args.checker.now.alike.now.group c.args.places.now in
     let some : IsWanted c.args.wanted = search rules in (
       some,
       inl (
@@ -28,7 +28,7 @@ returns-in_default c =
 pub returns : goal.returns
 returns c =
     let board = c.args.checker.now.board.now in
-    let wanted : List ℕ = least_by board.labels c.args.checker.now.group.now c.args.places.now in
+    let wanted : List ℕ = least_by board.labels c.args.checker.now.alike.now.group c.args.places.now in
     let rows = c.args.checker.now.proof.now.labeller.items in
     let row = class_answer_row board c.in-Some.row.now in
     let found = row_for board (class_answer_row board) (λ r. r.at) (λ r. r.at) (λ r. refl) rows wanted

@@ -14,7 +14,8 @@ returns-clause-unread g c broke =
 
 pub returns-clause-done : goal.returns-clause-done
 returns-clause-done g c =
-    opened_board (SolutionWithin c.args.work.limit) (CannotSolveWithin c.args.work.limit c.args.work.workers)
+    opened_board (SolutionWithin c.args.work.limit c.args.side)
+    (CannotSolveWithin c.args.work.limit c.args.side c.args.work.workers)
     (g.F.Folder.at c.args.files.now.folder.now c.args.board.now) _ c.in-Ok.ensures.opened
     (stream_of g.O.Sink.contents g.O.Sink.has_failed c.args.console.now.output c.solve-solved.new.writer)
     c.solve-solved.result c.of_board.result.outcome (c.of_board.ensures ∙ c.of_run.ensures) c.solve-solved.ensures.ok

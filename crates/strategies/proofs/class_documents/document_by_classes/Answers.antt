@@ -1,51 +1,100 @@
-use Rattle.std.proofs.Common.{◌≡◌, ◌+◌, ◌*◌, ◌<◌, ◌∙◌, ap, subst}
+use Rattle.std.proofs.Common.{◌≡◌, ◌+◌, ◌*◌, ◌<◌, ◌∙◌, true, None, ap, subst, sym}
 use Rattle.std.proofs.lemmas.Result.{err_from_is_err_and}
 use Rattle.board_text.specs.PlainBoard.{IsBoard}
+use Rattle.positions.specs.Claim.{claim_of}
 use Rattle.positions.specs.Value.{HasValue}
-use Rattle.positions.specs.declared.value.Value.TheVariants.{Finite}
+use Rattle.proof_text.specs.Arranged.{arranged}
 use Rattle.proof_text.specs.ClassProof.{plain_class_proof}
-use Rattle.proof_text.specs.Positions.{class_positions}
-use Rattle.proof_text.specs.Rules.{BreaksNoRule}
-use Rattle.strategies.specs.ClassDocument.{CannotBeMade}
-use Rattle.strategies.proofs.LongDocuments.{adversary_unmade, labeller_unmade}
+use Rattle.proof_text.specs.Proof.{asks_adversary}
+use Rattle.strategies.specs.ClassDocument.{CannotBeMade, IsClassDocumentFor}
+use Rattle.strategies.specs.Inside.ClassSide.{AreClassPadded}
+use Rattle.strategies.specs.Sides.{claim_for}
+use Rattle.strategies.proofs.ClassesMade.{class_form_made, class_rules_made, whole_made}
+use Rattle.strategies.proofs.LongDocuments.{adversary_unmade, class_unmade, labeller_unmade}
+use Rattle.strategies.proofs.NormalForms.{arranged_form, by_none}
+use Rattle.strategies.proofs.OneSide.{always_asked}
 use Rattle.strategies.proofs.class_documents.document_by_classes.Goals as goal
+
+pub section-requires : goal.section-requires
+section-requires g c =
+    rw (c.of-normal.ensures, c.by_classes-alike.ensures, c.board.ensures)
+    (by_none (g.M.Moves.board c.in_ok-moves.moves))
+
+pub section-requires-then-asks_adversary : goal.section-requires-then-asks_adversary
+section-requires-then-asks_adversary g c =
+    rw (c.of-normal.ensures, c.by_classes-alike.ensures, c.board.ensures)
+    (by_none (g.M.Moves.board c.in_ok-moves.moves))
+
+pub rows_of-requires-clause-normal : goal.rows_of-requires-clause-normal
+rows_of-requires-clause-normal g c =
+    rw (c.of-normal.ensures, c.by_classes-alike.ensures, c.board.ensures)
+    (by_none (g.M.Moves.board c.in_ok-moves.moves))
 
 pub returns-in_err-labeller-clause-fault : goal.returns-in_err-labeller-clause-fault
 returns-in_err-labeller-clause-fault g c =
-    let board = g.M.Moves.board c.args.moves.now in
     let listed = g.M.Moves.board c.in_ok-moves.moves in
-    let is_board : IsBoard listed = subst IsBoard c.board.ensures c.pebbles-pebbles.ensures.is_board in
+    let is_board : IsBoard listed = subst IsBoard c.board-2.ensures c.pebbles-pebbles.ensures.is_board in
     let pebbles : c.pebbles-pebbles.result ≡ listed.pebbles =
-    c.pebbles-pebbles.ensures.value ∙ ap (λ b. b.pebbles) c.board.ensures in
+    c.pebbles-pebbles.ensures.value ∙ ap (λ b. b.pebbles) c.board-2.ensures in
     let room = subst (λ p. c.args.bytes < (c.labeller_room.result + 1) * (13 + 4 * p)) pebbles
     c.labeller_room.ensures in
+    let value = c.value-value.result in
+    let has : HasValue listed listed.start value = subst (λ s. HasValue listed s value)
+    (c.start.ensures.value ∙ ap (λ b. b.start) c.board-3.ensures) c.value-value.ensures in
     let fault = c.in_err-labeller.field-0.0 in
-    let made = labeller_unmade listed is_board c.value-value.result c.args.bytes c.labeller_room.result room fault
-    c.in_err-labeller.ensures.fault in
+    let made = labeller_unmade listed (arranged listed.labels) (arranged_form listed) is_board None value c.args.bytes
+    c.labeller_room.result has tt (always_asked value) room fault
+    (rw (c.of-normal.ensures, c.by_classes-alike.ensures) at c.in_err-labeller.ensures.fault) in
     let p = err_from_is_err_and c.from_residual-in_err-labeller.result c.from_residual-in_err-labeller.ensures.1 in
-    rw (p.1, p.2) (subst (λ b. CannotBeMade b c.args.bytes fault) c.in_ok-moves.ensures made)
+    rw (p.1, p.2) (subst (λ b. CannotBeMade None b c.args.bytes fault) c.in_ok-moves.ensures
+    (class_unmade None listed c.args.bytes fault made))
 
-pub returns-in_err-adversary-in-Finite-clause-fault : goal.returns-in_err-adversary-in-Finite-clause-fault
-returns-in_err-adversary-in-Finite-clause-fault g c =
-    let board = g.M.Moves.board c.args.moves.now in
+pub returns-in_err-adversary-clause-fault : goal.returns-in_err-adversary-clause-fault
+returns-in_err-adversary-clause-fault g c =
     let listed = g.M.Moves.board c.in_ok-moves.moves in
-    let number = c.in-Finite.field-0 in
-    let is_board : IsBoard listed = subst IsBoard c.board.ensures c.pebbles-pebbles.ensures.is_board in
+    let is_board : IsBoard listed = subst IsBoard c.board-2.ensures c.pebbles-pebbles.ensures.is_board in
     let pebbles : c.pebbles-pebbles.result ≡ listed.pebbles =
-    c.pebbles-pebbles.ensures.value ∙ ap (λ b. b.pebbles) c.board.ensures in
-    let room = subst (λ p. c.args.bytes < (c.adversary_room.result + 1) * (13 + 2 * p)) pebbles
-    c.adversary_room.ensures in
-    let has_value = subst (HasValue listed c.start.result.now) c.in-Finite.is c.value-value.ensures in
-    let has : HasValue listed listed.start (Finite number) = subst (λ s. HasValue listed s (Finite number))
-    (c.start.ensures.value ∙ ap (λ b. b.start) c.board-2.ensures) has_value in
-    let fault = c.in_err-adversary-in-Finite.field-0.0 in
-    let made = adversary_unmade listed is_board number c.args.bytes c.adversary_room.result has room fault
-    c.in_err-adversary-in-Finite.ensures.fault in
-    let p = err_from_is_err_and c.from_residual-in_err-adversary-in-Finite.result
-    c.from_residual-in_err-adversary-in-Finite.ensures.1 in
-    rw (p.1, p.2) (subst (λ b. CannotBeMade b c.args.bytes fault) c.in_ok-moves.ensures made)
+    c.pebbles-pebbles.ensures.value ∙ ap (λ b. b.pebbles) c.board-2.ensures in
+    let room = subst (λ p. c.args.bytes < (c.adversary_room-most.result + 1) * (13 + 2 * p)) pebbles
+    c.adversary_room-most.ensures in
+    let value = c.value-value.result in
+    let has : HasValue listed listed.start value = subst (λ s. HasValue listed s value)
+    (c.start.ensures.value ∙ ap (λ b. b.start) c.board-3.ensures) c.value-value.ensures in
+    let asked : asks_adversary (claim_for None (claim_of value)) ≡ true =
+    ap asks_adversary (sym c.claim_for.ensures) ∙ sym c.asks_adversary.ensures ∙ c.if-asks_adversary.true in
+    let fault = c.in_err-adversary.field-0.0 in
+    let made = adversary_unmade listed (arranged listed.labels) (arranged_form listed) is_board None value c.args.bytes
+    c.adversary_room-most.result has tt asked room fault
+    (rw (c.of-normal.ensures, c.by_classes-alike.ensures) at c.in_err-adversary.ensures.fault) in
+    let p = err_from_is_err_and c.from_residual-in_err-adversary.result c.from_residual-in_err-adversary.ensures.1 in
+    rw (p.1, p.2) (subst (λ b. CannotBeMade None b c.args.bytes fault) c.in_ok-moves.ensures
+    (class_unmade None listed c.args.bytes fault made))
+
+pub returns-clause-document : goal.returns-clause-document
+returns-clause-document g c =
+    let board = g.M.Moves.board c.args.moves.now in
+    let made = subst (λ b. IsClassDocumentFor None b (plain_class_proof b c.rows_of.result.proof))
+    c.in_ok-moves.ensures (rw (c.of-normal.ensures, c.by_classes-alike.ensures)
+    at c.rows_of.ensures.document) in
+    whole_made board (plain_class_proof board c.rows_of.result.proof) made
+
+pub returns-clause-form : goal.returns-clause-form
+returns-clause-form g c =
+    let board = g.M.Moves.board c.args.moves.now in
+    let made = subst (λ b. IsClassDocumentFor None b (plain_class_proof b c.rows_of.result.proof))
+    c.in_ok-moves.ensures (rw (c.of-normal.ensures, c.by_classes-alike.ensures)
+    at c.rows_of.ensures.document) in
+    let is_board : IsBoard board = subst IsBoard (c.board-2.ensures ∙ c.in_ok-moves.ensures)
+    c.pebbles-pebbles.ensures.is_board in
+    class_form_made board None (λ value has. tt) c.rows_of.result.proof made is_board.start
+    (subst (λ b. AreClassPadded b c.rows_of.result.proof) c.in_ok-moves.ensures c.rows_of.ensures.padded)
 
 pub returns-clause-rules : goal.returns-clause-rules
 returns-clause-rules g c =
-    subst (λ b. BreaksNoRule (class_positions b.labels) b (plain_class_proof b c.document_of.result.proof))
-    c.in_ok-moves.ensures c.document_of.ensures.rules
+    let board = g.M.Moves.board c.args.moves.now in
+    let made = subst (λ b. IsClassDocumentFor None b (plain_class_proof b c.rows_of.result.proof))
+    c.in_ok-moves.ensures (rw (c.of-normal.ensures, c.by_classes-alike.ensures)
+    at c.rows_of.ensures.document) in
+    let is_board : IsBoard board = subst IsBoard (c.board-2.ensures ∙ c.in_ok-moves.ensures)
+    c.pebbles-pebbles.ensures.is_board in
+    class_rules_made board None (λ value has. tt) c.rows_of.result.proof made is_board.start

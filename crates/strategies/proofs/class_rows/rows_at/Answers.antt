@@ -1,5 +1,6 @@
 use Rattle.std.proofs.Common.{◌≡◌, ◌++◌, ◌∷◌, [], List, ℕ, Some, None, get_or, take, subst, rules}
 use Rattle.std.proofs.lemmas.List.{take_more, append-nil}
+use Rattle.strategies.specs.Inside.NormalForm.{normal_by}
 use Rattle.strategies.specs.Inside.ClassSide.{AreRowsAtClasses}
 use Rattle.strategies.proofs.RowsAtClasses.{rows_push}
 use Rattle.strategies.proofs.class_rows.rows_at.Goals as goal
@@ -8,7 +9,7 @@ use Rattle.strategies.proofs.class_rows.rows_at.Goals.{in-Some+in_ok-push, in_de
 pub loop-number-preserved : goal.loop-number-preserved
 loop-number-preserved g c =
     let board = g.M.Moves.board c.args.moves.now in
-    let side = g.R.ClassSectionRow.side board c.args.start in
+    let side = g.R.ClassSectionRow.side board (normal_by board c.args.normal.now) c.args.start in
     let numbers : List ℕ = c.args.numbers.now in
     let index : ℕ = c.loop-number.number-index in
     let more = take_more numbers index 0 c.loop-number-test.true in

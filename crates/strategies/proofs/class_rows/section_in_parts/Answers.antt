@@ -2,6 +2,7 @@ use Rattle.std.proofs.Common.{◌≡◌, ◌≤◌, ◌∙◌, length, take, ap,
 use Rattle.std.specs.List.{flat_map}
 use Rattle.std.proofs.lemmas.List.{take_all}
 use Rattle.std.proofs.lemmas.Result.{err_from_is_err_and}
+use Rattle.strategies.specs.Inside.NormalForm.{normal_by}
 use Rattle.strategies.specs.Inside.ClassSide.{AreRowsAtClasses}
 use Rattle.strategies.proofs.RowsAtClasses.{may_stand, section_is}
 use Rattle.strategies.proofs.class_rows.section_in_parts.Goals as goal
@@ -9,14 +10,14 @@ use Rattle.strategies.proofs.class_rows.section_in_parts.Goals as goal
 pub rows_in_parts-requires-clause-numbers : goal.rows_in_parts-requires-clause-numbers
 rows_in_parts-requires-clause-numbers g c = λ κs lives.
     let board = g.M.Moves.board c.args.moves.now in
-    let side = g.R.ClassSectionRow.side board c.args.start in
+    let side = g.R.ClassSectionRow.side board (normal_by board c.args.normal.now) c.args.start in
     rw c.deref.ensures.value
     (may_stand board side _ _ (c.in_ok-reached.ensures.ok c.args.start) c.in_ok-numbers.ensures)
 
 pub returns-clause-ok : goal.returns-clause-ok
 returns-clause-ok g c =
     let board = g.M.Moves.board c.args.moves.now in
-    let side = g.R.ClassSectionRow.side board c.args.start in
+    let side = g.R.ClassSectionRow.side board (normal_by board c.args.normal.now) c.args.start in
     let made = rw c.deref.ensures.value at c.in_ok-rows_in_parts.ensures in
     let past : length c.deref-part-items.result.now ≤ c.loop-part.part-index = c.loop-part-test.false in
     let all : take c.loop-part.part-index c.deref-part-items.result.now ≡ c.in_ok-rows_in_parts.field-0.items =

@@ -16,7 +16,7 @@ loop-label-init c =
     let rows = class_request_rows board c.args.checker.now.proof.now.adversary.items in
     let IsLegal : ℕ → Type 0 = Legal board row.at (asked_pebble row) in
     let Meets : ℕ → Type 0 =
-    MeetsAnswer (normal_positions (least_by board.labels c.args.checker.now.group.now)) board rows row in
+    MeetsAnswer (normal_positions (least_by board.labels c.args.checker.now.alike.now.group)) board rows row in
     none_met IsLegal Meets c.legal_labels-legal.result c.walk-answers.result c.walk-answers.ensures
     (rw (c.row_places.ensures.value, c.asked_pebble-pebble.ensures.asked) at c.legal_labels-legal.ensures)
 
@@ -27,7 +27,7 @@ label_fault-requires-clause-legal c =
     let rows = class_request_rows board c.args.checker.now.proof.now.adversary.items in
     let IsLegal : ℕ → Type 0 = Legal board row.at (asked_pebble row) in
     let Meets : ℕ → Type 0 =
-    MeetsAnswer (normal_positions (least_by board.labels c.args.checker.now.group.now)) board rows row in
+    MeetsAnswer (normal_positions (least_by board.labels c.args.checker.now.alike.now.group)) board rows row in
     let most : board.labels ≤ MAX_LABELS = c.row_places.ensures.is_board.labels.1 in
     let few : (label : ℕ) → IsLegal label → label < MAX_LABELS = λ label legal. omega (arith, legal.is_label, most) in
     let skipped : (label : ℕ) → ¬ IsLegal label → Meets label = λ label not legal. absurd (not legal) in
@@ -42,7 +42,7 @@ returns-in-Some-label_fault-clause-fault c =
     let rows = class_request_rows board c.args.checker.now.proof.now.adversary.items in
     let IsLegal : ℕ → Type 0 = Legal board row.at (asked_pebble row) in
     let Meets : ℕ → Type 0 =
-    MeetsAnswer (normal_positions (least_by board.labels c.args.checker.now.group.now)) board rows row in
+    MeetsAnswer (normal_positions (least_by board.labels c.args.checker.now.alike.now.group)) board rows row in
     let most : board.labels ≤ MAX_LABELS = c.row_places.ensures.is_board.labels.1 in
     let few : (label : ℕ) → IsLegal label → label < MAX_LABELS = λ label legal. omega (arith, legal.is_label, most) in
     let skipped : (label : ℕ) → ¬ IsLegal label → Meets label = λ label not legal. absurd (not legal) in
@@ -62,7 +62,7 @@ loop-label-preserved c =
     let rows = class_request_rows board c.args.checker.now.proof.now.adversary.items in
     let IsLegal : ℕ → Type 0 = Legal board row.at (asked_pebble row) in
     let Meets : ℕ → Type 0 =
-    MeetsAnswer (normal_positions (least_by board.labels c.args.checker.now.group.now)) board rows row in
+    MeetsAnswer (normal_positions (least_by board.labels c.args.checker.now.alike.now.group)) board rows row in
     let most : board.labels ≤ MAX_LABELS = c.row_places.ensures.is_board.labels.1 in
     let few : (label : ℕ) → IsLegal label → label < MAX_LABELS = λ label legal. omega (arith, legal.is_label, most) in
     let skipped : (label : ℕ) → ¬ IsLegal label → Meets label = λ label not legal. absurd (not legal) in
@@ -77,7 +77,7 @@ returns-clause-fault c =
     let rows = class_request_rows board c.args.checker.now.proof.now.adversary.items in
     let IsLegal : ℕ → Type 0 = Legal board row.at (asked_pebble row) in
     let Meets : ℕ → Type 0 =
-    MeetsAnswer (normal_positions (least_by board.labels c.args.checker.now.group.now)) board rows row in
+    MeetsAnswer (normal_positions (least_by board.labels c.args.checker.now.alike.now.group)) board rows row in
     let most : board.labels ≤ MAX_LABELS = c.row_places.ensures.is_board.labels.1 in
     let few : (label : ℕ) → IsLegal label → label < MAX_LABELS = λ label legal. omega (arith, legal.is_label, most) in
     let skipped : (label : ℕ) → ¬ IsLegal label → Meets label = λ label not legal. absurd (not legal) in

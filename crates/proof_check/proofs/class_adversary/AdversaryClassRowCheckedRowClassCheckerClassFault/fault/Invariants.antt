@@ -13,7 +13,7 @@ invariant-loop-label l =
     AreMetBefore
     (Legal l.checker.board.now (class_request_row l.checker.board.now l.self).at
     (asked_pebble (class_request_row l.checker.board.now l.self)))
-    (MeetsAnswer (normal_positions (least_by l.checker.board.now.labels l.checker.group.now)) l.checker.board.now
+    (MeetsAnswer (normal_positions (least_by l.checker.board.now.labels l.checker.alike.now.group)) l.checker.board.now
     (class_request_rows l.checker.board.now l.checker.proof.now.adversary.items)
     (class_request_row l.checker.board.now l.self)) l.answers
 

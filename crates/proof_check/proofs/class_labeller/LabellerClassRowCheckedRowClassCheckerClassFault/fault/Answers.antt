@@ -11,7 +11,7 @@ loop-pebble-init c = λ earlier low. absurd (omega (arith, low))
 pub loop-pebble-preserved : goal.loop-pebble-preserved
 loop-pebble-preserved c =
     below_more (MeetsRequest
-    (normal_positions (least_by c.args.checker.now.board.now.labels c.args.checker.now.group.now))
+    (normal_positions (least_by c.args.checker.now.board.now.labels c.args.checker.now.alike.now.group))
     c.args.checker.now.board.now
     (class_answer_rows c.args.checker.now.board.now c.args.checker.now.proof.now.labeller.items)
     (class_answer_row c.args.checker.now.board.now c.args.self.now))

@@ -7,6 +7,6 @@ use Rattle.proof_check.proofs.class_labeller.LabellerClassRowCheckedRowClassChec
 
 abbrev pub invariant-loop-pebble : goal.invariant-loop-pebble
 invariant-loop-pebble l = (earlier : ℕ) → earlier < l.pebble
-    → MeetsRequest (normal_positions (least_by l.checker.board.now.labels l.checker.group.now)) l.checker.board.now
-    (class_answer_rows l.checker.board.now l.checker.proof.now.labeller.items)
+    → MeetsRequest (normal_positions (least_by l.checker.board.now.labels l.checker.alike.now.group))
+    l.checker.board.now (class_answer_rows l.checker.board.now l.checker.proof.now.labeller.items)
     (class_answer_row l.checker.board.now l.self) earlier

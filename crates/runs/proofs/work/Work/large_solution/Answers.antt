@@ -1,9 +1,10 @@
 use Rattle.std.proofs.Common.{[], ◌++◌, inl, inr, refl}
-use Rattle.std.proofs.lemmas.Result.{err_from_is_err_and}
+use Rattle.std.proofs.lemmas.Result.{IfErr-weaker, IfOk-weaker, err_from_is_err_and}
 use Rattle.std.specs.Prelude.{Err}
 use Rattle.console.proofs.Cited.{none_more, then_more}
 use Rattle.runs.specs.Notices.{notice_for}
 use Rattle.runs.specs.declared.fault.RunFault.TheVariants.{Memory}
+use Rattle.runs.proofs.SidedRuns.{solved_by_classes, unshown}
 use Rattle.runs.proofs.ToldNotices.{rounds_found, rounds_of_run}
 use Rattle.runs.proofs.work.Work.large_solution.Goals as goal
 
@@ -50,3 +51,15 @@ returns-clause-notice g c =
       then_more g.E.Sink.contents g.E.Sink.has_failed c.args.errors.now c.tell_size.new.errors c.values.new.errors
           notice rounds.0 c.tell_size.ensures rounds.2,
     )
+
+pub returns-clause-ok : goal.returns-clause-ok
+returns-clause-ok g c =
+    IfOk-weaker c.class_solution.result _ _
+    (λ made is. solved_by_classes c.args.text.now c.in_ok-board.board c.args.self.workers c.args.side made.value _
+    c.in_ok-board.ensures.found is) (rw c.new-moves.ensures at c.class_solution.ensures.ok)
+
+pub returns-clause-fault : goal.returns-clause-fault
+returns-clause-fault g c =
+    IfErr-weaker c.class_solution.result _ _
+    (λ fault is. unshown c.args.text.now c.in_ok-board.board c.args.self.workers c.args.side fault
+    c.in_ok-board.ensures.found is) (rw c.new-moves.ensures at c.class_solution.ensures.fault)

@@ -5,19 +5,20 @@ use Rattle.runs.proofs.ToldNotices.{solved_unnoticed}
 use Rattle.runs.proofs.work.Work.solve.Goals as goal
 
 pub returns-in-Small-clause-ok : goal.returns-in-Small-clause-ok
-returns-in-Small-clause-ok g c = rw c.in-Small.is c.run_solve.ensures.ok
+returns-in-Small-clause-ok g c = rw c.in-Small.is c.solve_small.ensures.ok
 
 pub returns-in-Small-clause-fault : goal.returns-in-Small-clause-fault
-returns-in-Small-clause-fault g c = rw c.in-Small.is c.run_solve.ensures.fault
+returns-in-Small-clause-fault g c = rw c.in-Small.is c.solve_small.ensures.fault
 
 pub returns-in-Small-clause-notice : goal.returns-in-Small-clause-notice
 returns-in-Small-clause-notice g c = (
   [],
   rw c.in-Small.is
-      (solved_unnoticed (bytes_of g.R.Source.remaining c.args.reader.now c.run_solve.new.reader)
-      c.args.self.shows_size c.args.self.workers
-      (bytes_of g.W.Sink.contents c.args.writer.now c.run_solve.new.writer) c.run_solve.result c.run_solve.ensures.ok
-      c.run_solve.ensures.fault),
+      (solved_unnoticed (bytes_of g.R.Source.remaining c.args.reader.now c.solve_small.new.reader)
+      c.args.self.shows_size c.args.side c.args.self.workers
+      (bytes_of g.W.Sink.contents c.args.writer.now c.solve_small.new.writer)
+      c.solve_small.result c.solve_small.ensures.ok
+      c.solve_small.ensures.fault),
   none_more g.E.Sink.contents g.E.Sink.has_failed c.args.errors.now,
 )
 

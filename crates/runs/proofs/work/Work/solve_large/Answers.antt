@@ -2,7 +2,7 @@ use Rattle.std.proofs.Common.{[], inl, inr, refl}
 use Rattle.std.proofs.lemmas.Result.{err_from_is_err_and}
 use Rattle.command_line.specs.declared.asked.BoardLimit.TheVariants.{Large}
 use Rattle.console.proofs.Cited.{none_more}
-use Rattle.runs.specs.ClassSolveRun.{CannotSolveByClasses, IsClassSolution}
+use Rattle.runs.specs.LimitedSolveRun.{CannotSolveWithin, SolutionWithin}
 use Rattle.runs.specs.Run.{bytes_of}
 use Rattle.runs.specs.declared.reading.TheConstants.{MAX_BOARD_BYTES}
 use Rattle.runs.proofs.FailedRuns.{cut_short, nothing_to_write}
@@ -14,7 +14,8 @@ returns-in_err-solved-clause-fault g c =
     let p = err_from_is_err_and c.from_residual-in_err-solved.result c.from_residual-in_err-solved.ensures.1 in
     let read = bytes_of g.R.Source.remaining c.args.reader.now c.read_text.new.reader in
     let written = bytes_of g.W.Sink.contents c.args.writer.now c.args.writer.now in
-    rw (p.1, p.2) (nothing_to_write IsClassSolution CannotSolveByClasses MAX_BOARD_BYTES read written
+    rw (p.1, p.2) (nothing_to_write (SolutionWithin Large c.args.side)
+    (CannotSolveWithin Large c.args.side c.args.self.workers) MAX_BOARD_BYTES read written
     c.in_ok-text.text.items c.in_ok-text.ensures.ok c.in_err-solved.field-0.0
     (rw c.as_slice.ensures.value at c.in_err-solved.ensures.fault))
 
@@ -25,7 +26,8 @@ returns-in_err-write_parts-clause-fault g c =
     let read = bytes_of g.R.Source.remaining c.args.reader.now c.read_text.new.reader in
     let written = bytes_of g.W.Sink.contents c.args.writer.now c.write_parts.new.writer in
     rw (p.1, p.2, c.in_err-write_parts.ensures.fault)
-    (cut_short IsClassSolution CannotSolveByClasses MAX_BOARD_BYTES read written
+    (cut_short (SolutionWithin Large c.args.side) (CannotSolveWithin Large c.args.side c.args.self.workers)
+    MAX_BOARD_BYTES read written
     c.in_ok-text.text.items c.in_ok-text.ensures.ok c.in_ok-solved.solved.value _
     (rw c.as_slice.ensures.value at c.in_ok-solved.ensures.ok)
     (rw c.deref.ensures.value at c.in_err-write_parts.ensures.prefix))

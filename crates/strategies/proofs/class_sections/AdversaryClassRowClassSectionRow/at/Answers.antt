@@ -18,7 +18,7 @@ size g c = rw c.board-board.ensures at c.pebbles.ensures.value
 pub returns-in_default : goal.returns-in_default
 returns-in_default g c =
     let at = (goal.at.returns-in_default g c).After-pebbles in
-    no_request (g.M.Moves.board c.args.moves.now) c.args.number c.pebbles.result c.places_at-at.result
+    no_request (g.M.Moves.board c.args.moves.now) _ c.args.number c.pebbles.result c.places_at-at.result
     (size g at) (here g at)
     (rw c.in_default.is at c.request-value.ensures.value)
 
@@ -26,14 +26,14 @@ pub returns-in_err-pebble : goal.returns-in_err-pebble
 returns-in_err-pebble g c =
     let at = (goal.at.returns-in_err-pebble g c).After-pebbles in
     rw c.from_residual.ensures
-    (no_request (g.M.Moves.board c.args.moves.now) c.args.number c.pebbles.result c.places_at-at.result
+    (no_request (g.M.Moves.board c.args.moves.now) _ c.args.number c.pebbles.result c.places_at-at.result
     (size g at) (here g at)
     (c.request-value.ensures.request.none.0 c.in_err-pebble.was))
 
 pub returns : goal.returns
 returns g c =
     let at = (goal.at.returns g c).After-pebbles in (
-      adversary_row_is (g.M.Moves.board c.args.moves.now) c.args.number c.pebbles.result c.places_at-at.result
+      adversary_row_is (g.M.Moves.board c.args.moves.now) _ c.args.number c.pebbles.result c.places_at-at.result
           (size g at) (here g at)
           c.in_ok-pebble.pebble c.in-Finite.left c.requires.0 c.requires.1
           (rw c.in-Finite.is at c.request-value.ensures.value)

@@ -2,7 +2,8 @@ use Rattle.std.proofs.Common.{◌≡◌, get_or, refl, sym, arith}
 use Rattle.std.proofs.lemmas.List.Elements.{Contains-get_or}
 use Rattle.board_text.specs.PlainBoard.{IsConfiguration}
 use Rattle.strategies.proofs.AddedRanks.{added_one}
-use Rattle.strategies.specs.Inside.ReachedClasses.{number_of_class_at}
+use Rattle.strategies.specs.Inside.NormalForm.{normal_by}
+use Rattle.strategies.specs.Inside.ReachedClasses.{normal_number}
 use Rattle.strategies.proofs.ExpandedClasses.{none_expanded}
 use Rattle.strategies.proofs.OneClassList.{adversarys}
 use Rattle.strategies.proofs.SpreadClasses.{spread_begins, spread_more, spread_ends, spread_found, request_moves}
@@ -18,23 +19,24 @@ is_start g c = rw c.board-board.ensures at c.start.ensures.is_board.start
 pub loop-number-init : goal.loop-number-init
 loop-number-init g c =
     let b = g.M.Moves.board c.args.moves.now in
-    let number_is : c.class_order.result ≡ number_of_class_at b b.start =
-    rw (c.start.ensures.value, c.board-board.ensures) at c.class_order.ensures in
+    let normal = normal_by b c.args.normal.now in
+    let number_is : c.order.result ≡ normal_number b normal b.start =
+    rw (c.start.ensures.value, c.board-board.ensures) at c.order.ensures in
     record {
-      spread = spread_begins b _ _ _ (is_start g (goal.at.loop-number-init g c).After-start) _
+      spread = spread_begins b normal c.requires.form _ _ _ (is_start g (goal.at.loop-number-init g c).After-start) _
           (added_one _ _ _ _ (rw (c.new-reached.ensures, number_is) at c.in_ok-add.ensures) (tt, refl)
           (λ number starts. starts.1));
       expanded = rw c.new-expanded.ensures (none_expanded b _ _);
     }
 
 pub add_results-requires-clause-number : goal.add_results-requires-clause-number
-add_results-requires-clause-number g c = spread_found _ _ _ _ _ _ _ c.loop-number.invariant.spread
+add_results-requires-clause-number g c = spread_found _ _ _ _ _ _ _ _ c.loop-number.invariant.spread
     (sym c.in-Some.ensures.number)
 
 pub overflow_add-index : goal.overflow_add-index
 overflow_add-index g c =
     let low = place_below
-    (g.M.Moves.board c.args.moves.now) _ _ _ c.loop-number.index c.in-Some.number c.loop-number.reached
+    (g.M.Moves.board c.args.moves.now) _ _ _ _ c.loop-number.index c.in-Some.number c.loop-number.reached
     c.loop-number.invariant.spread c.in-Some.ensures.once (sym c.in-Some.ensures.number) in
     omega (
       arith,
@@ -45,16 +47,17 @@ overflow_add-index g c =
 
 pub loop-number-smaller : goal.loop-number-smaller
 loop-number-smaller g c =
-    fewer_left (g.M.Moves.board c.args.moves.now) _ _ _ c.loop-number.index c.in-Some.number
+    fewer_left (g.M.Moves.board c.args.moves.now) _ _ _ _ c.loop-number.index c.in-Some.number
     c.loop-number.reached
     c.loop-number.invariant.spread c.in-Some.ensures.once (sym c.in-Some.ensures.number)
 
 pub loop-number-preserved : goal.loop-number-preserved
 loop-number-preserved g c =
     record {
-      spread = spread_more (g.M.Moves.board c.args.moves.now) _ _ _ (is_start g
-          (goal.at.loop-number-preserved g c).After-start)
-          (request_moves (g.M.Moves.board c.args.moves.now)) c.loop-number.index c.in-Some.number _ _
+      spread = spread_more (g.M.Moves.board c.args.moves.now) (normal_by (g.M.Moves.board c.args.moves.now)
+          c.args.normal.now)
+          c.requires.form _ _ _ (is_start g (goal.at.loop-number-preserved g c).After-start)
+          (request_moves (g.M.Moves.board c.args.moves.now) _) c.loop-number.index c.in-Some.number _ _
           c.loop-number.invariant.spread (sym c.in-Some.ensures.number) c.in_ok-add_results.ensures.added;
       expanded = c.in_ok-add_results.ensures.expanded;
     }
@@ -62,11 +65,12 @@ loop-number-preserved g c =
 pub returns-clause-ok : goal.returns-clause-ok
 returns-clause-ok g c = λ start.
     let is = is_start g (goal.at.returns-clause-ok g c).After-start in
+    let b = g.M.Moves.board c.args.moves.now in
+    let normal = normal_by b c.args.normal.now in
     record {
-      each = spread_ends (g.M.Moves.board c.args.moves.now) _ _ _ is (request_moves
-          (g.M.Moves.board c.args.moves.now)) c.loop-number.index _
+      each = spread_ends b normal c.requires.form _ _ _ is (request_moves b normal) c.loop-number.index _
           c.loop-number.invariant.spread (sym c.in_default.ensures.number);
-      rows = adversarys (g.M.Moves.board c.args.moves.now) start is;
+      rows = adversarys b normal c.requires.form start is;
     }
 
 pub returns-then-len-most-clause-fault : goal.returns-then-len-most-clause-fault

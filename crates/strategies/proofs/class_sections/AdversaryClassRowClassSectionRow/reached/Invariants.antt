@@ -1,4 +1,5 @@
 use Rattle.std.proofs.Common.{◌-◌}
+use Rattle.strategies.specs.Inside.NormalForm.{normal_by}
 use Rattle.strategies.specs.Inside.ReachedClasses.{AreExpandedClasses}
 use Rattle.strategies.proofs.ClassNumbers.{last_number}
 use Rattle.strategies.proofs.SpreadClasses.{IsSpreadByRequests}
@@ -6,8 +7,10 @@ use Rattle.strategies.proofs.class_sections.AdversaryClassRowClassSectionRow.rea
 
 abbrev pub invariant-loop-number : goal.invariant-loop-number
 invariant-loop-number g l = record {
-  spread : IsSpreadByRequests (g.M.Moves.board l.moves) l.index l.reached;
-  expanded : AreExpandedClasses (g.M.Moves.board l.moves) l.expanded l.reached;
+  spread : IsSpreadByRequests (g.M.Moves.board l.moves) (normal_by (g.M.Moves.board l.moves) l.normal) l.index
+      l.reached;
+  expanded : AreExpandedClasses (g.M.Moves.board l.moves) (normal_by (g.M.Moves.board l.moves) l.normal) l.expanded
+      l.reached;
 }
 
 abbrev pub decreases-loop-number : goal.decreases-loop-number

@@ -2,6 +2,7 @@ use Rattle.std.proofs.Common.{◌≡◌, ◌<◌, ◌≤◌, ℕ, List, take, su
 use Rattle.board_text.specs.declared.board.TheConstants.{MAX_PEBBLES}
 use Rattle.strategies.specs.Best.{IsBestAnswer}
 use Rattle.strategies.proofs.MadeRows.{taken_more}
+use Rattle.strategies.specs.Inside.NormalForm.{normal_by}
 use Rattle.strategies.specs.Inside.ReachedClasses.{class_numbered}
 use Rattle.strategies.proofs.MadeClassRows.{held_is, has_answer, labeller_row_is}
 use Rattle.strategies.proofs.class_sections.LabellerClassRowClassSectionRow.at.Given.{Over}
@@ -34,9 +35,10 @@ loop-pebble-preserved g c =
           (taken_more b
           (class_numbered b c.args.number) pebble w.in-Some.best.label c.loop-pebble.take low c.loop-pebble.invariant
           (subst (λ (l : List ℕ). IsBestAnswer b l pebble w.in-Some.best.label)
-          (held_is b c.args.number c.pebbles.result c.places_at-at.result (size g at)
+          (held_is b (normal_by b c.args._normal.now) c.args.number c.pebbles.result c.places_at-at.result (size g at)
           (here g at)) (rw w.in-Some.is at best).0))
-      | in_default w ↦ absurd (has_answer b c.args.number c.pebbles.result c.places_at-at.result (size g at) (here g at)
+      | in_default w ↦ absurd (has_answer b (normal_by b c.args._normal.now) c.args.number c.pebbles.result
+          c.places_at-at.result (size g at) (here g at)
           c.requires.1 pebble is_pebble (rw w.in_default.is at best))
     ]
 
@@ -47,7 +49,7 @@ returns g c =
     let end = rw c.board-board.ensures at c.pebbles-pebble-end.ensures.value in
     let past : b.pebbles ≤ c.loop-pebble.pebble = omega (arith, end, c.loop-pebble-test.false) in
     rw c.turns-turns.ensures (
-      labeller_row_is b c.args.number c.pebbles.result c.places_at-at.result (size g at) (here g at) c.args.start
+      labeller_row_is b _ c.args.number c.pebbles.result c.places_at-at.result (size g at) (here g at) c.args.start
           c.answers-value.result.0 c.loop-pebble.pebble c.loop-pebble.take
           (rw c.board-board.ensures at c.pebbles.ensures.is_board)
           past c.requires.1 c.answers-value.ensures.value c.loop-pebble.invariant,

@@ -4,9 +4,8 @@ use Rattle.board_text.specs.PlainBoard.{IsConfiguration}
 use Rattle.positions.specs.Value.{HasValue}
 use Rattle.strategies.proofs.AddedRanks.{added_known, added_one}
 use Rattle.strategies.proofs.ValueOrder.{worthless}
-use Rattle.proof_text.specs.Arranged.{arranged}
-use Rattle.strategies.specs.Inside.ReachedClasses.{number_of_class_at}
-use Rattle.strategies.proofs.LikePebbles.{arranged-value}
+use Rattle.strategies.specs.Inside.NormalForm.{normal_by}
+use Rattle.strategies.specs.Inside.ReachedClasses.{normal_number}
 use Rattle.strategies.proofs.ExpandedClasses.{none_expanded}
 use Rattle.strategies.proofs.OneClassList.{labellers}
 use Rattle.strategies.proofs.SpreadClasses.{spread_begins, spread_more, spread_ends, spread_found, answer_moves}
@@ -23,35 +22,36 @@ is_start g c = rw c.board-board.ensures at c.start.ensures.is_board.start
 pub loop-number-init : goal.loop-number-init
 loop-number-init g c =
     let b = g.M.Moves.board c.args.moves.now in
+    let normal = normal_by b c.args.normal.now in
     let is = is_start g (goal.at.loop-number-init g c).After-start in
     let has : HasValue b b.start c.value.result =
     rw (c.start.ensures.value, c.board-board.ensures) at c.value.ensures in
-    let has_arranged : HasValue b (arranged b.labels b.start) c.value.result =
-    arranged-value b b.start is c.value.result has in
+    let has_normal : HasValue b (normal b.start) c.value.result =
+    c.requires.form.same_value b.start is c.value.result has in
     record {
       spread = elim c.if-lt.branch [
         | then-lt+in_ok-add w ↦
-            let number_is : w.class_order.result ≡ number_of_class_at b b.start =
-            rw (w.start-then-lt.ensures.value, c.board-board.ensures) at w.class_order.ensures in
-            rw w.reached-is (spread_begins b _ _ _ is _
+            let number_is : w.order.result ≡ normal_number b normal b.start =
+            rw (w.start-then-lt.ensures.value, c.board-board.ensures) at w.order.ensures in
+            rw w.reached-is (spread_begins b normal c.requires.form _ _ _ is _
             (added_one _ _ _ _ (rw (c.new-reached.ensures, number_is) at w.in_ok-add.ensures)
-            (record { value = c.value.result; has_value = has_arranged; some = search rules }, refl)
+            (record { value = c.value.result; has_value = has_normal; some = search rules }, refl)
             (λ number starts. starts.1)))
         | else-lt w ↦ rw (w.reached-is, c.new-reached.ensures)
-            (spread_begins b _ _ _ is [] (added_known [] _ (λ number starts. absurd
-            (worthless b _ c.value.result has_arranged (search rules) starts.0))))
+            (spread_begins b normal c.requires.form _ _ _ is [] (added_known [] _ (λ number starts. absurd
+            (worthless b _ c.value.result has_normal (search rules) starts.0))))
       ];
       expanded = rw c.new-expanded.ensures (none_expanded b _ _);
     }
 
 pub add_answers-requires-clause-number : goal.add_answers-requires-clause-number
-add_answers-requires-clause-number g c = spread_found _ _ _ _ _ _ _ c.loop-number.invariant.spread
+add_answers-requires-clause-number g c = spread_found _ _ _ _ _ _ _ _ c.loop-number.invariant.spread
     (sym c.in-Some.ensures.number)
 
 pub overflow_add-index : goal.overflow_add-index
 overflow_add-index g c =
     let low = place_below
-    (g.M.Moves.board c.args.moves.now) _ _ _ c.loop-number.index c.in-Some.number c.loop-number.reached
+    (g.M.Moves.board c.args.moves.now) _ _ _ _ c.loop-number.index c.in-Some.number c.loop-number.reached
     c.loop-number.invariant.spread c.in-Some.ensures.once (sym c.in-Some.ensures.number) in
     omega (
       arith,
@@ -62,16 +62,17 @@ overflow_add-index g c =
 
 pub loop-number-smaller : goal.loop-number-smaller
 loop-number-smaller g c =
-    fewer_left (g.M.Moves.board c.args.moves.now) _ _ _ c.loop-number.index c.in-Some.number
+    fewer_left (g.M.Moves.board c.args.moves.now) _ _ _ _ c.loop-number.index c.in-Some.number
     c.loop-number.reached
     c.loop-number.invariant.spread c.in-Some.ensures.once (sym c.in-Some.ensures.number)
 
 pub loop-number-preserved : goal.loop-number-preserved
 loop-number-preserved g c =
     record {
-      spread = spread_more (g.M.Moves.board c.args.moves.now) _ _ _ (is_start g
-          (goal.at.loop-number-preserved g c).After-start)
-          (answer_moves (g.M.Moves.board c.args.moves.now)) c.loop-number.index c.in-Some.number _ _
+      spread = spread_more (g.M.Moves.board c.args.moves.now) (normal_by (g.M.Moves.board c.args.moves.now)
+          c.args.normal.now)
+          c.requires.form _ _ _ (is_start g (goal.at.loop-number-preserved g c).After-start)
+          (answer_moves (g.M.Moves.board c.args.moves.now) _) c.loop-number.index c.in-Some.number _ _
           c.loop-number.invariant.spread (sym c.in-Some.ensures.number) c.in_ok-add_answers.ensures.added;
       expanded = c.in_ok-add_answers.ensures.expanded;
     }
@@ -79,11 +80,12 @@ loop-number-preserved g c =
 pub returns-clause-ok : goal.returns-clause-ok
 returns-clause-ok g c = λ start.
     let is = is_start g (goal.at.returns-clause-ok g c).After-start in
+    let b = g.M.Moves.board c.args.moves.now in
+    let normal = normal_by b c.args.normal.now in
     record {
-      each = spread_ends (g.M.Moves.board c.args.moves.now) _ _ _ is (answer_moves
-          (g.M.Moves.board c.args.moves.now)) c.loop-number.index _
+      each = spread_ends b normal c.requires.form _ _ _ is (answer_moves b normal) c.loop-number.index _
           c.loop-number.invariant.spread (sym c.in_default.ensures.number);
-      rows = labellers (g.M.Moves.board c.args.moves.now) start is;
+      rows = labellers b normal c.requires.form start is;
     }
 
 pub returns-then-len-most-clause-fault : goal.returns-then-len-most-clause-fault

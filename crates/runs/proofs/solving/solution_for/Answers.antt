@@ -1,0 +1,9 @@
+use Rattle.std.proofs.lemmas.Result.{err_from_is_err_and}
+use Rattle.runs.proofs.solving.solution_for.Goals as goal
+
+pub returns-clause-ok : goal.returns-clause-ok
+returns-clause-ok g c =
+    let made = c.in_ok-made.ensures in (
+      record { has_value = made.value; strategy = c.in_ok-expect_strategy.ensures.ok _ made.value },
+      made.text,
+    )

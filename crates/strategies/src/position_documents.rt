@@ -1,0 +1,104 @@
+//! Making the rows of a board's document over normal places.
+
+ghost use Rattle.std.specs.Prelude.{◌≡◌, ◌≤◌, IfErr, IfOk};
+ghost use Rattle.board_text.specs.PlainBoard.{IsBoard, IsConfiguration};
+ghost use Rattle.positions.specs.Claim.{claim_of};
+ghost use Rattle.positions.specs.Value.{HasValue};
+ghost use Rattle.positions.specs.declared.value.Value.{Value as ValueData};
+ghost use Rattle.proof_text.specs.ClassProof.{plain_class_proof};
+ghost use Rattle.proof_text.specs.Proof.{asks_adversary as asks_adversary_by};
+ghost use Rattle.proof_text.specs.Proof.{asks_labeller as asks_labeller_by};
+ghost use Rattle.strategies.specs.Inside.ClassSide.{AreClassPadded, AreClassRowsIf};
+ghost use Rattle.strategies.specs.Inside.ClassSide.{class_adversary_side, class_labeller_side};
+ghost use Rattle.strategies.specs.Inside.LongSections.{HasNoRows, IsDocumentOverFor};
+ghost use Rattle.strategies.specs.Inside.NormalForm.{IsNormalBy, normal_by};
+ghost use Rattle.strategies.specs.Sides.{HasStrategy, claim_for as claim_by};
+
+use crate::class_documents::{MadeDocument, adversary_room, labeller_room};
+use crate::class_rows::section_in_parts;
+use crate::moves::Moves;
+use crate::normal::Normal;
+use crate::sides::{asks_adversary, asks_labeller, claim_for};
+use crate::unmade::Unmade;
+use positions::{Side, Value};
+use proof_text::{AdversaryClassRow, ClassProof, LabellerClassRow};
+use std::alloc::Global;
+use std::thread::Threads;
+
+/// The value of the start of the board of `moves`, and the rows of its document over `normal`
+/// places, for `side` alone or for both, made in at most `parts` parts, unless they have more bytes
+/// than `bytes`.
+pub(crate) fn document_over<M: Moves + Sync>(
+    rt: &(impl Threads + Sync),
+    alloc: Global,
+    moves: &M,
+    normal: &Normal,
+    side: Option<Side>,
+    bytes: usize,
+    parts: u32,
+) -> Result<MadeDocument, Unmade>
+    requires normal { IsNormalBy (M.board moves.now) normal.now }
+    requires strategy { (value : ValueData)
+        → HasValue (M.board moves.now) (M.board moves.now).start value → HasStrategy side value }
+    requires parts { 1 ≤ parts }
+    ensures has_value { IfOk result (λ made. HasValue (M.board moves.now)
+        (M.board moves.now).start made.value) }
+    ensures document { IfOk result (λ made. IsDocumentOverFor side (M.board moves.now)
+        (normal_by (M.board moves.now) normal.now)
+        (plain_class_proof (M.board moves.now) made.proof)) }
+    ensures padded { IfOk result (λ made. AreClassPadded (M.board moves.now) made.proof) }
+    ensures is_board { IfOk result (λ _. IsBoard (M.board moves.now)) }
+    ensures fault { IfErr result (HasNoRows side (M.board moves.now) (normal_by
+        (M.board moves.now) normal.now) bytes) }
+{
+    let moves = moves.listed(alloc)?;
+    let pebbles = moves.board().pebbles();
+    let value = moves.value(moves.board().start());
+    let claim = claim_for(side, value);
+    let most = labeller_room(pebbles, bytes);
+    let labeller = if asks_labeller(claim) {
+        section_in_parts(rt, alloc, &moves, normal, value, most, parts)?
+    } else {
+        Vec::new(alloc)
+    };
+    let most = adversary_room(pebbles, bytes);
+    let adversary = if asks_adversary(claim) {
+        section_in_parts(rt, alloc, &moves, normal, value, most, parts)?
+    } else {
+        Vec::new(alloc)
+    };
+    Ok(rows_of(&moves, normal, value, side, labeller, adversary))
+}
+
+/// The document over `normal` places of the board of `moves`, whose start has the value `value`,
+/// for `side` alone or for both, with the rows of each side that it has.
+pub(crate) fn rows_of<M: Moves>(
+    moves: &M,
+    normal: &Normal,
+    value: Value,
+    side: Option<Side>,
+    labeller: Vec<LabellerClassRow>,
+    adversary: Vec<AdversaryClassRow>,
+) -> MadeDocument
+    requires normal { IsNormalBy (M.board moves.now) normal.now }
+    requires start { IsConfiguration (M.board moves.now) (M.board moves.now).start }
+    requires value { HasValue (M.board moves.now) (M.board moves.now).start value }
+    requires strategy { HasStrategy side value }
+    requires labeller { AreClassRowsIf (asks_labeller_by (claim_by side (claim_of value)))
+        (M.board moves.now) (class_labeller_side (M.board moves.now) (normal_by
+        (M.board moves.now) normal.now) value) labeller.items }
+    requires adversary { AreClassRowsIf (asks_adversary_by (claim_by side (claim_of value)))
+        (M.board moves.now) (class_adversary_side (M.board moves.now) (normal_by
+        (M.board moves.now) normal.now) value) adversary.items }
+    ensures value { result.value ≡ value }
+    ensures document { IsDocumentOverFor side (M.board moves.now) (normal_by
+        (M.board moves.now) normal.now) (plain_class_proof (M.board moves.now) result.proof) }
+    ensures padded { AreClassPadded (M.board moves.now) result.proof }
+{
+    let proof = ClassProof {
+        claim: claim_for(side, value),
+        labeller,
+        adversary,
+    };
+    MadeDocument { value, proof }
+}
