@@ -452,7 +452,7 @@ def of_words(work):
             (['solve', '--workers', '2', '--workers', '3', CHAIN], '`--workers` is given once, with a number from 1 to 16'),
             (['check', '--workers', '2', CHAIN, CHAIN], 'only `solve`, `report`, `starts` and `chains` have `--workers`'),
             (['solve', '--most', '3', CHAIN], 'only `chains` has `--most`'), (['starts', '--most', '3', CHAIN], 'only `chains` has `--most`'), (['report', '--most=3', CHAIN], 'only `chains` has `--most`'),
-            (['report', '--side', 'labeller', CHAIN], 'only `play` has `--side`'), (['climb', '--side=adversary', '3'], 'only `play` has `--side`'),
+            (['report', '--side', 'labeller', CHAIN], 'only `solve` and `play` have `--side`'), (['climb', '--side=adversary', '3'], 'only `solve` and `play` have `--side`'),
             (['climb', '--large', '3'], large), (['check', CHAIN, CHAIN, '--large'], large), (['solve', '--large', '--large', CHAIN], general),
             (['play', '--large', CHAIN], general), (['play', '--side', 'both', CHAIN], general), (['nested', '7', '3'], general), (['climb', '25'], general), (['help', 'solv'], general)]
     for words, says in told:

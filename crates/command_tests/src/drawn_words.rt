@@ -152,11 +152,8 @@ fn read(words: &[&str], form: Form) -> Result<(), Other> {
         [word, rest @ ..] if takes_side && is_both("--side", word) => {
             read(rest, form.without_side())
         }
-        [word, value, rest @ ..]
-            if takes_side && *word == "--side" && is_value("--side", value) =>
-        {
-            read(rest, form.without_side())
-        }
+        [word, value, rest @ ..] if takes_side && *word == "--side" && is_value("--side", value) =>
+            { read(rest, form.without_side()) }
         _ => Err(Other::Wrong),
     }
 }

@@ -45,14 +45,14 @@ pub(crate) fn usage_hint(words: &[&str]) -> &'static str {
         if is_for_a_length(word) && words[1] != "chains" {
             return "only `chains` has `--most`; ";
         }
-        if is_for_a_side(word) && words[1] != "play" {
-            return "only `play` has `--side`; ";
+        if is_for_a_side(word) && words[1] != "solve" && words[1] != "play" {
+            return "only `solve` and `play` have `--side`; ";
         }
         if is_unknown_option(word) {
             return "the only options are `--workers` of `solve`, `report`, `starts` and `chains`, \
-                `--most` of `chains`, `--side` of `play`, `--large` of `solve`, `report`, `starts` \
-                and `play`, `--explain`, `--help` and `--version`; a path that begins with `-` \
-                comes after `--`; ";
+                `--most` of `chains`, `--side` of `solve` and `play`, `--large` of `solve`, \
+                `report`, `starts` and `play`, `--explain`, `--help` and `--version`; a path that \
+                begins with `-` comes after `--`; ";
         }
     }
     ""

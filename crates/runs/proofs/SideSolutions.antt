@@ -174,13 +174,17 @@ module _ (limit : BoardLimit) (side : Side) (text : List ℕ) where
   solved_with : (board : PlainBoard) (value : Value) (written : List ℕ) → IsBoardWithin limit text board
       → HasValue board board.start value → HasStrategy (Some side) value → IsTextFor limit side board written
       → IsEither
-  solved_with board value written within has strategy is = inl (value, written, record {
-    board = board;
-    within = within;
-    has_value = has;
-    strategy = strategy;
-    written_is = is;
-  })
+  solved_with board value written within has strategy is = inl (
+    value,
+    written,
+    record {
+      board = board;
+      within = within;
+      has_value = has;
+      strategy = strategy;
+      written_is = is;
+    },
+  )
 
   solved_or_long : (board : PlainBoard) (value : Value) → IsBoardWithin limit text board
       → HasValue board board.start value → HasStrategy (Some side) value → IsEither
@@ -196,12 +200,22 @@ module _ (limit : BoardLimit) (side : Side) (text : List ℕ) where
           let document = class_document_exists board within.is_board.start in
           let written : List ℕ = class_text board (document_for (Some side) document.0) in
           elim (cases_lt MAX_PROOF_BYTES (length written)) [
-            | inl long ↦ inr (DocumentTooLarge, (same, (board, within, record {
-              value = value;
-              has_value = has;
-              strategy = strategy;
-              long = (document.0, document.1, long);
-            })))
+            | inl long ↦ inr (
+              DocumentTooLarge,
+              (
+                same,
+                (
+                  board,
+                  within,
+                  record {
+                    value = value;
+                    has_value = has;
+                    strategy = strategy;
+                    long = (document.0, document.1, long);
+                  },
+                ),
+              ),
+            )
             | inr short ↦ solved_with board value written within has strategy
                 (subst (λ l. IsTextFor l side board written) (sym same)
                 ((document_for (Some side) document.0, (document.0, document.1, refl), refl), omega (arith, short)))
@@ -213,8 +227,17 @@ module _ (limit : BoardLimit) (side : Side) (text : List ℕ) where
         let value = some_value board board.start within.is_board.start in
         elim (strategy_or_not side value.0) [
           | inl strategy ↦ solved_or_long board value.0 within value.1 strategy
-          | inr (adversary, lasts) ↦ inr (LastsForever, (adversary, (board, within,
-              subst (λ v. HasValue board board.start v) lasts value.1)))
+          | inr (adversary, lasts) ↦ inr (
+            LastsForever,
+            (
+              adversary,
+              (
+                board,
+                within,
+                subst (λ v. HasValue board board.start v) lasts value.1,
+              ),
+            ),
+          )
         ]
     | inr wrong ↦ inr (wrong.0, wrong_unsolved wrong.0 wrong.1)
   ]

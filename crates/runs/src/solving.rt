@@ -157,7 +157,13 @@ pub(crate) fn solve_text(
         return solution_for(rt, alloc, &GapMoves::new(&board, &gaps), side, 1);
     }
     let values = numbered_by(rt, alloc, workers, &board)?;
-    solution_for(rt, alloc, &NumberedMoves::new(&board, &values), side, workers)
+    solution_for(
+        rt,
+        alloc,
+        &NumberedMoves::new(&board, &values),
+        side,
+        workers,
+    )
 }
 
 /// The value of the start of the board of `moves`, and the text of the board's document.

@@ -30,11 +30,11 @@ use command_line::{BoardLimit, Job, MAX_WORKERS};
 use console::{Console, Terminals, write_digits, write_line, write_more};
 use explanations::{Inputs, Note, Origin};
 use nested_cycles::{MAX_BOARD_LEVELS, MAX_LEVELS};
+use positions::Side;
 use runs::{
     Chaining, JoinedRun, MAX_BOARD_BYTES, Playing, RunFault, Verdict, Work, run_check, run_climb,
     run_keeping_text, run_nested,
 };
-use positions::Side;
 use std::alloc::Global;
 use std::sync::Wait;
 use std::thread::Threads;

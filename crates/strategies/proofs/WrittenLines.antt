@@ -169,6 +169,7 @@ module _ (board : PlainBoard) (is_start : IsConfiguration board board.start) (si
     where
       claims : (document_for side document).claim ≡ claim
       claims = claim_is side document ∙ ap (claim_for side) (is_document.claim ∙ ap claim_of same)
+
       labellers_are : (are : AreSectionLines board (labeller_side board value) (labeller_line board) labeller)
           → asks_labeller claim ≡ true → (document_for side document).labeller ≡ map (answer_row board) are.rows
       labellers_are are asked = labeller_is side value document strategy asked
@@ -176,6 +177,7 @@ module _ (board : PlainBoard) (is_start : IsConfiguration board board.start) (si
           (map (answer_row board) are.rows)
           (subst (λ (v : Value). AreExactly board (IsLabellerRow board v) (λ (row : AnswerRow). row.at)
           document.labeller) same is_document.labeller) are.are_rows.exactly
+
       adversarys_are : (are : AreSectionLines board (adversary_side board value) (adversary_line board) adversary)
           → asks_adversary claim ≡ true → (document_for side document).adversary ≡ map (request_row board) are.rows
       adversarys_are are asked = adversary_is side value document strategy asked
