@@ -8,7 +8,8 @@ use board_text::{Board, Memory};
 use positions::{MAX_CONFIGURATIONS, Space};
 use proof_check::{CheckFault, Shown, check};
 use proof_text::{
-    Proof, ProofFault, ProofKind, SymmetryProof, parse, parse_symmetric, print, print_symmetric,
+    Images, Proof, ProofFault, ProofKind, SymmetryProof, parse, parse_symmetric, parse_symmetries,
+    print, print_symmetric,
 };
 use std::alloc::Global;
 use std::thread::Threads;
@@ -53,6 +54,23 @@ pub fn read_symmetric_document(
                 kind: ProofKind::Memory,
             },
         ) => parse_symmetric(alloc, board, bytes),
+        answer => answer,
+    }
+}
+
+/// The answer of `parse_symmetries`, which is asked once more if it was refused memory.
+pub fn read_symmetries(
+    alloc: Global,
+    board: &Board,
+    bytes: &[u8],
+) -> Result<Vec<Images>, ProofFault> {
+    match parse_symmetries(alloc, board, bytes) {
+        Err(
+            ProofFault {
+                line: 0,
+                kind: ProofKind::Memory,
+            },
+        ) => parse_symmetries(alloc, board, bytes),
         answer => answer,
     }
 }

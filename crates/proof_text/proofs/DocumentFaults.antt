@@ -1,6 +1,6 @@
 -- From the parts of a text to its fault.
 use Rattle.std.proofs.Common.{◌≡◌, ◌⊎◌, ℕ, ◌+◌, Bool, cond, true, List, [], ◌∷◌, ◌++◌, refl, sym, subst}
-use Rattle.std.proofs.Common.{append_assoc, inl, inr}
+use Rattle.std.proofs.Common.{append_assoc, ap, ◌∙◌, inl, inr}
 use Rattle.board_text.specs.BoardText.{end_line}
 use Rattle.positions.specs.declared.claim.Claim.{Claim}
 use Rattle.proof_text.specs.declared.fault.ProofKind.{ProofKind}
@@ -14,7 +14,7 @@ use Rattle.proof_text.specs.ProofText.{claim_words, claim_line, first_two_lines}
 use Rattle.proof_text.specs.RowForm.{text_of_section, lines_of_section}
 use Rattle.proof_text.specs.SectionFaults.{InSection}
 use Rattle.proof_text.specs.Versions.{Version, head_of}
-use Rattle.proof_text.specs.Inside.Rows.{PartRead, AreKindsOfRows, HeadFault, IsHeadRead}
+use Rattle.proof_text.specs.Inside.Rows.{PartRead, AreKindsOfRows, EndFault, HeadFault, IsHeadRead}
 
 -- the number of lines of a section
 pub lines_are : {asked wanted : Bool} {count rows lines : ℕ} → asked ≡ wanted → count ≡ rows
@@ -130,21 +130,27 @@ module _ {X Y : Type 0} (reading : Reading X Y) where
   }
 
   module _ {proof : Sections X Y} {text a : List ℕ} (read : FrontRead proof text a) where
-    pub whole_text : {b : List ℕ} → a ≡ end_line ++ b → b ≡ [] → text ≡ text_of version proof
-    whole_text taken none = rw (read.spelled, taken, none) refl
+    pub whole_text : a ≡ end_line → text ≡ text_of version proof
+    whole_text taken = rw (read.spelled, taken) refl
 
-    pub has_trailing : (b : List ℕ) (line : ℕ) → a ≡ end_line ++ b → (b ≡ [] → ⊥)
-        → line ≡ 1 + end_number version proof
-        → HasFaultOf reading text line kinds.Trailing
-    has_trailing [] line taken some n = absurd (some refl)
-    has_trailing (first ∷ more) line taken some n = (
+    pub has_end_fault : (last line : ℕ) (kind : ProofKind) → EndFault last a line kind → last ≡ end_number version proof
+        → HasFaultOf reading text line kind
+    has_end_fault last line kinds.End (e, lacks) n = (proof, a, read.is_proof, read.spelled, e ∙ n, lacks)
+    has_end_fault last line kinds.Trailing (e, first, more, taken) n = (
       proof,
       first,
       more,
       read.is_proof,
       rw (read.spelled, taken) (sym (append_assoc (text_before_end version proof) end_line (first ∷ more))),
-      n,
+      e ∙ ap (λ (number : ℕ). 1 + number) n,
     )
+    has_end_fault last line kind h n = absurd h
+
+-- bytes follow the last line
+pub bytes_follow : (last number : ℕ) (text b : List ℕ) → text ≡ end_line ++ b → (b ≡ [] → ⊥) → number ≡ 1 + last
+    → EndFault last text number kinds.Trailing
+bytes_follow last number text [] taken some n = absurd (some refl)
+bytes_follow last number text (first ∷ more) taken some n = (n, first, more, taken)
 
 -- a text that is written part by part: its first two lines, and then the sections
 pub first_printed : (line : List ℕ) (claim : Claim) (t0 t1 t2 t3 : List ℕ) → t0 ≡ [] → t1 ≡ t0 ++ line

@@ -23,6 +23,7 @@ pub mod OneSection
 pub mod OneDocument
 pub mod RankedRows
 pub mod ReadDocuments
+pub mod ReadMaps
 pub mod ReadSymmetric
 pub mod GatheredWords
 pub mod Cited

@@ -1,6 +1,6 @@
 -- A text is the text of one document at most, or has one fault.
 use Rattle.std.proofs.Common.{◌≡◌, ◌≢◌, ◌⊎◌, ℕ, ◌+◌, List, [], ◌∷◌, ◌++◌, get_or, Result, Ok, Err, refl, sym, ap, ◌∙◌}
-use Rattle.std.proofs.Common.{append-nil, append_assoc, arith, inl, inr}
+use Rattle.std.proofs.Common.{length, append-nil, append_assoc, arith, inl, inr}
 use Rattle.std.specs.Prelude.{codes}
 use Rattle.std.proofs.lemmas.List.{append_cancel_left}
 use Rattle.board_text.specs.PlainBoard.{PlainBoard, IsBoard}
@@ -15,11 +15,12 @@ use Rattle.proof_text.specs.Documents.{AreMaps, IsDocumentIn, IsProof, IsClassPr
 use Rattle.proof_text.specs.Documents.{text_of}
 use Rattle.proof_text.specs.Proof.{Sections, PlainProof, IsClaim}
 use Rattle.proof_text.specs.ProofFaults.{AdversaryFault, HasFaultOf, HasProofFault, HasClassTextFault, LabellerFault}
-use Rattle.proof_text.specs.ProofFaults.{HasSymmetryTextFault}
+use Rattle.proof_text.specs.ProofFaults.{HasSymmetryTextFault, HasSymmetriesFault}
 use Rattle.proof_text.specs.ProofFaults.{Reading, answers_read, requests_read, read_by_configurations, read_by_classes}
 use Rattle.proof_text.specs.ProofFaults.{end_number, maps_read, read_by_symmetries}
 use Rattle.proof_text.specs.ProofText.{claim_line, first_two_lines, proof_text, class_text, symmetry_text}
-use Rattle.proof_text.specs.ProofText.{maps_text, proof_version_line, class_version_line, symmetry_version_line}
+use Rattle.proof_text.specs.ProofText.{maps_text, symmetries_text, proof_version_line, class_version_line}
+use Rattle.proof_text.specs.ProofText.{symmetry_version_line}
 use Rattle.proof_text.specs.RowForm.{text_of_section, lines_of_section}
 use Rattle.proof_text.specs.SymmetryProof.{PlainSymmetryProof}
 use Rattle.proof_text.specs.Versions.{Version, with_head}
@@ -132,6 +133,28 @@ module _ {D : Type 0} (line : List ℕ) (After : Claim → List ℕ → Result D
         inr (claim, rest, (is, refl), after),
       )
 
+-- ---- the line `end`
+
+-- what is found of a text whose last line has this number
+module _ {D : Type 0} (last : ℕ) (whole : D) where
+  abbrev Behind : List ℕ → Result D ProofFault → Type 0
+  Behind [] found = found ≡ Ok whole
+  Behind (first ∷ more) found = found ≡ Err (fault_at (1 + last) kinds.Trailing)
+
+  abbrev AtEnd : List ℕ → Result D ProofFault → Type 0
+  AtEnd text found =
+      Line NoCondition (λ u. end_line) text (Err (fault_at last kinds.End)) (λ u more. Behind more) found
+
+  one_behind : (text : List ℕ) (v w : Result D ProofFault) → Behind text v → Behind text w → v ≡ w
+  one_behind [] v w e f = e ∙ sym f
+  one_behind (first ∷ more) v w e f = e ∙ sym f
+
+  one_at_end : (text : List ℕ) (v w : Result D ProofFault) → AtEnd text v → AtEnd text w → v ≡ w
+  one_at_end text =
+      one_line NoCondition (λ u. end_line) text (Err (fault_at last kinds.End)) (λ u more. Behind more)
+      (one_constant end_line)
+      (λ u more yes. one_behind more)
+
 -- ---- the sections
 
 -- each row is read in one way
@@ -150,14 +173,8 @@ module _ {X Y : Type 0} (reading : Reading X Y) {D : Type 0} (whole : Sections X
   abbrev fault : ℕ → ProofKind → Finding
   fault line kind = Err (fault_at line kind)
 
-  abbrev Behind : Sections X Y → List ℕ → Finding → Type 0
-  Behind proof [] found = found ≡ Ok (whole proof)
-  Behind proof (first ∷ more) found = found ≡ fault (1 + end_number version proof) kinds.Trailing
-
   abbrev AfterFront : Sections X Y → List ℕ → Finding → Type 0
-  AfterFront proof text found =
-      Line NoCondition (λ u. end_line) text (fault (end_number version proof) kinds.End)
-      (λ u more. Behind proof more) found
+  AfterFront proof = AtEnd (end_number version proof) (whole proof)
 
   abbrev AfterLabeller : Claim → List X → List ℕ → Finding → Type 0
   AfterLabeller claim labeller text found =
@@ -170,26 +187,13 @@ module _ {X Y : Type 0} (reading : Reading X Y) {D : Type 0} (whole : Sections X
   AfterHead claim text found =
       Part (answers_read reading claim) fault text version.head.next (AfterLabeller claim) found
 
-  one_behind : (proof : Sections X Y) (text : List ℕ) (v w : Finding) → Behind proof text v → Behind proof text w
-      → v ≡ w
-  one_behind proof [] v w e f = e ∙ sym f
-  one_behind proof (first ∷ more) v w e f = e ∙ sym f
-
-  one_after_front : (proof : Sections X Y) (text : List ℕ) (v w : Finding) → AfterFront proof text v
-      → AfterFront proof text w → v ≡ w
-  one_after_front proof text =
-      one_line NoCondition (λ u. end_line) text (fault (end_number version proof) kinds.End)
-      (λ u more. Behind proof more)
-      (one_constant end_line)
-      (λ u more yes. one_behind proof more)
-
   one_after_head : ReadingLaws reading → (claim : Claim) (text : List ℕ) (v w : Finding) → AfterHead claim text v
       → AfterHead claim text w → v ≡ w
   one_after_head laws claim text =
       one_part (answers_read reading claim) (laws.answers claim) text version.head.next fault (AfterLabeller claim)
       (λ labeller rest. one_part (requests_read reading claim) (laws.requests claim) rest
       (version.head.next + lines_of_section (version.answers claim) labeller)
-      fault _ (λ adversary more. one_after_front _ more))
+      fault _ (λ adversary more. one_at_end _ _ more))
 
   -- what is found of a text with this head
   record FoundAfter (text : List ℕ) (found : Finding) : Type 0 where
@@ -408,3 +412,55 @@ pub no_symmetry_text_fault : (board : PlainBoard) (text : List ℕ) (line : ℕ)
     → IsBoard board → IsSymmetryProof board b
     → text ≡ symmetry_text board b → HasSymmetryTextFault board text line kind → kind ≡ kinds.Memory
 no_symmetry_text_fault board text line kind b is = no_fault_of (found_by_symmetries board is) text line kind b
+
+-- ---- symmetries by themselves
+
+module _ (board : PlainBoard) (is : IsBoard board) where
+  abbrev MapsAlone : List ℕ → Result (List (List ℕ)) ProofFault → Type 0
+  MapsAlone text found =
+      Part (maps_read board) (λ line kind. Err (fault_at line kind)) text 1 (λ maps. AtEnd (2 + length maps) maps) found
+
+  -- what is found after these maps
+  after_maps : (maps : List (List ℕ)) (text rest : List ℕ) (found : Result (List (List ℕ)) ProofFault)
+      → AreMaps board.labels maps → text ≡ maps_text board.labels maps ++ rest → AtEnd (2 + length maps) maps rest found
+      → MapsAlone text found
+  after_maps maps text rest found are e after =
+      inr (maps, rest, (map_rows board maps are, λ not. absurd cc, e), after)
+
+  maps_fault_found : (text : List ℕ) (line : ℕ) (kind : ProofKind) → kind ≢ kinds.Memory
+      → HasSymmetriesFault board text line kind → MapsAlone text (Err (fault_at line kind))
+  maps_fault_found text line kinds.End not (maps, rest, are, stands, e, lacks) =
+      after_maps maps text rest _ are stands (inl (lacks, ap (λ (n : ℕ). Err (fault_at n kinds.End)) e))
+  maps_fault_found text line kinds.Trailing not (maps, first, more, are, stands, e) =
+      let after : line ≡ 1 + (2 + length maps) = omega (arith, e) in
+      after_maps maps text (end_line ++ first ∷ more) _ are
+      (stands ∙ append_assoc (maps_text board.labels maps) end_line (first ∷ more))
+      (inr (tt, first ∷ more, (tt, refl), ap (λ (n : ℕ). Err (fault_at n kinds.Trailing)) after))
+  maps_fault_found text line kind not h = inl (refl, line, kind, not, h, refl)
+
+  found_symmetries : Findings MapsAlone (AreMaps board.labels) (symmetries_text board.labels) (HasSymmetriesFault board)
+  found_symmetries = record {
+    one = λ text. one_part (maps_read board) (map_laws board is) text 1 _ (λ maps. AtEnd (2 + length maps) maps)
+        (λ maps. one_at_end (2 + length maps) maps);
+    document = λ text maps are e.
+        after_maps maps text end_line (Ok maps) are e (inr (tt, [], (tt, sym (append-nil end_line)), refl));
+    fault = maps_fault_found;
+  }
+
+pub one_symmetries : (board : PlainBoard) (a b : List (List ℕ)) → IsBoard board → AreMaps board.labels a
+    → AreMaps board.labels b
+    → symmetries_text board.labels a ≡ symmetries_text board.labels b → a ≡ b
+one_symmetries board a b is = one_text (found_symmetries board is) a b
+
+pub one_symmetries_fault : (board : PlainBoard) (text : List ℕ) (line other_line : ℕ) (kind other : ProofKind)
+    → IsBoard board
+    → kind ≢ kinds.Memory → other ≢ kinds.Memory → HasSymmetriesFault board text line kind
+    → HasSymmetriesFault board text other_line other
+    → (line ≡ other_line) × (kind ≡ other)
+one_symmetries_fault board text line other_line kind other is =
+    one_fault_of (found_symmetries board is) text line other_line kind other
+
+pub no_symmetries_fault : (board : PlainBoard) (text : List ℕ) (line : ℕ) (kind : ProofKind) (b : List (List ℕ))
+    → IsBoard board → AreMaps board.labels b
+    → text ≡ symmetries_text board.labels b → HasSymmetriesFault board text line kind → kind ≡ kinds.Memory
+no_symmetries_fault board text line kind b is = no_fault_of (found_symmetries board is) text line kind b

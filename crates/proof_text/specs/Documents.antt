@@ -4,6 +4,7 @@ use Rattle.board_text.specs.BoardText.{end_line}
 use Rattle.board_text.specs.PlainBoard.{PlainBoard}
 use Rattle.proof_text.specs.declared.proof.Proof.{Proof}
 use Rattle.proof_text.specs.declared.class_proof.ClassProof.{ClassProof}
+use Rattle.proof_text.specs.declared.symmetry_proof.Images.{Images}
 use Rattle.proof_text.specs.declared.symmetry_proof.SymmetryProof.{SymmetryProof}
 use Rattle.proof_text.specs.declared.symmetry_proof.TheConstants.{MAX_MAPS}
 use Rattle.proof_text.specs.ClassProof.{IsClassPadded, plain_class_proof}
@@ -59,6 +60,12 @@ pub record IsSymmetryDocument (board : PlainBoard) (proof : SymmetryProof) : Typ
   pub kept : All (KeepsLabels board.labels) proof.maps.items
   pub held : All (HoldsImages board.labels) proof.maps.items
   pub rows : IsClassDocument board proof.rows
+
+-- maps of labels, not too many, as they are held
+pub record AreHeldMaps (labels : ℕ) (elements : List Images) : Type 0 where
+  pub few : length elements ≤ MAX_MAPS
+  pub kept : All (KeepsLabels labels) elements
+  pub held : All (HoldsImages labels) elements
 
 -- the text of a document of the version up to its last row
 abbrev pub text_before_end : {X Y : Type 0} → Version X Y → Sections X Y → List ℕ

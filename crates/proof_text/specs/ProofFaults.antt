@@ -1,5 +1,5 @@
 -- The faults of a document's text, in the order of the format.
-use Rattle.std.specs.Prelude.{◌≡◌, ℕ, ◌+◌, ◌⊎◌, true, false, List, [], ◌∷◌, ◌++◌}
+use Rattle.std.specs.Prelude.{◌≡◌, ℕ, ◌+◌, ◌⊎◌, true, false, List, [], ◌∷◌, ◌++◌, length}
 use Rattle.board_text.specs.BoardText.{end_line}
 use Rattle.board_text.specs.LineForms.{Lacks}
 use Rattle.board_text.specs.PlainBoard.{PlainBoard}
@@ -10,6 +10,7 @@ use Rattle.proof_text.specs.declared.fault.ProofKind.TheVariants as kinds
 use Rattle.proof_text.specs.Documents.{AreMaps, IsDocumentIn, text_before_end, text_of}
 use Rattle.proof_text.specs.Proof.{Sections, IsClaim}
 use Rattle.proof_text.specs.ProofText.{claim_line, first_two_lines, symmetry_version_line}
+use Rattle.proof_text.specs.ProofText.{maps_text, symmetries_text}
 use Rattle.proof_text.specs.RowFaults.{AnswerMisread, RequestMisread, ClassRequestMisread}
 use Rattle.proof_text.specs.RowFaults.{MapMisread}
 use Rattle.proof_text.specs.RowForm.{AreRows, text_of_section, lines_of_section}
@@ -135,3 +136,16 @@ abbrev pub HasSymmetryTextFault : PlainBoard → List ℕ → ℕ → ProofKind 
 HasSymmetryTextFault board text line kind = MapsFault board text line kind
     ⊎ ((maps : List (List ℕ)) × AreMaps board.labels maps
     × HasFaultOf (read_by_symmetries board maps) text line kind)
+
+-- the fault of a text of symmetries by themselves, which stand from line 1 on
+abbrev pub HasSymmetriesFault : PlainBoard → List ℕ → ℕ → ProofKind → Type 0
+HasSymmetriesFault board text line kinds.End =
+    (maps : List (List ℕ)) × (rest : List ℕ) × AreMaps board.labels maps
+    × (text ≡ maps_text board.labels maps ++ rest)
+    × (line ≡ 2 + length maps)
+    × Lacks (λ (u : Unit {0}). Unit {0}) (λ u. end_line) rest
+HasSymmetriesFault board text line kinds.Trailing =
+    (maps : List (List ℕ)) × (first : ℕ) × (more : List ℕ) × AreMaps board.labels maps
+    × (text ≡ symmetries_text board.labels maps ++ first ∷ more)
+    × (line ≡ 3 + length maps)
+HasSymmetriesFault board text line kind = InSection (maps_read board) text 1 line kind

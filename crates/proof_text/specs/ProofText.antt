@@ -1,4 +1,5 @@
--- The text of a strategy document, by configurations, by classes or up to symmetries.
+-- The text of a strategy document, by configurations, by classes or up to symmetries, and of
+-- symmetries by themselves.
 use Rattle.std.specs.Prelude.{ℕ, Bool, if◌then◌else◌, List, [], ◌∷◌, ◌++◌, length, codes}
 use Rattle.std.specs.List.{flat_map}
 use Rattle.std.specs.Fmt.{decimal}
@@ -99,6 +100,10 @@ class_text board proof =
 abbrev pub maps_text : ℕ → List (List ℕ) → List ℕ
 maps_text labels maps =
     number_line (codes "symmetries") (length maps) ++ flat_map (map_line labels) maps
+
+-- the text of symmetries by themselves: the same, and a last line
+abbrev pub symmetries_text : ℕ → List (List ℕ) → List ℕ
+symmetries_text labels maps = maps_text labels maps ++ end_line
 
 -- the text of a document up to symmetries of the board's domain
 abbrev pub symmetry_text : PlainBoard → PlainSymmetryProof → List ℕ

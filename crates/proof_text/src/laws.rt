@@ -3,11 +3,12 @@
 ghost use Rattle.std.specs.Prelude.{◌≡◌, ◌≢◌, ℕ, ◌<◌, List, slice_index};
 ghost use Rattle.board_text.specs.PlainBoard.{PlainBoard, IsBoard};
 ghost use Rattle.positions.specs.Ranks.{configurations};
-ghost use Rattle.proof_text.specs.Documents.{IsProof, IsClassProof, IsSymmetryProof};
+ghost use Rattle.proof_text.specs.Documents.{IsProof, IsClassProof, IsSymmetryProof, AreMaps};
 ghost use Rattle.proof_text.specs.Proof.{PlainProof, IsPadded, answer_row, request_row};
 ghost use Rattle.proof_text.specs.ProofFaults.{HasProofFault, HasClassTextFault};
-ghost use Rattle.proof_text.specs.ProofFaults.{HasSymmetryTextFault};
+ghost use Rattle.proof_text.specs.ProofFaults.{HasSymmetryTextFault, HasSymmetriesFault};
 ghost use Rattle.proof_text.specs.ProofText.{proof_text, class_text, symmetry_text};
+ghost use Rattle.proof_text.specs.ProofText.{symmetries_text};
 ghost use Rattle.proof_text.specs.SymmetryProof.{PlainSymmetryProof};
 ghost use Rattle.proof_text.specs.declared.fault.ProofKind.{ProofKind as Kind};
 ghost use Rattle.proof_text.specs.declared.fault.ProofKind.TheVariants.{Memory as OutOfMemory};
@@ -97,6 +98,25 @@ pub fn one_symmetry_text_fault()
         → kind ≢ OutOfMemory → other_kind ≢ OutOfMemory
         → HasSymmetryTextFault board text line kind
         → HasSymmetryTextFault board text other_line other_kind
+        → (line ≡ other_line) × (kind ≡ other_kind) }
+{}
+
+/// No line of the text of symmetries by themselves has a fault but out of memory.
+pub fn symmetries_have_no_fault()
+    ensures { (board : PlainBoard) → (maps : List (List ℕ)) → (line : ℕ) → (kind : Kind)
+        → IsBoard board → AreMaps board.labels maps
+        → HasSymmetriesFault board (symmetries_text board.labels maps) line kind
+        → kind ≡ OutOfMemory }
+{}
+
+/// For one board a text of symmetries by themselves has one fault at most, apart from out of
+/// memory.
+pub fn one_symmetries_fault()
+    ensures { (board : PlainBoard) → (text : List ℕ) → (line : ℕ) → (other_line : ℕ) → (kind : Kind)
+        → (other_kind : Kind) → IsBoard board
+        → kind ≢ OutOfMemory → other_kind ≢ OutOfMemory
+        → HasSymmetriesFault board text line kind
+        → HasSymmetriesFault board text other_line other_kind
         → (line ≡ other_line) × (kind ≡ other_kind) }
 {}
 

@@ -1,5 +1,5 @@
 //! Strategy documents: a claim on a board's value, with the strategies that should show it, and
-//! their text.
+//! their text; and the text of symmetries by themselves.
 #![tactic(auto)]
 
 mod claims;
@@ -19,6 +19,7 @@ mod row_text;
 mod row_words;
 mod rows;
 mod sections;
+mod symmetries_text;
 mod symmetry_proof;
 
 pub use claims::write_claim;
@@ -26,8 +27,9 @@ pub use class_proof::{AdversaryClassRow, ClassProof, ClassRow, LabellerClassRow,
 pub use fault::{ProofFault, ProofKind};
 pub use laws::{
     class_documents_have_no_fault, documents_have_no_fault, limits, one_class_document,
-    one_class_text_fault, one_document, one_fault, one_row_of_a_rank, one_symmetry_document,
-    one_symmetry_text_fault, symmetry_documents_have_no_fault,
+    one_class_text_fault, one_document, one_fault, one_row_of_a_rank, one_symmetries_fault,
+    one_symmetry_document, one_symmetry_text_fault, symmetries_have_no_fault,
+    symmetry_documents_have_no_fault,
 };
 pub use numbers::{arranged_order, class_order, places_at, places_order};
 pub use parsing::{parse, parse_classes, parse_symmetric};
@@ -37,4 +39,5 @@ pub use printing::{
 };
 pub use proof::{AdversaryRow, LabellerRow, MOST_TURNS, Proof, Ranked};
 pub use row_text::{PlaceWords, RowText};
+pub use symmetries_text::parse_symmetries;
 pub use symmetry_proof::{Images, MAX_MAPS, SymmetryProof};

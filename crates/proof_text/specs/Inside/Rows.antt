@@ -1,5 +1,7 @@
 -- The rows of the code: which rows they show, and the results of writing and of reading them.
-use Rattle.std.specs.Prelude.{◌≡◌, ℕ, ◌≤◌, ◌^◌, ◌⊎◌, List, [], ◌++◌, false, Result, Ok, Err}
+use Rattle.std.specs.Prelude.{◌≡◌, ℕ, ◌+◌, ◌≤◌, ◌^◌, ◌⊎◌, List, [], ◌∷◌, ◌++◌, false, Err, Ok}
+use Rattle.std.specs.Prelude.{Result}
+use Rattle.board_text.specs.BoardText.{end_line}
 use Rattle.board_text.specs.LineForms.{Lacks}
 use Rattle.board_text.specs.PlainBoard.{PlainBoard}
 use Rattle.positions.specs.declared.claim.Claim.{Claim}
@@ -151,6 +153,14 @@ HeadFault line text number kinds.Version =
 HeadFault line text number kinds.Claim =
     (number ≡ 2) × (rest : List ℕ) × (text ≡ line ++ rest) × Lacks IsClaim claim_line rest
 HeadFault line text number kind = ⊥
+
+-- The line `end`, whose number is `last`, isn't here, or bytes follow it.
+abbrev pub EndFault : ℕ → List ℕ → ℕ → ProofKind → Type 0
+EndFault last text number kinds.End =
+    (number ≡ last) × Lacks (λ (u : Unit {0}). Unit {0}) (λ u. end_line) text
+EndFault last text number kinds.Trailing =
+    (number ≡ 1 + last) × (first : ℕ) × (more : List ℕ) × (text ≡ end_line ++ first ∷ more)
+EndFault last text number kind = ⊥
 
 -- the claim and the rows that were read
 abbrev pub sections_of : {R S : Type 0} → Parts R S → Sections R S
