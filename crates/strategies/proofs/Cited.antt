@@ -16,3 +16,5 @@ pub use Rattle.strategies.proofs.KeptClassRules.{breaks_no_class_rule}
 pub use Rattle.strategies.proofs.LongTexts.{short_text_fits}
 pub use Rattle.strategies.proofs.OneClassList.{one_class_document}
 pub use Rattle.strategies.proofs.ShownClassClaims.{claims_shown}
+pub use Rattle.strategies.proofs.SymmetricDocuments.{breaks_no_rule_up_to, has_symmetry_form, one_symmetry_document}
+pub use Rattle.strategies.proofs.SymmetricDocuments.{short_symmetry_text_fits, symmetry_document_exists}

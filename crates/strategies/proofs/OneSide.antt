@@ -15,20 +15,25 @@ use Rattle.positions.specs.declared.turns.Turns.TheVariants.{Count, Always}
 use Rattle.positions.specs.declared.value.Value.{Value}
 use Rattle.positions.specs.declared.value.Value.TheVariants.{Finite}
 use Rattle.positions.specs.declared.value.Value.TheVariants as values
-use Rattle.proof_text.specs.Documents.{IsClassProof, IsProof}
+use Rattle.proof_check.specs.SymmetryFaults.{BreaksNoRuleUpTo, HasLeastRows}
+use Rattle.proof_text.specs.Documents.{AreMaps, IsClassProof, IsProof, IsSymmetryProof}
 use Rattle.proof_text.specs.Arranged.{arranged, order_number}
 use Rattle.proof_text.specs.Positions.{Positions, normal_positions}
 use Rattle.proof_text.specs.Proof.{AreTurns, IsAnswerRow, IsClaim, PlainProof, asks_adversary, asks_labeller}
 use Rattle.proof_text.specs.RowForm.{AreRows, RowForm}
 use Rattle.proof_text.specs.Rules.{BreaksNoRule, Serves, StartIsBelow, wanted_of}
+use Rattle.proof_text.specs.SymmetryProof.{PlainSymmetryProof}
 use Rattle.proof_text.specs.Versions.{answers_by_classes, by_configurations, requests_by_classes}
+use Rattle.symmetries.specs.SymmetryRules.{alike_positions}
+use Rattle.symmetries.specs.Symmetries.{IsSymmetry, least_alike}
 use Rattle.strategies.specs.ClassDocument.{FitsFormat, IsClassDocumentOf}
 use Rattle.strategies.specs.Document.{AsksAdversary}
 use Rattle.strategies.specs.Inside.NormalForm.{IsNormalForm}
 use Rattle.strategies.specs.PositionDocument.{IsDocumentOver}
 use Rattle.strategies.specs.Sides.{HasStrategy, claim_for, document_for, part_of}
+use Rattle.strategies.specs.SymmetricDocument.{IsSymmetryDocumentOf, symmetric_document_for}
 use Rattle.strategies.proofs.ClassDocumentForm.{adversary_form, claim_form, has_form, labeller_asked, labeller_form}
-use Rattle.strategies.proofs.NormalForms.{arranged_form}
+use Rattle.strategies.proofs.NormalForms.{arranged_form, least_form}
 
 -- ---- the rows
 
@@ -333,3 +338,39 @@ module _ (board : PlainBoard) (proof : PlainProof) (value : Value) (claim_is_of 
   pub holds_for : (side : Option Side) → Holds board proof.claim → Holds board (document_for side proof).claim
   holds_for side holds = subst (Holds board) (sym (claim_is side proof ∙ ap (claim_for side) claim_is_of))
       (holds_part board value side (subst (Holds board) claim_is_of holds))
+
+-- ---- up to symmetries
+
+least_rows_for : (labels : ℕ) (group : List (List ℕ)) (side : Option Side) (proof : PlainProof)
+    → HasLeastRows labels group proof → HasLeastRows labels group (document_for side proof)
+least_rows_for labels group None proof least = least
+least_rows_for labels group (Some Labeller) proof least =
+    record { labeller = least.labeller; adversary = no_rows _ }
+least_rows_for labels group (Some Adversary) proof least =
+    record { labeller = no_rows _; adversary = least.adversary }
+
+module _ (board : PlainBoard) (proof : PlainSymmetryProof) (value : Value)
+    (claim_is_of : proof.rows.claim ≡ claim_of value) (side : Option Side) (strategy : HasStrategy side value) where
+  pub breaks_no_rule_up_to_for : BreaksNoRuleUpTo board proof
+      → BreaksNoRuleUpTo board (symmetric_document_for side proof)
+  breaks_no_rule_up_to_for breaks = record {
+    group = breaks.group;
+    few = breaks.few;
+    rows = least_rows_for board.labels breaks.group side proof.rows breaks.rows;
+    rules = record {
+      symmetries = breaks.rules.symmetries;
+      group_is = breaks.rules.group_is;
+      rules = breaks_no_rule_for board proof.rows value claim_is_of (alike_positions board.labels breaks.group) side
+          strategy breaks.rules.rules;
+    };
+  }
+
+  pub symmetry_form_for : IsConfiguration board board.start → (maps : List (List ℕ)) → AreMaps board.labels maps
+      → All (IsSymmetry board) maps → IsSymmetryDocumentOf board maps proof
+      → FitsFormat board (document_for side proof.rows)
+      → IsSymmetryProof board (symmetric_document_for side proof)
+  symmetry_form_for start maps are each of fits = record {
+    maps = subst (AreMaps board.labels) (sym of.maps_are) are;
+    rows = form_over_for board proof.rows value claim_is_of (least_alike board.labels of.group)
+        (least_form board maps of.group each of.are_group) side strategy start of.rows fits;
+  }

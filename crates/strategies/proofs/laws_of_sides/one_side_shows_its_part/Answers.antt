@@ -1,4 +1,5 @@
-use Rattle.strategies.proofs.OneSide.{breaks_no_rule_for, class_form_for, form_for, holds_for, shows_for}
+use Rattle.strategies.proofs.OneSide.{breaks_no_rule_for, breaks_no_rule_up_to_for, class_form_for, form_for, holds_for}
+use Rattle.strategies.proofs.OneSide.{shows_for, symmetry_form_for}
 use Rattle.strategies.proofs.laws_of_sides.one_side_shows_its_part.Goals as goal
 
 pub returns-clause-shows : goal.returns-clause-shows
@@ -15,3 +16,9 @@ returns-clause-form c = form_for
 
 pub returns-clause-class_form : goal.returns-clause-class_form
 returns-clause-class_form c = class_form_for
+
+pub returns-clause-symmetry_rules : goal.returns-clause-symmetry_rules
+returns-clause-symmetry_rules c = breaks_no_rule_up_to_for
+
+pub returns-clause-symmetry_form : goal.returns-clause-symmetry_form
+returns-clause-symmetry_form c = symmetry_form_for
