@@ -1,4 +1,4 @@
-"""symmetries.py PRIME.. | cover PRIME: writes symmetries of the residues modulo a prime, of a product of such, or of a double cover, as maps of labels."""
+"""symmetries.py PRIME.. | cover PRIME: writes symmetries of the residues modulo a prime, of a product of such, or of a double cover, as `solve --symmetries` reads them."""
 import sys
 from functools import reduce
 
@@ -33,3 +33,4 @@ else:
 print('symmetries', len(maps))
 for images in maps:
     print('map', *images)
+print('end')

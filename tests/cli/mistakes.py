@@ -391,6 +391,37 @@ def of_symmetries(work):
     yield Mistake('too many symmetries', ['check', nine, many], Ran(3, b'refused ..', b''), many, 'more than 131072 symmetries')
 
 
+def of_given_symmetries(work):
+    """Symmetries by themselves with a fault, and some that are none of the board's."""
+    cycle = board('three-cycle')
+    good = 'symmetries 1\nmap 1 2 0\nend\n'
+    faults = [
+        ('symmetries that are a board', 'board 1\nlabels 3\n', 'symmetries fault line 1 Section', 'are the two files exchanged?'),
+        ('symmetries that are a document', 'proof 3\nforever\n', 'symmetries fault line 1 Section', 'take the line `symmetries` and the maps'),
+        ('symmetries that are empty', '', 'symmetries fault line 1 Section', 'it is empty'),
+        ('symmetries without a number', 'symmetries\nend\n', 'symmetries fault line 1 Section', 'line 1 must be `symmetries n`'),
+        ('too many maps by themselves', good.replace('1', '65', 1), 'symmetries fault line 1 Section', '65 is more than 64'),
+        ('symmetries of another size', good.replace(' 0', ''), 'symmetries fault line 2 Row', 'labels in the line: 2, labels of the board: 3; '),
+        ('fewer maps by themselves', good.replace('1', '2', 1), 'symmetries fault line 3 Row', 'fewer maps than `symmetries` says; '),
+        ('an image by itself that is no label', good.replace(' 0', ' 3'), 'symmetries fault line 2 Label', 'labels of this board are below 3'),
+        ('more maps by themselves', good.replace('1', '0', 1), 'symmetries fault line 2 End', 'more maps than `symmetries` says; '),
+        ('symmetries without an end', good.replace('end\n', ''), 'symmetries fault line 3 End', 'the last line must be `end`'),
+        ('bytes after symmetries', good + '\n', 'symmetries fault line 4 Trailing', 'nothing may follow the line `end`'),
+        ('a map by itself to a label twice', good.replace('2 0', '1 0'), 'wrong symmetry 1 label 2', 'no label goes to this one'),
+        ('a map by itself that is no symmetry', good.replace('1 2 0', '0 2 1'), 'wrong symmetry 1 labels 0 1', "doesn't keep domination"),
+    ]
+    for number, (name, text, line, says) in enumerate(faults):
+        path = written(work, f'symmetries-{number}.maps', text.encode())
+        yield Mistake(name, ['solve', '--symmetries', path, cycle], fault(1, line), path, says)
+    nine = written(work, 'nine-alone.board', empty(9, 2))
+    many = written(work, 'many.maps', b'symmetries 2\nmap 1 2 3 4 5 6 7 8 0\nmap 1 0 2 3 4 5 6 7 8\nend\n')
+    yield Mistake('too many symmetries by themselves', ['solve', '--symmetries', many, nine], fault(1, 'too many symmetries'), many, 'more than 131072 symmetries')
+    long = written(work, 'long.maps', b'symmetries 1\n' + b'0' * 65536)
+    yield Mistake('symmetries that are too long', ['solve', '--symmetries', long, cycle], fault(5, 'input too long'), long, 'at most 65536 bytes')
+    missing = os.path.join(work, 'missing.maps')
+    yield Mistake('symmetries that are not there', ['solve', '--symmetries', missing, cycle], fault(5, 'read fault'), missing, 'there is no such file')
+
+
 def of_streams(work):
     """Inputs and outputs that fail."""
     with open(CHAIN, 'rb') as file, open(CHAIN_PROOF, 'rb') as other:
@@ -453,6 +484,7 @@ def of_words(work):
             (['check', '--workers', '2', CHAIN, CHAIN], 'only `solve`, `report`, `starts` and `chains` have `--workers`'),
             (['solve', '--most', '3', CHAIN], 'only `chains` has `--most`'), (['starts', '--most', '3', CHAIN], 'only `chains` has `--most`'), (['report', '--most=3', CHAIN], 'only `chains` has `--most`'),
             (['report', '--side', 'labeller', CHAIN], 'only `solve` and `play` have `--side`'), (['climb', '--side=adversary', '3'], 'only `solve` and `play` have `--side`'),
+            (['report', '--symmetries', 'a.maps', CHAIN], 'only `solve` has `--symmetries`'), (['play', '--symmetries=a.maps', CHAIN], 'only `solve` has `--symmetries`'),
             (['climb', '--large', '3'], large), (['check', CHAIN, CHAIN, '--large'], large), (['solve', '--large', '--large', CHAIN], general),
             (['play', '--large', CHAIN], general), (['play', '--side', 'both', CHAIN], general), (['nested', '7', '3'], general), (['climb', '25'], general), (['help', 'solv'], general)]
     for words, says in told:
@@ -519,7 +551,7 @@ def of_rows(work):
 def checks(work):
     """All checks, which write what they need into `work`."""
     yield from of_rows(work)
-    for subject in (of_boards, of_files, of_documents, of_symmetries, of_streams, of_permissions, of_words):
+    for subject in (of_boards, of_files, of_documents, of_symmetries, of_given_symmetries, of_streams, of_permissions, of_words):
         for mistake in subject(work):
             yield Check(f'a mistake: {mistake.name}', partial(explained, mistake))
     yield Check('a terminal without words', partial(greeted, [], 'Ctrl-D', b'\x04'))

@@ -219,8 +219,11 @@ solve_row = record {
     (
       (refl, inl (refl, omega arith)),
       (
-        (refl, inr (inl (refl, omega arith))),
-        ((refl, inl (refl, omega arith)), ((refl, inr (inl (refl, omega arith))), ((refl, inr (inr refl)), tt))),
+        (refl, inl (refl, omega arith)),
+        (
+          (refl, inr (inl (refl, omega arith))),
+          ((refl, inl (refl, omega arith)), ((refl, inr (inl (refl, omega arith))), ((refl, inr (inr refl)), tt))),
+        ),
       ),
     ),
   );
@@ -228,7 +231,10 @@ solve_row = record {
     (inr (inl (omega arith)), refl, inl (refl, inr (inl (MAX_WORKERS, refl)))),
     (
       (inr (inr refl), refl, inl (refl, inr (inr refl))),
-      (word_given (codes "large"), ((inl refl, refl, inl (refl, inl refl)), (word_given (codes "explain"), tt))),
+      (
+        (inr (inr refl), refl, inl (refl, inl refl)),
+        (word_given (codes "large"), ((inl refl, refl, inl (refl, inl refl)), (word_given (codes "explain"), tt))),
+      ),
     ),
   );
 }

@@ -86,10 +86,17 @@ side_among words must_be_given = record (new_rule (codes "side")) {
   parser = Some (vp.Names words);
 }
 
+-- the option for the path of symmetries, which may be left out
+abbrev pub symmetries : Rule
+symmetries = record (new_rule (codes "symmetries")) {
+  long = Some (codes "symmetries");
+  value_names = 1;
+}
+
 abbrev pub solve_among : Bor (List (Bor Text)) → Shape
 solve_among words =
     command (codes "solve")
-    (workers ∷ side_among words false ∷ large ∷ path (codes "board") ∷ explain ∷ [])
+    (workers ∷ side_among words false ∷ symmetries ∷ large ∷ path (codes "board") ∷ explain ∷ [])
 
 abbrev pub play_among : Bor (List (Bor Text)) → Shape
 play_among words =

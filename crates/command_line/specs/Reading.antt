@@ -2,6 +2,7 @@
 use Rattle.std.specs.Prelude.{◌≡◌, ◌≢◌, ◌≤◌, ◌⊎◌, ◌||◌, ◌++◌, ℕ, Bool, true, false}
 use Rattle.std.specs.Prelude.{List, [], ◌∷◌, Option, Some, None, codes, length, option_map}
 use Rattle.std.specs.Prelude.{string_bytes}
+use Rattle.std.specs.Borrow.{Bor}
 use Rattle.std.specs.List.{AllByRecursion, list_any}
 use Rattle.std.specs.Str.{bytes_eq}
 use Rattle.std.specs.Str.Parse.{digits_value, without_leading_plus}
@@ -42,6 +43,10 @@ side_word Adversary = codes "adversary"
 abbrev pub HasSide : List Row → Option Side → Type 0
 HasSide rows side = first_of (codes "side") rows ≡ option_map side_word side
 
+-- the path was given, or none
+abbrev pub HasPath : List Row → Text → Option (Bor Text) → Type 0
+HasPath rows id path = first_of id rows ≡ option_map (λ word. word.now) path
+
 -- the word for the id was given exactly if this is true:
 -- the matches have `true` for it if it was, and else `false`
 abbrev pub HasFlag : List Row → Text → Bool → Type 0
@@ -61,10 +66,11 @@ AsksFor name rows (jobs.Check board proof) = (name ≡ codes "check")
 AsksFor name rows (jobs.Nested levels pebbles) = (name ≡ codes "nested")
     × HasNumber rows (codes "levels") MAX_BOARD_LEVELS levels
     × HasNumber rows (codes "pebbles") MAX_PEBBLES pebbles
-AsksFor name rows (jobs.Solve workers side limit board) = (name ≡ codes "solve")
+AsksFor name rows (jobs.Solve workers side limit symmetries board) = (name ≡ codes "solve")
     × HasNumber rows (codes "workers") MAX_WORKERS workers
     × HasSide rows side
     × HasFlag rows (codes "large") (is_large limit)
+    × HasPath rows (codes "symmetries") symmetries
     × (first_of (codes "board") rows ≡ Some board.now)
 AsksFor name rows (jobs.Report workers limit board) = (name ≡ codes "report")
     × HasNumber rows (codes "workers") MAX_WORKERS workers
@@ -97,7 +103,7 @@ IsInRange jobs.Joined = Unit {0}
 IsInRange (jobs.Check board proof) = Unit {0}
 IsInRange (jobs.Nested levels pebbles) =
     (1 ≤ levels) × (levels ≤ MAX_BOARD_LEVELS) × (1 ≤ pebbles) × (pebbles ≤ MAX_PEBBLES)
-IsInRange (jobs.Solve workers side limit board) = (1 ≤ workers) × (workers ≤ MAX_WORKERS)
+IsInRange (jobs.Solve workers side limit symmetries board) = (1 ≤ workers) × (workers ≤ MAX_WORKERS)
 IsInRange (jobs.Report workers limit board) = (1 ≤ workers) × (workers ≤ MAX_WORKERS)
 IsInRange (jobs.Starts workers limit board) = (1 ≤ workers) × (workers ≤ MAX_WORKERS)
 IsInRange (jobs.Chains workers most board) =
@@ -124,7 +130,7 @@ has_topic words = false
 abbrev pub version_text : List ℕ
 version_text = with_line_feed (codes "pebbles 1.1.0")
     ++ with_line_feed
-    (codes "reads `board 1`, `board 2`, `proof 1`, `proof 2` and `proof 3`, writes the first four, "
+    (codes "reads `board 1`, `board 2`, `proof 1`, `proof 2` and `proof 3`, writes these, "
     ++ codes "`report 1`, `starts 1` and `chains 1`")
 
 -- the name stands in the text

@@ -35,10 +35,13 @@ pub enum Job<'a> {
     },
     /// Solve the board, a path, with 1 to `MAX_WORKERS` workers, and write its strategy document,
     /// which is that by classes if the board may be large, for this side alone or for both.
+    /// `symmetries` is the path of symmetries of its domain, up to which the document is written,
+    /// if there is one.
     Solve {
         workers: u8,
         side: Option<Side>,
         limit: BoardLimit,
+        symmetries: Option<&'a str>,
         board: &'a str,
     },
     /// Solve the board, a path, with 1 to `MAX_WORKERS` workers, and write the number of

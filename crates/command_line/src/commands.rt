@@ -18,7 +18,7 @@ use std::alloc::{AllocError, Global};
 /// the option from it, and `words` shows it.
 pub(crate) const VERSION: &str =
     "pebbles 1.1.0\nreads `board 1`, `board 2`, `proof 1`, `proof 2` and `proof 3`, \
-    writes the first four, `report 1`, `starts 1` and `chains 1`\n";
+    writes these, `report 1`, `starts 1` and `chains 1`\n";
 
 /// The name of the program.
 const NAME: &str = "pebbles";
@@ -58,16 +58,21 @@ const ABOUT_SOLVING: &str =
     "Writes the strategy document of the board, which `check` accepts. It is the\n\
     same for every number of workers. With --large it is the document by classes,\n\
     whose rows say nothing of which pebble holds which label.\n\n\
+    With --symmetries its rows are for all configurations that the maps in FILE\n\
+    take to one another.\n\n\
     With --side its claim is `least` or `forever` for the labeller, `most` for the\n\
     adversary.\n\n\
     Common faults:\n  \
-    board fault line 1 Version  neither `board 1` nor `board 2`: Windows line ends\n  \
-    board fault line 4 Start    each pebble's label, below V, or `-` in `board 2`\n  \
-    board fault line N Beats    not `beats` and two labels, with single spaces\n  \
-    board fault line N Order    pairs not sorted as numbers, or one is there twice\n  \
-    board too large             labels^pebbles is above 1048576; try --large\n  \
-    document too large          above 134217728 bytes, more than `check` reads\n  \
-    start lasts forever         --side adversary: there is no strategy for it\n\n\
+    board fault line 1 Version   not `board 1` or `board 2`: Windows line ends\n  \
+    board fault line 4 Start     each pebble's label, below V, or `-` in `board 2`\n  \
+    board fault line N Beats     not `beats` and two labels, with single spaces\n  \
+    board fault line N Order     pairs not sorted as numbers, or one stands twice\n  \
+    board too large              labels^pebbles is above 1048576; try --large\n  \
+    document too large           above 134217728 bytes, more than `check` reads\n  \
+    start lasts forever          --side adversary: there is no strategy for it\n  \
+    symmetries fault line N Row  a map without an image for each label\n  \
+    wrong symmetry N labels X Y  the map N doesn't keep that X dominates Y\n  \
+    too many symmetries          the maps make more than 131072\n\n\
     Example:\n  \
     pebbles solve chain.board > chain.proof";
 
@@ -207,7 +212,8 @@ fn solve<'a>(alloc: Global, sides: &'a [&'a str]) -> Result<Command<'a>, AllocEr
         .about("Reads a board, and writes its start's value and strategies for it")
         .after_help(ABOUT_SOLVING)
         .arg(workers(alloc))?
-        .arg(side(alloc, sides, false, "One side's strategy"))?;
+        .arg(side(alloc, sides, false, "One side alone"))?
+        .arg(symmetries(alloc))?;
     on_board(alloc, command)
 }
 
@@ -389,7 +395,7 @@ fn large<'a>(alloc: Global) -> Arg<'a>
     word(
         alloc,
         "large",
-        "Take boards of up to 536870912 gaps; `solve` by classes",
+        "Take boards up to 536870912 gaps; `solve` by classes",
     )
 }
 
@@ -430,6 +436,17 @@ fn most<'a>(alloc: Global) -> Arg<'a>
         .help("Stop after the chains of K labels, 1 to 8")
 }
 
+/// The option for the path of symmetries, which may be left out.
+fn symmetries<'a>(alloc: Global) -> Arg<'a>
+    ensures rule { rule_of result ≡ commands.symmetries }
+    ensures local { result.global ≡ false }
+{
+    Arg::new(alloc, "symmetries")
+        .long("symmetries")
+        .value_name("FILE")
+        .help("Write rows up to the symmetries in FILE")
+}
+
 /// The option for the number of workers, 1 to `MAX_WORKERS`; 1 if it isn't given.
 fn workers<'a>(alloc: Global) -> Arg<'a>
     ensures rule { rule_of result ≡ commands.workers }
@@ -440,5 +457,5 @@ fn workers<'a>(alloc: Global) -> Arg<'a>
         .value_name("N")
         .default_value("1")
         .value_parser(value_parser!(u8).range(1..=MAX_WORKERS as i64))
-        .help("How many workers may share the work, 1 to 16")
+        .help("How many workers share the work, 1 to 16")
 }

@@ -227,11 +227,13 @@ fn solve_job<'a>(values: &ArgMatches<'a>) -> Option<Job<'a>>
     let workers = number(values, "workers", MAX_WORKERS)?;
     let side = side_if_given(values)?;
     let limit = limit(values)?;
+    let symmetries = text(values, "symmetries");
     let board = text(values, "board")?;
     Some(Job::Solve {
         workers,
         side,
         limit,
+        symmetries,
         board,
     })
 }

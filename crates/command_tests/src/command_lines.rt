@@ -135,6 +135,7 @@ fn solving(rt: HostRuntime) {
             workers,
             side: None,
             limit,
+            symmetries: None,
             board,
         };
         assert_asks(&rt, rt.alloc(), words, wanted);
@@ -161,7 +162,78 @@ fn solving_for_a_side(rt: HostRuntime) {
             workers: 1,
             side: Some(side),
             limit,
+            symmetries: None,
             board,
+        };
+        assert_asks(&rt, rt.alloc(), words, wanted);
+    }
+}
+
+#[test]
+fn solving_up_to_symmetries(rt: HostRuntime) {
+    for (words, symmetries) in [
+        (
+            ["pebbles", "solve", "--symmetries", "b", "a"].as_slice(),
+            "b",
+        ),
+        (["pebbles", "solve", "a", "--symmetries=b"].as_slice(), "b"),
+        (
+            ["pebbles", "solve", "a", "--symmetries", "-"].as_slice(),
+            "-",
+        ),
+        (["pebbles", "solve", "a", "--symmetries", ""].as_slice(), ""),
+        (["pebbles", "solve", "--symmetries=", "a"].as_slice(), ""),
+        (
+            ["pebbles", "solve", "--symmetries=--large", "a"].as_slice(),
+            "--large",
+        ),
+    ] {
+        let wanted = Job::Solve {
+            workers: 1,
+            side: None,
+            limit: BoardLimit::Small,
+            symmetries: Some(symmetries),
+            board: "a",
+        };
+        assert_asks(&rt, rt.alloc(), words, wanted);
+    }
+}
+
+#[test]
+fn solving_up_to_symmetries_beside_other_options(rt: HostRuntime) {
+    for (words, side, limit) in [
+        (
+            ["pebbles", "solve", "--large", "--symmetries", "b", "a"].as_slice(),
+            None,
+            BoardLimit::Large,
+        ),
+        (
+            ["pebbles", "solve", "--symmetries=b", "--side=labeller", "a"].as_slice(),
+            Some(Side::Labeller),
+            BoardLimit::Small,
+        ),
+        (
+            [
+                "pebbles",
+                "solve",
+                "a",
+                "--side",
+                "adversary",
+                "--symmetries",
+                "b",
+                "--large",
+            ]
+            .as_slice(),
+            Some(Side::Adversary),
+            BoardLimit::Large,
+        ),
+    ] {
+        let wanted = Job::Solve {
+            workers: 1,
+            side,
+            limit,
+            symmetries: Some("b"),
+            board: "a",
         };
         assert_asks(&rt, rt.alloc(), words, wanted);
     }
@@ -382,6 +454,11 @@ fn wrong_words_of_solving_and_reports(rt: HostRuntime) {
         ["pebbles", "solve", "--workers=", "a"].as_slice(),
         ["pebbles", "solve", "--workers=2", "--workers=2", "a"].as_slice(),
         ["pebbles", "solve", "--large", "--large", "a"].as_slice(),
+        ["pebbles", "solve", "--symmetries", "b"].as_slice(),
+        ["pebbles", "solve", "a", "--symmetries"].as_slice(),
+        ["pebbles", "solve", "--symmetries", "--large", "a"].as_slice(),
+        ["pebbles", "solve", "--symmetries=b", "--symmetries=b", "a"].as_slice(),
+        ["pebbles", "report", "--symmetries", "b", "a"].as_slice(),
         ["pebbles", "report"].as_slice(),
         ["pebbles", "report", "--large"].as_slice(),
         ["pebbles", "report", "--large=true", "a"].as_slice(),
@@ -426,6 +503,10 @@ fn help_and_the_version(rt: HostRuntime) {
         (["pebbles", "check", "--help"].as_slice(), "<BOARD> <PROOF>"),
         (["pebbles", "nested", "-h"].as_slice(), "<LEVELS> <PEBBLES>"),
         (["pebbles", "solve", "--help"].as_slice(), "[default: 1]"),
+        (
+            ["pebbles", "help", "solve"].as_slice(),
+            "--symmetries <FILE>",
+        ),
         (["pebbles", "help", "report"].as_slice(), "--workers <N>"),
         (["pebbles", "help", "play"].as_slice(), "--large"),
         (["pebbles", "climb", "--help"].as_slice(), "<LEVELS>"),

@@ -19,19 +19,20 @@ const WORDS: &str =
     "solve check report starts chains nested play climb help -h --version  -- chek a - 0 1 6 7 16 \
     17 24 25 02 +3 99999999999999999999 -1 --help -V --workers --workers=0 --workers=16 --workers=17 \
     --workers= --side --side=labeller --side=person labeller adversary --large --large=true \
-    --explain";
+    --explain --symmetries --symmetries= --symmetries=-1";
 
 fn word(place: u32) -> &'static str {
     WORDS.split(' ').nth(place as usize).unwrap_or("")
 }
 
 /// The words that a command still takes: an option with a value, or `none`, where `--side` is
-/// wanted; `--side`, where it may be left out; `--large`, if it is taken; `--explain`, if it wasn't
-/// given; and a number of words, each at most `most`, or 0 for paths.
+/// wanted; `--side` and `--symmetries`, where they may be left out; `--large`, if it is taken;
+/// `--explain`, if it wasn't given; and a number of words, each at most `most`, or 0 for paths.
 #[derive(Clone, Copy)]
 struct Form {
     option: &'static str,
     takes_side: bool,
+    takes_symmetries: bool,
     takes_large: bool,
     takes_explain: bool,
     wants: usize,
@@ -43,6 +44,7 @@ impl Form {
         Form {
             option,
             takes_side: false,
+            takes_symmetries: false,
             takes_large,
             takes_explain: true,
             wants,
@@ -53,34 +55,17 @@ impl Form {
     fn of(command: &str) -> Option<Form> {
         match command {
             "check" => Some(Form::new("none", false, 2, 0)),
-            "solve" => Some(Form::new("--workers", true, 1, 0).with_side()),
+            "solve" => Some(Form {
+                takes_side: true,
+                takes_symmetries: true,
+                ..Form::new("--workers", true, 1, 0)
+            }),
             "report" | "starts" => Some(Form::new("--workers", true, 1, 0)),
             "chains" => Some(Form::new("--workers", false, 1, 0)),
             "nested" => Some(Form::new("none", false, 2, 6)),
             "play" => Some(Form::new("--side", true, 1, 0)),
             "climb" => Some(Form::new("none", false, 1, 24)),
             _ => None,
-        }
-    }
-
-    fn without_option(self) -> Form {
-        Form {
-            option: "none",
-            ..self
-        }
-    }
-
-    fn with_side(self) -> Form {
-        Form {
-            takes_side: true,
-            ..self
-        }
-    }
-
-    fn without_side(self) -> Form {
-        Form {
-            takes_side: false,
-            ..self
         }
     }
 
@@ -95,6 +80,28 @@ impl Form {
         Form {
             takes_explain: false,
             ..self
+        }
+    }
+
+    /// The same after this option with this value, if they are taken.
+    fn after_value(self, option: &str, value: &str) -> Result<Form, Other> {
+        if !is_value(option, value) {
+            return Err(Other::Wrong);
+        }
+        match option {
+            _ if option == self.option => Ok(Form {
+                option: "none",
+                ..self
+            }),
+            "--side" if self.takes_side => Ok(Form {
+                takes_side: false,
+                ..self
+            }),
+            "--symmetries" if self.takes_symmetries => Ok(Form {
+                takes_symmetries: false,
+                ..self
+            }),
+            _ => Err(Other::Wrong),
         }
     }
 
@@ -114,46 +121,42 @@ fn fits(word: &str, most: u8) -> bool {
 fn is_value(option: &str, value: &str) -> bool {
     option == "--workers" && fits(value, 16)
         || option == "--side" && (value == "labeller" || value == "adversary")
+        || option == "--symmetries"
 }
 
-/// Whether the word is the option and its value.
-fn is_both(option: &str, word: &str) -> bool {
-    let value = word
-        .strip_prefix(option)
-        .and_then(|rest| rest.strip_prefix('='));
-    value.is_some_and(|value| is_value(option, value))
+/// Whether the word doesn't begin as an option does.
+fn is_plain(word: &str) -> bool {
+    word == "-" || !word.starts_with('-')
 }
 
 /// Ok if the words of a command of this form are right.
 fn read(words: &[&str], form: Form) -> Result<(), Other> {
     let Form {
         option,
-        takes_side,
         takes_large,
         takes_explain,
         wants,
         most,
+        ..
     } = form;
     match words {
         [] if wants == 0 && option != "--side" => Ok(()),
         ["--", rest @ ..] if rest.len() != wants || option == "--side" => Err(Other::Wrong),
         ["--", rest @ ..] if rest.iter().all(|word| fits(word, most)) => Ok(()),
         ["--help" | "-h", ..] => Err(Other::Help),
-        [word, rest @ ..] if *word == "-" || !word.starts_with('-') => match form.after_word() {
+        [word, rest @ ..] if is_plain(word) => match form.after_word() {
             Some(form) if fits(word, most) => read(rest, form),
             _ => Err(Other::Wrong),
         },
         ["--large", rest @ ..] if takes_large => read(rest, form.without_large()),
         ["--explain", rest @ ..] if takes_explain => read(rest, form.without_explain()),
-        [word, rest @ ..] if is_both(option, word) => read(rest, form.without_option()),
-        [word, value, rest @ ..] if *word == option && is_value(option, value) => {
-            read(rest, form.without_option())
+        [word, rest @ ..] if word.contains('=') => {
+            let (option, value) = word.split_once('=').ok_or(Other::Wrong)?;
+            read(rest, form.after_value(option, value)?)
         }
-        [word, rest @ ..] if takes_side && is_both("--side", word) => {
-            read(rest, form.without_side())
+        [option, value, rest @ ..] if is_plain(value) => {
+            read(rest, form.after_value(option, value)?)
         }
-        [word, value, rest @ ..] if takes_side && *word == "--side" && is_value("--side", value) =>
-            { read(rest, form.without_side()) }
         _ => Err(Other::Wrong),
     }
 }
@@ -210,7 +213,7 @@ fn thousands_of_lines(rt: HostRuntime) {
     for _ in 0..8_000 {
         let mut line = ["pebbles", word(draws.below(14)), "", "", ""];
         for place in 2..5 {
-            line[place] = word(draws.below(43));
+            line[place] = word(draws.below(46));
         }
         let line = &line[..=draws.below(5) as usize];
         let wanted = Some(asked(&line[1..]));

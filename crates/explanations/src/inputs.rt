@@ -3,7 +3,9 @@
 use crate::lines::{from_line, split_line};
 use crate::trouble::Trouble;
 use command_line::BoardLimit;
-use runs::{MAX_BOARD_BYTES, MAX_JOINED_BYTES, MAX_PROOF_BYTES, board_length};
+use runs::{
+    MAX_BOARD_BYTES, MAX_JOINED_BYTES, MAX_PROOF_BYTES, MAX_SYMMETRIES_BYTES, board_length,
+};
 
 // The words say these limits.
 const _: () = prove!(MAX_BOARD_BYTES == 1_048_576);
@@ -12,8 +14,13 @@ const _: () = prove!(MAX_PROOF_BYTES == 134_217_728);
 
 const _: () = prove!(MAX_JOINED_BYTES == 134_217_728);
 
+const _: () = prove!(MAX_SYMMETRIES_BYTES == 65_536);
+
 /// The limits of a board, in words.
 const BOARD_LIMITS: &str = "a board has at most 1048576 bytes";
+
+/// The limits of symmetries, in words.
+const SYMMETRIES_LIMITS: &str = "a text of symmetries has at most 65536 bytes";
 
 /// The limits of a document and of a joined input, in words.
 const PROOF_LIMITS: &str = "an input has at most 134217728 bytes";
@@ -38,7 +45,7 @@ pub(crate) enum Given {
     Joined,
 }
 
-/// The inputs of a job: the board, and the document or the lines of a play.
+/// The inputs of a job: the board, and the document, the symmetries or the lines of a play.
 #[derive(Clone, Copy)]
 pub struct Inputs<'a, 'h> {
     pub(crate) given: Given,
@@ -60,6 +67,20 @@ impl<'a, 'h> Inputs<'a, 'h> {
             limit: Some(limit),
             board,
             other,
+        }
+    }
+
+    /// A board within the `limit` and symmetries of its domain, in two files.
+    pub fn with_symmetries(
+        limit: BoardLimit,
+        board: Origin<'a, 'h>,
+        symmetries: Origin<'a, 'h>,
+    ) -> Inputs<'a, 'h> {
+        Inputs {
+            given: Given::Apart,
+            limit: Some(limit),
+            board,
+            other: symmetries,
         }
     }
 
@@ -153,6 +174,20 @@ impl<'a, 'h> Origin<'a, 'h> {
         Origin {
             is_too_long: count > MAX_PROOF_BYTES,
             limits: PROOF_LIMITS,
+            ..Origin::board(path, text, count, trouble)
+        }
+    }
+
+    /// The symmetries at a path, in the same way.
+    pub fn symmetries(
+        path: &'a str,
+        text: &'h [u8],
+        count: usize,
+        trouble: Option<Trouble>,
+    ) -> Origin<'a, 'h> {
+        Origin {
+            is_too_long: count > MAX_SYMMETRIES_BYTES,
+            limits: SYMMETRIES_LIMITS,
             ..Origin::board(path, text, count, trouble)
         }
     }

@@ -10,6 +10,7 @@ mod notes;
 mod parts;
 mod proof_hints;
 mod sizes;
+mod symmetry_hints;
 mod trouble;
 mod usage;
 

@@ -5,6 +5,7 @@ use crate::inputs::{Inputs, STANDARD_INPUT};
 use crate::parts::{Part, Parts, around, joined, two_words, words};
 use crate::proof_hints::{class_refusal_hint, proof_hint, refusal_hint, symmetry_refusal_hint};
 use crate::sizes::Sizes;
+use crate::symmetry_hints::symmetries_hint;
 use crate::trouble::Trouble;
 use crate::usage::usage_hint;
 use command_line::BoardLimit;
@@ -59,6 +60,10 @@ impl<'a> Note<'a> {
             RunFault::Proof(fault) => Note {
                 about: other.name,
                 parts: proof_hint(fault, inputs),
+            },
+            RunFault::Symmetries(fault) => Note {
+                about: other.name,
+                parts: symmetries_hint(fault, inputs),
             },
             RunFault::Memory => Note::new(
                 "memory",

@@ -8,8 +8,9 @@ use crate::inputs::{Given, Inputs, Origin};
 use crate::lines::{flaw, spaces_before};
 use crate::parts::{Parts, mistake, number_mistake, two_numbers, words};
 use crate::sizes::Sizes;
+use crate::symmetry_hints::{FEWER_MAPS, MAP, MORE_MAPS, TOO_MANY, map_fault_hint, map_hint};
 use positions::MAX_CONFIGURATIONS;
-use proof_check::{CheckFault, ClassFault, MAX_ELEMENTS, MapFault, Side, SymmetryFault};
+use proof_check::{CheckFault, ClassFault, Side, SymmetryFault};
 use proof_text::{MAX_CLASS_ROWS, MAX_MAPS, MOST_TURNS, ProofFault, ProofKind};
 use runs::{DocumentVersion, board_length, version_of};
 
@@ -21,8 +22,6 @@ const _: () = prove!(MAX_CONFIGURATIONS == 1_048_576);
 const _: () = prove!(MAX_CLASS_ROWS == 16_777_216);
 
 const _: () = prove!(MAX_MAPS == 64);
-
-const _: () = prove!(MAX_ELEMENTS == 131_072);
 
 /// The form of the second line.
 const CLAIM: &str =
@@ -39,13 +38,6 @@ const CLASS_SECTION: &str =
 
 /// The form of the line before the maps.
 const SYMMETRIES: &str = "line 3 must be `symmetries n`, with n at most 64";
-
-/// The form of a map.
-const MAP: &str =
-    "the line must be `map` and, for each label of the board in turn, the label that it goes to";
-
-/// The mistake of a line that comes before all maps that are said.
-const FEWER_MAPS: &str = "there are fewer maps than `symmetries` says";
 
 /// The sections of each claim.
 const SECTIONS: &str =
@@ -162,10 +154,7 @@ fn section_hint(proof: &Origin<'_, '_>, number: u32, line: Option<&[u8]>) -> Par
     if number < first {
         number_hint(line, "symmetries", u64::from(MAX_MAPS), SYMMETRIES)
     } else if has_maps(proof) && number == first && proof.line_begins(number, "map ") {
-        mistake(
-            "there are more maps than `symmetries` says",
-            section_form(proof).1,
-        )
+        mistake(MORE_MAPS, section_form(proof).1)
     } else if proof.line_begins(number, "at ") {
         let found = if number == first {
             "a row comes before the first line of its section"
@@ -226,29 +215,6 @@ fn row_hint(inputs: &Inputs<'_, '_>, number: u32, line: Option<&[u8]>) -> Parts 
     }
 }
 
-/// The words for a line that should be a map.
-fn map_hint(line: Option<&[u8]>, sizes: Option<Sizes>) -> Parts {
-    match (line, sizes) {
-        (Some(line), Some(sizes)) if flaw(line).is_none() => images_hint(line, sizes),
-        _ => form_hint(line, MAP),
-    }
-}
-
-/// The words for the images of a map.
-fn images_hint(line: &[u8], sizes: Sizes) -> Parts {
-    let labels = u64::from(sizes.labels);
-    match spaces_before(line, "\n".as_bytes()) {
-        Some(images) if line.starts_with("map ".as_bytes()) && images != labels => {
-            two_numbers(
-                ("labels in the line: ", images),
-                (", labels of the board: ", labels),
-                MAP,
-            )
-        }
-        _ => words(MAP),
-    }
-}
-
 /// The words for the places of a row.
 fn places_hint(line: &[u8], sizes: Sizes) -> Parts {
     match spaces_before(line, " for ".as_bytes()) {
@@ -259,7 +225,7 @@ fn places_hint(line: &[u8], sizes: Sizes) -> Parts {
 }
 
 /// The words for a label of a row.
-fn label_hint(inputs: &Inputs<'_, '_>) -> Parts {
+pub(crate) fn label_hint(inputs: &Inputs<'_, '_>) -> Parts {
     match Sizes::of(inputs.board.text) {
         Some(sizes) => labels_below(sizes, "no label has a leading zero"),
         None => words("a label must be below the board's V, without a leading zero"),
@@ -366,24 +332,8 @@ pub(crate) fn class_refusal_hint(fault: ClassFault) -> &'static str {
 /// The words for a rule that a document up to symmetries breaks.
 pub(crate) fn symmetry_refusal_hint(fault: SymmetryFault) -> &'static str {
     match fault {
-        SymmetryFault::Map {
-            fault: MapFault::Missing { .. },
-            ..
-        } => {
-            "no label goes to this one by the map of this number, counted from 1, so another one \
-            is an image twice"
-        }
-        SymmetryFault::Map {
-            fault: MapFault::Pair { .. },
-            ..
-        } => {
-            "the map of this number, counted from 1, doesn't keep domination: the first of these \
-            labels dominates the second, and the image of the first doesn't that of the second, or \
-            the other way round"
-        }
-        SymmetryFault::TooMany => {
-            "one after the other the maps make more than 131072 symmetries; name fewer maps"
-        }
+        SymmetryFault::Map { fault, .. } => map_fault_hint(fault),
+        SymmetryFault::TooMany => TOO_MANY,
         SymmetryFault::NotLeast { .. } => {
             "a symmetry takes these places to others that come before them, `-` first and labels \
             as numbers; the row must be at the least of all"

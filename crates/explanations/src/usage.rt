@@ -17,6 +17,9 @@ const MOST_IS: &str = "--most=";
 /// The option for a side, with the side in the same word.
 const SIDE_IS: &str = "--side=";
 
+/// The option for symmetries, with their path in the same word.
+const SYMMETRIES_IS: &str = "--symmetries=";
+
 /// Why these words, the program's name first, may be wrong, if they show it.
 pub(crate) fn usage_hint(words: &[&str]) -> &'static str {
     if words.len() > 1 && is_path(words[1]) {
@@ -48,11 +51,14 @@ pub(crate) fn usage_hint(words: &[&str]) -> &'static str {
         if is_for_a_side(word) && words[1] != "solve" && words[1] != "play" {
             return "only `solve` and `play` have `--side`; ";
         }
+        if is_for_symmetries(word) && words[1] != "solve" {
+            return "only `solve` has `--symmetries`; ";
+        }
         if is_unknown_option(word) {
             return "the only options are `--workers` of `solve`, `report`, `starts` and `chains`, \
-                `--most` of `chains`, `--side` of `solve` and `play`, `--large` of `solve`, \
-                `report`, `starts` and `play`, `--explain`, `--help` and `--version`; a path that \
-                begins with `-` comes after `--`; ";
+                `--most` of `chains`, `--side` of `solve` and `play`, `--symmetries` of `solve`, \
+                `--large` of `solve`, `report`, `starts` and `play`, `--explain`, `--help` and \
+                `--version`; a path that begins with `-` comes after `--`; ";
         }
     }
     ""
@@ -81,6 +87,11 @@ fn is_for_a_length(word: &str) -> bool {
 /// Whether a word is the option for a side.
 fn is_for_a_side(word: &str) -> bool {
     word == "--side" || word.starts_with(SIDE_IS)
+}
+
+/// Whether a word is the option for symmetries.
+fn is_for_symmetries(word: &str) -> bool {
+    word == "--symmetries" || word.starts_with(SYMMETRIES_IS)
 }
 
 /// Whether the word at this place is the option for workers, and a word before it is too.
@@ -131,6 +142,7 @@ fn is_unknown_option(word: &str) -> bool {
     let is_known = is_for_workers(word)
         || is_for_a_length(word)
         || is_for_a_side(word)
+        || is_for_symmetries(word)
         || word == "--help"
         || word == "-h"
         || word == "--large"

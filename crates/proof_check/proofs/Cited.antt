@@ -6,3 +6,4 @@ pub use Rattle.proof_check.proofs.RankFaults.{only_memory, one_fault as one_chec
 pub use Rattle.proof_check.proofs.ShownClaims.{shows}
 pub use Rattle.proof_check.proofs.SymmetryDocumentFaults.{one as one_symmetry_fault}
 pub use Rattle.proof_check.proofs.SymmetryDocumentFaults.{only_memory as only_symmetry_memory}
+pub use Rattle.proof_check.proofs.SymmetryDocumentFaults.{symmetries_held, symmetries_keep, wrong_map_apart}

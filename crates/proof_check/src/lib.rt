@@ -36,7 +36,7 @@ pub use laws::{one_check_fault, rules_show, unbroken_rules_leave_no_fault};
 pub use positions::Side;
 pub use row_numbers::ClassNumbers;
 pub use symmetries::{MAX_ELEMENTS, MapFault};
-pub use symmetry_checking::check_symmetric;
+pub use symmetry_checking::{check_symmetric, wrong_map};
 pub use symmetry_fault::SymmetryFault;
 pub use symmetry_laws::{
     claims_hold_where_symmetric_documents_show_them, one_symmetry_fault,

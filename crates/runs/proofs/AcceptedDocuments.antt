@@ -36,6 +36,7 @@ use Rattle.runs.specs.declared.verdicts.DocumentVersion.TheVariants.{ByConfigura
 use Rattle.runs.specs.declared.fault.RunFault.{RunFault}
 use Rattle.runs.specs.declared.fault.RunFault.TheVariants.{Board, TooLarge, Proof, Memory, Worker, Read, Write, Limit}
 use Rattle.runs.specs.declared.fault.RunFault.TheVariants.{DocumentTooLarge, LastsForever, TooManyChains}
+use Rattle.runs.specs.declared.fault.RunFault.TheVariants.{Symmetries}
 use Rattle.runs.specs.declared.verdicts.Verdict.{Verdict}
 use Rattle.runs.specs.declared.verdicts.Verdict.TheVariants.{Accepted, Refused, RefusedByClasses}
 use Rattle.runs.specs.declared.verdicts.Verdict.TheVariants.{RefusedUpToSymmetries}
@@ -85,6 +86,7 @@ not_wrong_among IsSmall text board small Read wrong = wrong
 not_wrong_among IsSmall text board small Write wrong = wrong
 not_wrong_among IsSmall text board small DocumentTooLarge wrong = wrong
 not_wrong_among IsSmall text board small TooManyChains wrong = wrong
+not_wrong_among IsSmall text board small (Symmetries why) wrong = wrong
 not_wrong_among IsSmall text board small LastsForever wrong = wrong
 not_wrong_among IsSmall text board small Limit wrong = wrong
 
@@ -109,6 +111,7 @@ module _ (text written : List ℕ) (value : Value) (solution : IsSolution text v
   no_fault_of_board Write wrong = absurd wrong
   no_fault_of_board DocumentTooLarge wrong = absurd wrong
   no_fault_of_board TooManyChains wrong = absurd wrong
+  no_fault_of_board (Symmetries why) wrong = absurd wrong
   no_fault_of_board LastsForever wrong = absurd wrong
   no_fault_of_board Limit wrong = absurd wrong
 
@@ -158,6 +161,7 @@ module _ (text written : List ℕ) (value : Value) (solution : IsSolution text v
     no_fault_of_document Write wrong = absurd wrong
     no_fault_of_document DocumentTooLarge wrong = absurd wrong
     no_fault_of_document TooManyChains wrong = absurd wrong
+    no_fault_of_document (Symmetries why) wrong = absurd wrong
     no_fault_of_document LastsForever wrong = absurd wrong
     no_fault_of_document Limit wrong = absurd wrong
 

@@ -16,6 +16,7 @@ use Rattle.runs.specs.Texts.{HasNoneAmong, IsBoardAmong, IsWrongAmong, OfAnySize
 use Rattle.runs.specs.declared.fault.RunFault.{RunFault}
 use Rattle.runs.specs.declared.fault.RunFault.TheVariants.{Board, TooLarge, Proof, Memory, Worker, Read, Write, Limit}
 use Rattle.runs.specs.declared.fault.RunFault.TheVariants.{DocumentTooLarge, LastsForever, TooManyChains}
+use Rattle.runs.specs.declared.fault.RunFault.TheVariants.{Symmetries}
 use Rattle.runs.proofs.AcceptedDocuments.{not_wrong_among}
 use Rattle.runs.proofs.OneOutcome.{one_wrong_among}
 use Rattle.runs.proofs.ReportCounts.{four_parts}
@@ -79,6 +80,7 @@ any_fault most text Read h = absurd h
 any_fault most text Write h = absurd h
 any_fault most text DocumentTooLarge h = absurd h
 any_fault most text LastsForever h = absurd h
+any_fault most text (Symmetries why) h = absurd h
 any_fault most text TooManyChains h = absurd h
 any_fault most text Limit h = absurd h
 
@@ -93,6 +95,7 @@ wrong_counting most text Read h = inr (inr h)
 wrong_counting most text Write h = inr (inr h)
 wrong_counting most text DocumentTooLarge h = inr (inr h)
 wrong_counting most text LastsForever h = inr (inr h)
+wrong_counting most text (Symmetries why) h = inr (inr h)
 wrong_counting most text TooManyChains h = inr (inr h)
 wrong_counting most text Limit h = inr (inr h)
 
@@ -125,6 +128,7 @@ module _ (most : ℕ) (text : List ℕ) where
   fault_is Write h = inr h
   fault_is DocumentTooLarge h = inr h
   fault_is LastsForever h = inr h
+  fault_is (Symmetries why) h = inr h
   fault_is Limit h = inr h
 
   pub one_chain_fault : (fault other : RunFault) → HasNoChains most text fault → HasNoChains most text other

@@ -6,4 +6,5 @@ pub use Rattle.runs.proofs.OneOutcome.{one_report, one_solution, one_wrong, one_
 pub use Rattle.runs.proofs.OneVerdict.{one_verdict, one_wrong_proof, verdict_or_fault}
 pub use Rattle.runs.proofs.ChainTexts.{chains_or_fault, one_chain_fault, one_chains, wrong_counting}
 pub use Rattle.runs.proofs.StartTexts.{one_starts}
+pub use Rattle.runs.proofs.SymmetricSolutions.{one_symmetric_solution, one_unsolved_up_to, symmetric_solution_or_fault}
 pub use Rattle.runs.proofs.SideSolutions.{one_side_solution, one_unsolved_for, side_solution_or_fault}

@@ -30,6 +30,7 @@ use Rattle.runs.specs.Verdicts.{IsAcceptance, IsChecked, IsClassVerdict, IsProof
 use Rattle.runs.specs.declared.fault.RunFault.{RunFault}
 use Rattle.runs.specs.declared.fault.RunFault.TheVariants.{Board, TooLarge, Proof, Memory, Worker, Read, Write, Limit}
 use Rattle.runs.specs.declared.fault.RunFault.TheVariants.{DocumentTooLarge, LastsForever, TooManyChains}
+use Rattle.runs.specs.declared.fault.RunFault.TheVariants.{Symmetries}
 use Rattle.runs.specs.declared.verdicts.Verdict.{Verdict}
 use Rattle.runs.specs.declared.verdicts.Verdict.TheVariants.{Accepted, Refused, RefusedByClasses}
 use Rattle.runs.specs.declared.verdicts.Verdict.TheVariants.{RefusedUpToSymmetries}
@@ -73,6 +74,7 @@ module _ (text : List ℕ) where
       → ((fault ≡ DocumentTooLarge) × IsUnsolvedByClasses text DocumentTooLarge) ⊎ IsWrongWithin Large text fault
   fault_is DocumentTooLarge h = inl (refl, h)
   fault_is TooManyChains h = inr h
+  fault_is (Symmetries why) h = inr h
   fault_is LastsForever h = inr h
   fault_is (Board told) h = inr h
   fault_is TooLarge h = inr h
@@ -115,6 +117,7 @@ module _ (text : List ℕ) where
   wrong_unsolved : (fault : RunFault) → IsWrongWithin Large text fault → IsUnsolvedByClasses text fault
   wrong_unsolved DocumentTooLarge wrong = absurd wrong
   wrong_unsolved TooManyChains wrong = absurd wrong
+  wrong_unsolved (Symmetries why) wrong = absurd wrong
   wrong_unsolved LastsForever wrong = absurd wrong
   wrong_unsolved (Board told) wrong = wrong
   wrong_unsolved TooLarge wrong = wrong
@@ -220,5 +223,6 @@ module _ (text written : List ℕ) (value : Value) (solution : IsClassSolution t
   class_document_faultless Write wrong = absurd wrong
   class_document_faultless DocumentTooLarge wrong = absurd wrong
   class_document_faultless TooManyChains wrong = absurd wrong
+  class_document_faultless (Symmetries why) wrong = absurd wrong
   class_document_faultless LastsForever wrong = absurd wrong
   class_document_faultless Limit wrong = absurd wrong

@@ -18,6 +18,7 @@ pub mod Solutions
 pub mod OneOutcome
 pub mod ClassSolutions
 pub mod ToldNotices
+pub mod GivenSymmetries
 pub mod ToldChains
 pub mod PlayFaults
 pub mod ChainTexts
@@ -25,3 +26,5 @@ pub mod StartTexts
 pub mod Cited
 pub mod ValueCounts
 pub mod SideSolutions
+pub mod SymmetricSolutions
+pub mod AcceptedSymmetries

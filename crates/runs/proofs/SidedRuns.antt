@@ -14,6 +14,7 @@ use Rattle.strategies.specs.Sides.{HasStrategy}
 use Rattle.runs.specs.declared.fault.RunFault.{RunFault}
 use Rattle.runs.specs.declared.fault.RunFault.TheVariants.{Board, TooLarge, Proof, Memory, Worker, Read, Write, Limit}
 use Rattle.runs.specs.declared.fault.RunFault.TheVariants.{DocumentTooLarge, LastsForever, TooManyChains}
+use Rattle.runs.specs.declared.fault.RunFault.TheVariants.{Symmetries}
 use Rattle.runs.specs.Inside.SolveRun.{IsRefused, IsSolvedByClassesFor, IsSolvedFor, IsUnmade, IsUnshown}
 use Rattle.runs.specs.LimitedSolveRun.{CannotSolveWithin, SolutionWithin}
 use Rattle.runs.specs.SideSolveRun.{IsLongFor}
@@ -55,6 +56,7 @@ no_board Large None workers text Write h = absurd h
 no_board Large None workers text DocumentTooLarge h = absurd h
 no_board Large None workers text LastsForever h = absurd h
 no_board Large None workers text TooManyChains h = absurd h
+no_board Large None workers text (Symmetries why) h = absurd h
 no_board Large None workers text Limit h = absurd h
 no_board limit (Some side) workers text Memory h = tt
 no_board limit (Some side) workers text (Board fault) h = h
@@ -66,6 +68,7 @@ no_board limit (Some side) workers text Write h = absurd h
 no_board limit (Some side) workers text DocumentTooLarge h = absurd h
 no_board limit (Some side) workers text LastsForever h = absurd h
 no_board limit (Some side) workers text TooManyChains h = absurd h
+no_board limit (Some side) workers text (Symmetries why) h = absurd h
 no_board limit (Some side) workers text Limit h = absurd h
 
 -- out of memory can be told of any run
@@ -88,6 +91,7 @@ module _ (text : List ℕ) (board : PlainBoard) (workers : ℕ) where
   refused None DocumentTooLarge within h = absurd h
   refused None LastsForever within h = absurd h
   refused None TooManyChains within h = absurd h
+  refused None (Symmetries why) within h = absurd h
   refused None Limit within h = absurd h
   refused (Some side) Memory within h = tt
   refused (Some side) Worker within h = (refl, h.1, (board, within, h.2))
@@ -99,6 +103,7 @@ module _ (text : List ℕ) (board : PlainBoard) (workers : ℕ) where
   refused (Some side) DocumentTooLarge within h = absurd h
   refused (Some side) LastsForever within h = absurd h
   refused (Some side) TooManyChains within h = absurd h
+  refused (Some side) (Symmetries why) within h = absurd h
   refused (Some side) Limit within h = absurd h
 
   pub unmade : (limit : BoardLimit) (side : Option Side) (fault : RunFault) → IsBoardWithin limit text board
@@ -114,6 +119,7 @@ module _ (text : List ℕ) (board : PlainBoard) (workers : ℕ) where
   unmade limit side Write within h = absurd h
   unmade limit side DocumentTooLarge within h = absurd h
   unmade limit side TooManyChains within h = absurd h
+  unmade limit side (Symmetries why) within h = absurd h
   unmade limit side Limit within h = absurd h
 
   pub unshown : (side : Option Side) (fault : RunFault) → IsBoardWithin Large text board
@@ -137,6 +143,7 @@ module _ (text : List ℕ) (board : PlainBoard) (workers : ℕ) where
   unshown side Read within h = absurd h
   unshown side Write within h = absurd h
   unshown side TooManyChains within h = absurd h
+  unshown side (Symmetries why) within h = absurd h
   unshown side Limit within h = absurd h
 
   -- ---- solutions

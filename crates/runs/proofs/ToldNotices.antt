@@ -12,7 +12,9 @@ use Rattle.console.specs.Watching.{AreStepsTold, lines_of}
 use Rattle.gap_values.specs.OpenGaps.{AreOpenCounts}
 use Rattle.positions.specs.Ranks.{configurations}
 use Rattle.positions.specs.declared.space.TheConstants.{MAX_CONFIGURATIONS}
-use Rattle.runs.specs.Notices.{AreAllRounds, AreRoundsTold, IsNoticedInRun, IsNoticedOfText, is_told_of, notice_for}
+use Rattle.runs.specs.BoardRun.{GaveBoard, GaveNoBoard}
+use Rattle.runs.specs.Notices.{AreAllRounds, AreRoundsTold, IsNoticed, IsNoticedInRun, IsNoticedOfText, is_told_of}
+use Rattle.runs.specs.Notices.{notice_for}
 use Rattle.runs.specs.Notices.{bytes_words, round_line, size_notice, tenths_of, tenths_words}
 use Rattle.runs.specs.Run.{Bytes, Fails, Gave, Ran}
 use Rattle.runs.specs.LimitedSolveRun.{CannotSolveWithin, SolutionWithin}
@@ -27,6 +29,7 @@ use Rattle.runs.specs.declared.fault.RunFault.TheVariants.{Board, DocumentTooLar
 use Rattle.runs.specs.declared.fault.RunFault.TheVariants.{TooManyChains}
 use Rattle.runs.specs.declared.fault.RunFault.TheVariants.{Read}
 use Rattle.runs.specs.declared.fault.RunFault.TheVariants.{TooLarge, Worker, Write}
+use Rattle.runs.specs.declared.fault.RunFault.TheVariants.{Symmetries}
 use Rattle.runs.specs.declared.reading.TheConstants.{MAX_BOARD_BYTES}
 
 -- ---- the number of bytes
@@ -165,6 +168,48 @@ untold_more known failed old middle new notice rounds first none second =
     subst (IsMore known failed old new) (append-nil notice)
     (then_more known failed old middle new notice [] first (subst (IsMore known failed middle new) none second))
 
+-- ---- of what was given
+
+module _ {Answer Other : Type 0} (IsGiven IsGivenToo : PlainBoard → Type 0) (IsMissing IsMissingToo : RunFault → Type 0)
+    (given : (board : PlainBoard) → IsGiven board → IsGivenToo board)
+    (missing : (fault : RunFault) → IsMissing fault → IsMissingToo fault) (shows : Bool) (told : List ℕ)
+    (result : Result Answer RunFault) (is : IsNoticed IsGiven IsMissing shows result told) where
+  pub given_then : (answer : Answer) → result ≡ Ok answer → (other : Result Other RunFault)
+      → IsNoticed IsGivenToo IsMissingToo shows other told
+  given_then answer ok other = by is
+    where
+      by : IsNoticed IsGiven IsMissing shows result told → IsNoticed IsGivenToo IsMissingToo shows other told
+      by (inl (board, is_given, rounds, are, told_is)) =
+          inl (
+            board,
+            given board is_given,
+            rounds,
+            other_result shows board result other (λ refused. let bad : ⊥ = cc in absurd bad) rounds are,
+            told_is,
+          )
+      by (inr (fault, broke, is_missing, none)) = cc
+
+  pub given_before : (fault : RunFault) → result ≡ Err fault
+      → IsNoticed {Answer = Other} IsGivenToo IsMissingToo shows (Err fault) told
+  given_before fault broke = by is
+    where
+      one : (other : RunFault) → result ≡ Err other → other ≡ fault
+      one other same = cc
+
+      by : IsNoticed IsGiven IsMissing shows result told
+          → IsNoticed {Answer = Other} IsGivenToo IsMissingToo shows (Err fault) told
+      by (inl (board, is_given, rounds, are, told_is)) =
+          inl (
+            board,
+            given board is_given,
+            rounds,
+            other_result {Other = Other} shows board result (Err fault) (λ refused. ap Err (sym (one Memory refused)))
+                rounds are,
+            told_is,
+          )
+      by (inr (other, same, is_missing, none)) =
+          inr (fault, refl, missing fault (subst IsMissing (one other same) is_missing), none)
+
 -- ---- of a board that is read
 
 module _ {Answer Other : Type 0} (limit : BoardLimit) (read : Bytes) (text : List ℕ)
@@ -172,39 +217,17 @@ module _ {Answer Other : Type 0} (limit : BoardLimit) (read : Bytes) (text : Lis
     (is : IsNoticedOfText limit text shows result told) where
   pub noticed_then : (answer : Answer) → result ≡ Ok answer → (other : Result Other RunFault)
       → IsNoticedInRun limit read shows other told
-  noticed_then answer ok other = by is
-    where
-      by : IsNoticedOfText limit text shows result told → IsNoticedInRun limit read shows other told
-      by (inl (board, within, rounds, are, told_is)) =
-          inl (
-            board,
-            (text, gave, within),
-            rounds,
-            other_result shows board result other (λ refused. let bad : ⊥ = cc in absurd bad) rounds are,
-            told_is,
-          )
-      by (inr (fault, broke, missing, none)) = cc
+  noticed_then =
+      given_then (IsBoardWithin limit text) (GaveBoard limit MAX_BOARD_BYTES read) (HasNoneWithin limit text)
+      (GaveNoBoard limit MAX_BOARD_BYTES read) (λ board within. (text, gave, within))
+      (λ fault lacking. inr (text, gave, lacking)) shows told result is
 
   pub noticed_before : (fault : RunFault) → result ≡ Err fault
       → IsNoticedInRun {Answer = Other} limit read shows (Err fault) told
-  noticed_before fault broke = by is
-    where
-      one : (other : RunFault) → result ≡ Err other → other ≡ fault
-      one other same = cc
-
-      by : IsNoticedOfText limit text shows result told
-          → IsNoticedInRun {Answer = Other} limit read shows (Err fault) told
-      by (inl (board, within, rounds, are, told_is)) =
-          inl (
-            board,
-            (text, gave, within),
-            rounds,
-            other_result {Other = Other} shows board result (Err fault) (λ refused. ap Err (sym (one Memory refused)))
-                rounds are,
-            told_is,
-          )
-      by (inr (other, same, missing, none)) =
-          inr (fault, refl, inr (text, gave, subst (HasNoneWithin limit text) (one other same) missing), none)
+  noticed_before =
+      given_before (IsBoardWithin limit text) (GaveBoard limit MAX_BOARD_BYTES read) (HasNoneWithin limit text)
+      (GaveNoBoard limit MAX_BOARD_BYTES read) (λ board within. (text, gave, within))
+      (λ fault lacking. inr (text, gave, lacking)) shows told result is
 
 -- ---- of a small board that is solved, nothing is told
 
@@ -217,6 +240,7 @@ unsolved workers text TooLarge cannot = inl cannot
 unsolved workers text DocumentTooLarge cannot = inl cannot
 unsolved workers text LastsForever cannot = inl cannot
 unsolved workers text TooManyChains cannot = inl cannot
+unsolved workers text (Symmetries why) cannot = inl cannot
 unsolved workers text (Proof fault) cannot = inl cannot
 unsolved workers text Read cannot = inl cannot
 unsolved workers text Write cannot = inl cannot
@@ -236,6 +260,7 @@ unsolved_for (Some side) workers text Worker cannot = unsolved workers text Work
 unsolved_for (Some side) workers text (Board fault) cannot = inl cannot
 unsolved_for (Some side) workers text TooLarge cannot = inl cannot
 unsolved_for (Some side) workers text TooManyChains cannot = inl cannot
+unsolved_for (Some side) workers text (Symmetries why) cannot = inl cannot
 unsolved_for (Some side) workers text (Proof fault) cannot = inl cannot
 unsolved_for (Some side) workers text Read cannot = inl cannot
 unsolved_for (Some side) workers text Write cannot = inl cannot

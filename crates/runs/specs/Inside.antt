@@ -3,4 +3,5 @@ pub mod Verdicts
 pub mod Counting
 pub mod Faults
 pub mod SolveRun
+pub mod Symmetries
 pub mod Chaining

@@ -17,5 +17,7 @@ pub mod Report
 pub mod ChainText
 pub mod StartText
 pub mod Notices
+pub mod Symmetries
+pub mod SymmetricSolveRun
 pub mod PlayRun
 pub mod Inside

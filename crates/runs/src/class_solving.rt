@@ -116,7 +116,7 @@ fn class_solution(
 }
 
 /// The text, as one part.
-fn whole(alloc: Global, text: String) -> Result<Vec<Vec<u8>>, Memory>
+pub(crate) fn whole(alloc: Global, text: String) -> Result<Vec<Vec<u8>>, Memory>
     ensures { IfOk result (λ parts. flat_map (λ part. part.items) parts.items ≡ string_bytes text) }
 {
     let mut parts = Vec::new(alloc);

@@ -10,6 +10,7 @@ use board_text::{BoardFault, BoardKind, Memory, ReadFault};
 use chains::ChainFault;
 use player::PlayFault;
 use positions::TooLarge;
+use proof_check::MapFault;
 use proof_text::{ProofFault, ProofKind};
 use solver::SolveFault;
 use std::alloc::AllocError;
@@ -30,6 +31,8 @@ pub enum RunFault {
     TooManyChains,
     /// The text of the document has a fault.
     Proof(ProofFault),
+    /// The symmetries that are given can't be taken.
+    Symmetries(SymmetriesFault),
     /// A growth of memory was refused.
     Memory,
     /// A thread couldn't be started.
@@ -40,6 +43,17 @@ pub enum RunFault {
     Write,
     /// The input is longer than it may be.
     Limit,
+}
+
+/// Why symmetries that are given can't be taken.
+#[derive(Clone, Copy, Debug, PartialEq, Eq)]
+pub enum SymmetriesFault {
+    /// Their text has a fault.
+    Text(ProofFault),
+    /// The map of this number, counted from 1, is no symmetry of the board's domain.
+    Map { number: u8, fault: MapFault },
+    /// The maps make more symmetries than `MAX_ELEMENTS`.
+    TooMany,
 }
 
 impl From<Memory> for RunFault {

@@ -1,6 +1,6 @@
 //! Laws of the texts that are written. Each is the contract of a function without a body.
 
-ghost use Rattle.std.specs.Prelude.{◌≡◌, ℕ, ◌+◌, ◌≤◌, ◌⊎◌, List, [], Option, Some, sum};
+ghost use Rattle.std.specs.Prelude.{◌≡◌, ℕ, ◌+◌, ◌≤◌, ◌⊎◌, List, [], Option, None, Some, sum};
 ghost use Rattle.positions.specs.Ranks.{configurations};
 ghost use Rattle.board_text.specs.PlainBoard.{PlainBoard, IsBoard, IsConfiguration};
 ghost use Rattle.board_text.specs.BoardText.{board_text};
@@ -21,8 +21,10 @@ ghost use Rattle.runs.specs.SolveRun.{IsSolution, IsSolved};
 ghost use Rattle.positions.specs.declared.side.Side.{Side as SideData};
 ghost use Rattle.runs.specs.SideSolveRun.{IsSideSolution, IsUnsolvedFor};
 ghost use Rattle.runs.specs.Texts.{HasNoBoard, HasNoProof, IsMemory, IsSmallBoard, IsWrongBoard};
-ghost use Rattle.runs.specs.Texts.{IsBoardAmong, IsWrongWithin, OfAnySize};
+ghost use Rattle.runs.specs.Texts.{IsBoardAmong, IsWithinLimit, IsWrongWithin, OfAnySize};
 ghost use Rattle.runs.specs.ClassSolveRun.{IsClassSolution, IsUnsolvedByClasses};
+ghost use Rattle.runs.specs.Symmetries.{HasSymmetries};
+ghost use Rattle.runs.specs.SymmetricSolveRun.{IsSolutionUpTo, IsUnsolvedUpTo};
 ghost use Rattle.runs.specs.CheckRun.{RanCheck};
 ghost use Rattle.runs.specs.Meaning.{AcceptsLeast, CanAnswer};
 ghost use Rattle.command_line.specs.declared.asked.BoardLimit.{BoardLimit as Limit};
@@ -32,6 +34,7 @@ ghost use Rattle.runs.specs.declared.verdicts.Verdict.{Verdict as VerdictData};
 ghost use Rattle.runs.specs.declared.verdicts.Verdict.TheVariants.{Accepted};
 
 use crate::checking::{MAX_JOINED_BYTES, MAX_PROOF_BYTES};
+use crate::given_symmetries::MAX_SYMMETRIES_BYTES;
 use crate::reading::MAX_BOARD_BYTES;
 use positions::MAX_CONFIGURATIONS;
 
@@ -192,6 +195,39 @@ pub fn side_solution_or_fault()
         → IsUnsolvedFor limit side text fault → ⊥ }
 {}
 
+/// What is written for a board that is solved up to symmetries of its domain claims the value of
+/// its start, and a check of the same board accepts it, or runs out of memory: the text has no fault.
+/// Each text of symmetries gives one such document and value, for a side alone or for both, or one
+/// fault: requests are answered for ever and the adversary is asked for alone, or the document is
+/// longer than a check reads. A text without symmetries of this domain has one fault at most, and
+/// no text has both a document and a fault.
+pub fn symmetric_solutions_are_accepted()
+    ensures verdict { (board : PlainBoard) → IsBoard board → (text : List ℕ) → (limit : Limit)
+        → IsWithinLimit limit board → (value : ValueData) → (written : List ℕ)
+        → IsSolutionUpTo None board text value written → (verdict : VerdictData)
+        → (line : List ℕ) → IsChecked board written verdict line
+        → IsAcceptance (claim_of value) verdict }
+    ensures faultless_document { (board : PlainBoard) → IsBoard board → (text : List ℕ)
+        → (limit : Limit) → IsWithinLimit limit board → (value : ValueData)
+        → (written : List ℕ) → IsSolutionUpTo None board text value written → (fault : Fault)
+        → HasNoProof board written fault → IsMemory fault }
+    ensures one { (board : PlainBoard) → IsBoard board → (text : List ℕ)
+        → (side : Option SideData) → (value : ValueData) → (worth : ValueData)
+        → (written : List ℕ) → (other : List ℕ) → IsSolutionUpTo side board text value written
+        → IsSolutionUpTo side board text worth other → (value ≡ worth) × (written ≡ other) }
+    ensures either { (board : PlainBoard) → IsBoard board → (text : List ℕ)
+        → (side : Option SideData) → HasSymmetries board text
+        → ((value : ValueData) × (written : List ℕ) × IsSolutionUpTo side board text value written)
+        ⊎ ((fault : Fault) × IsUnsolvedUpTo side board text fault) }
+    ensures one_fault { (board : PlainBoard) → IsBoard board → (text : List ℕ)
+        → (side : Option SideData) → (fault : Fault) → (other : Fault)
+        → IsUnsolvedUpTo side board text fault → IsUnsolvedUpTo side board text other
+        → fault ≡ other }
+    ensures not_both { (board : PlainBoard) → IsBoard board → (text : List ℕ)
+        → (side : Option SideData) → (value : ValueData) → (written : List ℕ) → (fault : Fault)
+        → IsSolutionUpTo side board text value written → IsUnsolvedUpTo side board text fault → ⊥ }
+{}
+
 /// The counts of a report add up to the number of configurations.
 #[tactic(auto, using(crate::proofs::CountSums::adds_up))]
 pub fn reports_add_up()
@@ -199,10 +235,11 @@ pub fn reports_add_up()
         → sum report.counts + report.forever ≡ configurations board }
 {}
 
-/// The most bytes that are read of a board, of a document and of a joined input. CONTRIBUTING.md
-/// lists what else says these numbers.
+/// The most bytes that are read of a board, of a document, of a joined input and of symmetries.
+/// CONTRIBUTING.md lists what else says these numbers.
 pub fn limits()
     ensures board { MAX_BOARD_BYTES ≡ 1048576 }
     ensures proof { MAX_PROOF_BYTES ≡ 134217728 }
     ensures joined { MAX_JOINED_BYTES ≡ 134217728 }
+    ensures symmetries { MAX_SYMMETRIES_BYTES ≡ 65536 }
 {}

@@ -8,6 +8,7 @@ mod checking;
 mod class_solving;
 mod counting;
 mod fault;
+mod given_symmetries;
 mod joined;
 mod laws;
 mod nesting;
@@ -18,6 +19,7 @@ mod reading;
 mod reporting;
 mod solving;
 mod starting;
+mod symmetric_solving;
 mod told_values;
 mod verdicts;
 mod work;
@@ -27,12 +29,14 @@ pub use chaining::Chaining;
 pub use checking::{
     JoinedRun, MAX_JOINED_BYTES, MAX_PROOF_BYTES, run_check, run_joined, run_keeping_text,
 };
-pub use fault::RunFault;
+pub use fault::{RunFault, SymmetriesFault};
+pub use given_symmetries::MAX_SYMMETRIES_BYTES;
 pub use joined::{board_length, one_board_length};
 pub use laws::{
     accepted_claims_hold, class_solutions_are_accepted, limits, printed_documents_are_accepted,
     report_or_fault, reports_add_up, side_solution_or_fault, solution_or_fault,
-    solved_boards_show_their_value, written_documents_mean_the_value,
+    solved_boards_show_their_value, symmetric_solutions_are_accepted,
+    written_documents_mean_the_value,
 };
 pub use nesting::run_nested;
 pub use playing::{Playing, run_climb, run_play};

@@ -2,16 +2,16 @@
 use Rattle.std.proofs.Common.{◌≡◌, ◌≢◌, ◌↔◌, ℕ, Bool, List, sym, ap, ◌∙◌, inl, inr}
 use Rattle.std.proofs.lemmas.Result.{MatchResult-from_both, IfErr-at_err, IfErr-weaker}
 use Rattle.std.specs.Prelude.{Result, Ok, Err, IfOk, IfErr}
+use Rattle.board_text.specs.PlainBoard.{PlainBoard}
 use Rattle.command_line.specs.declared.asked.BoardLimit.{BoardLimit}
 use Rattle.player.specs.declared.end.PlayEnd.{PlayEnd}
 use Rattle.positions.specs.declared.side.Side.{Side}
-use Rattle.runs.specs.CheckRun.{CheckFails, RanCheck}
 use Rattle.serving.specs.Folders.{File, OpensWith}
-use Rattle.serving.specs.Jobs.{Checks, Opening, Plays, WritesWhole}
+use Rattle.serving.specs.Jobs.{Opening, OpeningBoth, Plays, WritesWhole}
 use Rattle.serving.specs.Outcomes.{EndsAs, outcome_of_check, outcome_of_run}
+use Rattle.runs.specs.BoardRun.{FailsOn, RanOn}
 use Rattle.runs.specs.PlayRun.{PlayFails, RanPlay}
 use Rattle.runs.specs.Run.{Bytes, Fails, Ran, Stream}
-use Rattle.runs.specs.declared.checking.TheConstants.{MAX_PROOF_BYTES}
 use Rattle.runs.specs.declared.reading.TheConstants.{MAX_BOARD_BYTES}
 use Rattle.runs.specs.declared.fault.RunFault.{RunFault}
 use Rattle.runs.specs.declared.fault.RunFault.TheVariants.{Write}
@@ -55,13 +55,6 @@ module _ {A : Type 0} (told : Result A RunFault → Outcome)
   told_as fault breaks Failed same =
       ((λ failed. is ∙ ap told (same.0 failed) ∙ breaks), (λ broke. same.1 (broken r fault (sym is ∙ broke))))
 
--- the fact that a failed check kept its output may be exchanged for one that follows
-check_untouched : (board_limit proof_limit : ℕ) (Old New : Type 0) → (Old → New) → (board proof written : Bytes)
-    (fault : RunFault) → CheckFails board_limit proof_limit Old board proof written fault
-    → CheckFails board_limit proof_limit New board proof written fault
-check_untouched board_limit proof_limit Old New to board proof written fault (inl (none, kept)) = inl (none, to kept)
-check_untouched board_limit proof_limit Old New to board proof written fault (inr rest) = inr rest
-
 -- ---- jobs over files that were opened
 
 module _ {A : Type 0} (P : List ℕ → A → List ℕ → Type 0) (Cannot : List ℕ → RunFault → Type 0)
@@ -84,26 +77,40 @@ module _ {A : Type 0} (P : List ℕ → A → List ℕ → Type 0) (Cannot : Lis
     whole outcome_of_run broken_run r outcome is output.IsKept unwritten,
   )
 
-module _ (board proof : File) (b p : Bytes) (opens : OpensWith board b.old) (opens_too : OpensWith proof p.old)
-    (output : Stream) (r : Result Verdict RunFault) (outcome : Outcome) (is : outcome ≡ outcome_of_check r) where
-  pub opened_both : IfOk r (RanCheck MAX_BOARD_BYTES MAX_PROOF_BYTES b p output.bytes) → (Untouched : Type 0)
-      → (Untouched → p.new ≡ p.old)
-      → IfErr r (CheckFails MAX_BOARD_BYTES MAX_PROOF_BYTES Untouched b p output.bytes)
-      → IfErr r (λ fault. fault ≢ Write → output.IsKept) → Checks board proof output outcome
+-- of a run that reads a board in one file, and then another file
+module _ {A : Type 0} (told : Result A RunFault → Outcome)
+    (broken : (r : Result A RunFault) (fault : RunFault) → told r ≡ Broken fault → r ≡ Err fault)
+    (IsSmall : PlainBoard → Type 0) (IsRest : Bytes → PlainBoard → A → Type 0)
+    (RestFails : Bytes → PlainBoard → RunFault → Type 0) (first second : File) (one two : Bytes)
+    (opens : OpensWith first one.old) (opens_too : OpensWith second two.old) (output : Stream) (r : Result A RunFault)
+    (outcome : Outcome) (is : outcome ≡ told r) where
+  abbrev RanBoth : Bytes → Bytes → A → Type 0
+  RanBoth b p answer = RanOn IsSmall MAX_BOARD_BYTES b (λ board. IsRest p board answer)
+
+  abbrev BothFail : Bytes → Bytes → Type 0 → RunFault → Type 0
+  BothFail b p Untouched fault = FailsOn IsSmall MAX_BOARD_BYTES b Untouched (λ board. RestFails p board) fault
+
+  -- the fact that a failed run left the other file may be exchanged for one that follows
+  untouched : (Old New : Type 0) → (Old → New) → (fault : RunFault) → BothFail one two Old fault
+      → BothFail one two New fault
+  untouched Old New to fault (inl (none, kept)) = inl (none, to kept)
+  untouched Old New to fault (inr rest) = inr rest
+
+  pub opened_both : IfOk r (RanBoth one two) → (Untouched : Type 0) → (Untouched → two.new ≡ two.old)
+      → IfErr r (BothFail one two Untouched) → IfErr r (λ fault. fault ≢ Write → output.IsKept)
+      → OpeningBoth first second (λ b p. EndsAs told (RanBoth b p) (BothFail b p (p.new ≡ p.old))) outcome
+      × WritesWhole output outcome
   opened_both ok Untouched to fault unwritten = (
     inr (
-      b,
-      p,
+      one,
+      two,
       opens,
       opens_too,
-      ends outcome_of_check r (RanCheck MAX_BOARD_BYTES MAX_PROOF_BYTES b p output.bytes)
-          (CheckFails MAX_BOARD_BYTES MAX_PROOF_BYTES (p.new ≡ p.old) b p output.bytes) outcome is ok
-          (IfErr-weaker r (CheckFails MAX_BOARD_BYTES MAX_PROOF_BYTES Untouched b p output.bytes)
-          (CheckFails MAX_BOARD_BYTES MAX_PROOF_BYTES (p.new ≡ p.old) b p output.bytes)
-          (λ f h. check_untouched MAX_BOARD_BYTES MAX_PROOF_BYTES Untouched
-          (p.new ≡ p.old) to b p output.bytes f h) fault),
+      ends told r (RanBoth one two) (BothFail one two (two.new ≡ two.old)) outcome is ok
+          (IfErr-weaker r (BothFail one two Untouched) (BothFail one two (two.new ≡ two.old))
+          (untouched Untouched (two.new ≡ two.old) to) fault),
     ),
-    whole outcome_of_check broken_check r outcome is output.IsKept unwritten,
+    whole told broken r outcome is output.IsKept unwritten,
   )
 
 module _ (limit : BoardLimit) (side : Side) (file : File) (read : Bytes) (opens : OpensWith file read.old)

@@ -18,7 +18,7 @@ use Rattle.board_text.specs.declared.fault.BoardFault.{BoardFault}
 use Rattle.runs.proofs.Cited.{not_wrong, not_wrong_among, one_length, one_report, one_solution, one_verdict, one_wrong}
 use Rattle.runs.proofs.Cited.{class_solution_or_fault, one_class_solution, one_unsolved, one_wrong_among}
 use Rattle.runs.proofs.Cited.{one_side_solution, one_unsolved_for, one_wrong_proof, side_solution_or_fault}
-use Rattle.runs.proofs.Cited.{verdict_or_fault}
+use Rattle.runs.proofs.Cited.{one_symmetric_solution, one_unsolved_up_to, symmetric_solution_or_fault, verdict_or_fault}
 use Rattle.runs.proofs.Cited.{chains_or_fault, one_chain_fault, one_chains, one_starts, wrong_counting}
 use Rattle.runs.specs.ChainText.{CannotCountChains, HasNoChains, SaysChains}
 use Rattle.runs.specs.ClassSolveRun.{CannotSolveByClasses, IsClassSolution, IsUnsolvedByClasses}
@@ -46,12 +46,11 @@ use Rattle.player.specs.declared.end.PlayFault.TheVariants as play_faults
 use Rattle.runs.specs.Faults.{fault_of_play}
 use Rattle.runs.specs.PlayRun.{IsBrokenOff, IsOver, PlayFails, RanPlay, game_played}
 use Rattle.board_text.specs.BoardText.{board_text}
-use Rattle.runs.specs.BoardRun.{GaveBoard, GaveBoardAmong, GaveNoBoard, GaveNoneAmong}
-use Rattle.runs.specs.CheckRun.{CheckFails, RanCheck}
+use Rattle.runs.specs.BoardRun.{FailsOn, GaveBoard, GaveBoardAmong, GaveNoBoard, GaveNoneAmong, RanOn}
 use Rattle.serving.specs.Folders.{CanFail, Closed, File, Holds, Unknown}
 use Rattle.serving.specs.FaultLines.{line_of_fault}
-use Rattle.serving.specs.Jobs.{Checks, ChecksJoined, Climbs, Counts, CountsChains, IsDone, Opening, Plays, Solves}
-use Rattle.serving.specs.Jobs.{WritesNested, WritesStarts, WritesWhole}
+use Rattle.serving.specs.Jobs.{Checks, ChecksJoined, Climbs, Counts, CountsChains, IsDone, Opening, OpeningBoth}
+use Rattle.serving.specs.Jobs.{Plays, Solves, SolvesUpTo, WritesNested, WritesStarts, WritesWhole}
 use Rattle.runs.specs.NestedText.{IsNestedText}
 use Rattle.serving.specs.Outcomes.{EndsAs, outcome_of_check, outcome_of_run, status_of}
 use Rattle.runs.specs.Report.{Reports}
@@ -65,6 +64,8 @@ use Rattle.serving.proofs.Untold.{nothing_in_job}
 use Rattle.serving.specs.Servings.{AreKnown, AskForNoExplanation, HaveOwnText}
 use Rattle.runs.specs.SideSolveRun.{CannotSolveFor, IsSideSolution, IsUnsolvedFor}
 use Rattle.runs.specs.SolveRun.{CannotSolve, IsSolution}
+use Rattle.runs.specs.SymmetricSolveRun.{CannotSolveUpTo, IsSolutionUpTo, IsUnsolvedUpTo}
+use Rattle.runs.specs.declared.given_symmetries.TheConstants.{MAX_SYMMETRIES_BYTES}
 use Rattle.runs.specs.Texts.{HasNoneAmong, HasNoProof, IsBoardAmong, IsBoardWithin, IsWrongAmong, IsWrongBoard}
 use Rattle.runs.specs.Texts.{IsWithinLimit, IsWrongProof, IsWrongWithin, OfAnySize}
 use Rattle.command_line.specs.declared.asked.BoardLimit.{BoardLimit}
@@ -75,6 +76,7 @@ use Rattle.runs.specs.declared.reading.TheConstants.{MAX_BOARD_BYTES}
 use Rattle.runs.specs.declared.fault.RunFault.{RunFault}
 use Rattle.runs.specs.declared.fault.RunFault.TheVariants.{Board, TooLarge, Proof, Memory, Worker, Read, Write, Limit}
 use Rattle.runs.specs.declared.fault.RunFault.TheVariants.{DocumentTooLarge, LastsForever, TooManyChains}
+use Rattle.runs.specs.declared.fault.RunFault.TheVariants.{Symmetries}
 use Rattle.serving.specs.declared.outcome.Outcome.{Outcome}
 use Rattle.serving.specs.declared.outcome.Outcome.TheVariants.{Broken, Done, Refused}
 use Rattle.console.specs.declared.streams.Terminals.{Terminals}
@@ -106,6 +108,7 @@ wrong_solving limit workers text Read h = absurd h
 wrong_solving limit workers text Write h = absurd h
 wrong_solving limit workers text DocumentTooLarge h = absurd h
 wrong_solving limit workers text TooManyChains h = absurd h
+wrong_solving limit workers text (Symmetries why) h = absurd h
 wrong_solving limit workers text LastsForever h = absurd h
 wrong_solving limit workers text Limit h = absurd h
 
@@ -117,6 +120,7 @@ wrong_class_solving text (Board fault) h = inr (inr h)
 wrong_class_solving text TooLarge h = inr (inr h)
 wrong_class_solving text DocumentTooLarge h = inr (inr h)
 wrong_class_solving text TooManyChains h = absurd h
+wrong_class_solving text (Symmetries why) h = absurd h
 wrong_class_solving text LastsForever h = absurd h
 wrong_class_solving text (Proof fault) h = absurd h
 wrong_class_solving text Read h = absurd h
@@ -133,10 +137,27 @@ wrong_side_solving limit side workers text TooLarge h = inr (inr h)
 wrong_side_solving limit side workers text DocumentTooLarge h = inr (inr h)
 wrong_side_solving limit side workers text LastsForever h = inr (inr h)
 wrong_side_solving limit side workers text TooManyChains h = absurd h
+wrong_side_solving limit side workers text (Symmetries why) h = absurd h
 wrong_side_solving limit side workers text (Proof fault) h = absurd h
 wrong_side_solving limit side workers text Read h = absurd h
 wrong_side_solving limit side workers text Write h = absurd h
 wrong_side_solving limit side workers text Limit h = absurd h
+
+wrong_up_to : (side : Option Side) (board : PlainBoard) (text : List ℕ) (fault : RunFault)
+    → CannotSolveUpTo side board text fault
+    → (fault ≡ Memory) ⊎ (fault ≡ Worker) ⊎ IsUnsolvedUpTo side board text fault
+wrong_up_to side board text Memory h = inl refl
+wrong_up_to side board text (Symmetries why) h = inr (inr h)
+wrong_up_to side board text DocumentTooLarge h = inr (inr h)
+wrong_up_to side board text LastsForever h = inr (inr h)
+wrong_up_to side board text Worker h = absurd h
+wrong_up_to side board text (Board fault) h = absurd h
+wrong_up_to side board text TooLarge h = absurd h
+wrong_up_to side board text TooManyChains h = absurd h
+wrong_up_to side board text (Proof fault) h = absurd h
+wrong_up_to side board text Read h = absurd h
+wrong_up_to side board text Write h = absurd h
+wrong_up_to side board text Limit h = absurd h
 
 wrong_board : (IsSmall : PlainBoard → Type 0) (text : List ℕ) (fault : RunFault) → HasNoneAmong IsSmall text fault
     → (fault ≡ Memory) ⊎ IsWrongAmong IsSmall text fault
@@ -149,6 +170,7 @@ wrong_board IsSmall text Read h = absurd h
 wrong_board IsSmall text Write h = absurd h
 wrong_board IsSmall text DocumentTooLarge h = absurd h
 wrong_board IsSmall text TooManyChains h = absurd h
+wrong_board IsSmall text (Symmetries why) h = absurd h
 wrong_board IsSmall text LastsForever h = absurd h
 wrong_board IsSmall text Limit h = absurd h
 
@@ -163,6 +185,7 @@ wrong_proof board text Read h = absurd h
 wrong_proof board text Write h = absurd h
 wrong_proof board text DocumentTooLarge h = absurd h
 wrong_proof board text TooManyChains h = absurd h
+wrong_proof board text (Symmetries why) h = absurd h
 wrong_proof board text LastsForever h = absurd h
 wrong_proof board text Limit h = absurd h
 
@@ -242,117 +265,135 @@ module _ {Answer : Type 0} (Says : List ℕ → Answer → List ℕ → Type 0) 
       wrong MAX_BOARD_BYTES read bytes opens output
       taken had outcome (plain_of outcome fair unread) whole then
 
--- ---- a check of two files
+-- ---- a run that reads a board in one file, and then another file
 
--- the outcome and the line that the texts of a board and of a document ask for
-abbrev CheckEnds : List ℕ → List ℕ → Outcome → List ℕ → Type 0
-CheckEnds board_bytes proof_bytes outcome text =
-    ((MAX_BOARD_BYTES < length board_bytes) × (outcome ≡ Broken Limit) × (text ≡ []))
-    ⊎ ((length board_bytes ≤ MAX_BOARD_BYTES) × (fault : RunFault) × IsWrongAmong OfAnySize board_bytes fault ×
-    (outcome ≡ Broken fault) × (text ≡ []))
-    ⊎ ((length board_bytes ≤ MAX_BOARD_BYTES) × (board : PlainBoard) × IsBoardAmong OfAnySize board_bytes board
-    × Ends outcome_of_check (IsChecked board) (IsWrongProof board) MAX_PROOF_BYTES proof_bytes outcome text)
+module _ {Answer : Type 0} (IsSmall : PlainBoard → Type 0) (outcome_of : Result Answer RunFault → Outcome)
+    (Says : PlainBoard → List ℕ → Answer → List ℕ → Type 0) (Cannot IsWrong : PlainBoard → List ℕ → RunFault → Type 0)
+    (limit : ℕ) where
+  -- the outcome and the text that the texts of a board and of the other file ask for
+  abbrev BothEnd : List ℕ → List ℕ → Outcome → List ℕ → Type 0
+  BothEnd board_bytes more_bytes outcome text =
+      ((MAX_BOARD_BYTES < length board_bytes) × (outcome ≡ Broken Limit) × (text ≡ []))
+      ⊎ ((length board_bytes ≤ MAX_BOARD_BYTES) × (fault : RunFault) × IsWrongAmong IsSmall board_bytes fault ×
+      (outcome ≡ Broken fault) × (text ≡ []))
+      ⊎ ((length board_bytes ≤ MAX_BOARD_BYTES) × (board : PlainBoard) × IsBoardAmong IsSmall board_bytes board
+      × Ends outcome_of (Says board) (IsWrong board) limit more_bytes outcome text)
 
-one_check_end : (board_bytes proof_bytes : List ℕ) → IsOne (CheckEnds board_bytes proof_bytes)
-one_check_end b p outcome other text line (inl one) (inl two) = (one.1 ∙ sym two.1, one.2 ∙ sym two.2)
-one_check_end b p outcome other text line (inl one) (inr (inl two)) = absurd (omega (arith, one.0, two.0))
-one_check_end b p outcome other text line (inl one) (inr (inr two)) = absurd (omega (arith, one.0, two.0))
-one_check_end b p outcome other text line (inr (inl one)) (inl two) = absurd (omega (arith, one.0, two.0))
-one_check_end b p outcome other text line (inr (inl one)) (inr (inl two)) =
-    (one.3 ∙ ap Broken (one_wrong_among OfAnySize b one.1 two.1 one.2 two.2) ∙ sym two.3, one.4 ∙ sym two.4)
-one_check_end b p outcome other text line (inr (inl one)) (inr (inr two)) =
-    absurd (not_wrong_among OfAnySize b two.1 two.2 one.1 one.2)
-one_check_end b p outcome other text line (inr (inr one)) (inl two) = absurd (omega (arith, one.0, two.0))
-one_check_end b p outcome other text line (inr (inr one)) (inr (inl two)) =
-    absurd (not_wrong_among OfAnySize b one.1 one.2 two.1 two.2)
-one_check_end b p outcome other text line (inr (inr one)) (inr (inr (inside, board, small, two))) =
-    let same : one.1 ≡ board = one_board one.1 board one.2.is_board small.is_board
-    (sym one.2.spelled ∙ small.spelled) in
-    let first : Ends outcome_of_check (IsChecked board) (IsWrongProof board) MAX_PROOF_BYTES p outcome text =
-    subst (λ (d : PlainBoard). Ends outcome_of_check (IsChecked d)
-    (IsWrongProof d) MAX_PROOF_BYTES p outcome text) same one.3 in
-    one_end outcome_of_check (IsChecked board) (IsWrongProof board) MAX_PROOF_BYTES p (one_check board p small.is_board)
-    (one_wrong_proof board p small.is_board) (verdict_or_fault board p small.is_board) outcome other text line first two
+  one_both_end : ((board : PlainBoard) (bytes : List ℕ) → IsBoard board
+      → IsOne (Ends outcome_of (Says board) (IsWrong board) limit bytes))
+      → (board_bytes more_bytes : List ℕ) → IsOne (BothEnd board_bytes more_bytes)
+  one_both_end one_then b p outcome other text line (inl one) (inl two) = (one.1 ∙ sym two.1, one.2 ∙ sym two.2)
+  one_both_end one_then b p outcome other text line (inl one) (inr (inl two)) = absurd (omega (arith, one.0, two.0))
+  one_both_end one_then b p outcome other text line (inl one) (inr (inr two)) = absurd (omega (arith, one.0, two.0))
+  one_both_end one_then b p outcome other text line (inr (inl one)) (inl two) = absurd (omega (arith, one.0, two.0))
+  one_both_end one_then b p outcome other text line (inr (inl one)) (inr (inl two)) =
+      (one.3 ∙ ap Broken (one_wrong_among IsSmall b one.1 two.1 one.2 two.2) ∙ sym two.3, one.4 ∙ sym two.4)
+  one_both_end one_then b p outcome other text line (inr (inl one)) (inr (inr two)) =
+      absurd (not_wrong_among IsSmall b two.1 two.2 one.1 one.2)
+  one_both_end one_then b p outcome other text line (inr (inr one)) (inl two) = absurd (omega (arith, one.0, two.0))
+  one_both_end one_then b p outcome other text line (inr (inr one)) (inr (inl two)) =
+      absurd (not_wrong_among IsSmall b one.1 one.2 two.1 two.2)
+  one_both_end one_then b p outcome other text line (inr (inr one)) (inr (inr (inside, board, small, two))) =
+      let same : one.1 ≡ board = one_board one.1 board one.2.is_board small.is_board
+      (sym one.2.spelled ∙ small.spelled) in
+      let first : Ends outcome_of (Says board) (IsWrong board) limit p outcome text =
+      subst (λ (d : PlainBoard). Ends outcome_of (Says d) (IsWrong d) limit p outcome text) same one.3 in
+      one_then board p small.is_board outcome other text line first two
 
-module _ (output : Stream) (taken : List ℕ) (had : Had output taken) (outcome : Outcome) (fair : IsFair outcome)
-    (whole : WritesWhole output outcome) where
-  kept_by : (fault : RunFault) → fault ≢ Write → outcome ≡ Broken fault → output.bytes.new ≡ Some (taken ++ [])
-  kept_by fault other same = stayed output taken had (whole fault same other)
+  abbrev RanBoth : Bytes → Bytes → Stream → Answer → Type 0
+  RanBoth b p output answer =
+      RanOn IsSmall MAX_BOARD_BYTES b (λ board. Ran (Says board) limit p output.bytes answer)
 
-  module _ (b p : Bytes) (board_bytes proof_bytes : List ℕ) (old : b.old ≡ Some board_bytes)
-      (old_too : p.old ≡ Some proof_bytes)
-      (read : outcome ≢ Broken Read) where
-    abbrev Checked : Type 0
-    Checked = EndsBy output taken (CheckEnds board_bytes proof_bytes) outcome
+  abbrev BothFail : Bytes → Bytes → Stream → Type 0 → RunFault → Type 0
+  BothFail b p output Untouched fault =
+      FailsOn IsSmall MAX_BOARD_BYTES b Untouched
+      (λ board. Fails (Says board) (Cannot board) limit p output.bytes) fault
 
-    with_board : (board : PlainBoard) → GaveBoardAmong OfAnySize MAX_BOARD_BYTES b board
-        → EndsAs outcome_of_check (Ran (IsChecked board) MAX_PROOF_BYTES p output.bytes)
-        (Fails (IsChecked board) (HasNoProof board) MAX_PROOF_BYTES p output.bytes) outcome → Checked
-    with_board board (text, gave, small) run =
-        let all : text ≡ board_bytes = gave_all b board_bytes text old gave.0 in
-        let end = ends outcome_of_check check_breaks (IsChecked board) (HasNoProof board) (IsWrongProof board)
-        (wrong_proof board)
-        MAX_PROOF_BYTES p proof_bytes old_too output taken had outcome (plain_of outcome fair read) whole run in (
-          end.0,
-          end.1,
-          inr (inr (
-            subst (λ t. length t ≤ MAX_BOARD_BYTES) all gave.1,
-            board,
-            subst
-                (λ t. IsBoardAmong OfAnySize t board) all small,
-            end.2,
-          )),
-        )
+  module _ (breaks : (fault : RunFault) → outcome_of (Err fault) ≡ Broken fault)
+      (wrong : (board : PlainBoard) (text : List ℕ) (fault : RunFault) → Cannot board text fault
+      → (fault ≡ Memory) ⊎ (fault ≡ Worker) ⊎ IsWrong board text fault)
+      (output : Stream) (taken : List ℕ) (had : Had output taken) (outcome : Outcome) (fair : IsFair outcome)
+      (whole : WritesWhole output outcome) where
+    kept_by : (fault : RunFault) → fault ≢ Write → outcome ≡ Broken fault → output.bytes.new ≡ Some (taken ++ [])
+    kept_by fault other same = stayed output taken had (whole fault same other)
 
-    without_board : (fault : RunFault) → outcome ≡ Broken fault → GaveNoneAmong OfAnySize MAX_BOARD_BYTES b fault
-        → Checked
-    without_board fault same (inl unread) =
-        let over = unread_is MAX_BOARD_BYTES b board_bytes fault outcome old (plain_of outcome fair read) same unread in
-        ([], kept_by Limit (λ e. cc) over.1, inl (over.0, over.1, refl))
-    without_board fault same (inr (text, gave, none)) = elim (wrong_board OfAnySize text fault none) [
-      | inl memory ↦ absurd (fair.memory (same ∙ ap Broken memory))
-      | inr bad ↦
-          let all : text ≡ board_bytes = gave_all b board_bytes text old gave.0 in (
-            [],
-            kept_by fault (λ e. fair.write (same ∙ ap Broken e)) same,
-            inr (inl (
+    module _ (b p : Bytes) (board_bytes more_bytes : List ℕ) (old : b.old ≡ Some board_bytes)
+        (old_too : p.old ≡ Some more_bytes)
+        (read : outcome ≢ Broken Read) where
+      abbrev BothEnded : Type 0
+      BothEnded = EndsBy output taken (BothEnd board_bytes more_bytes) outcome
+
+      with_board : (board : PlainBoard) → GaveBoardAmong IsSmall MAX_BOARD_BYTES b board
+          → EndsAs outcome_of (Ran (Says board) limit p output.bytes)
+          (Fails (Says board) (Cannot board) limit p output.bytes) outcome → BothEnded
+      with_board board (text, gave, small) run =
+          let all : text ≡ board_bytes = gave_all b board_bytes text old gave.0 in
+          let end = ends outcome_of breaks (Says board) (Cannot board) (IsWrong board) (wrong board) limit p more_bytes
+          old_too output taken had outcome (plain_of outcome fair read) whole run in (
+            end.0,
+            end.1,
+            inr (inr (
               subst (λ t. length t ≤ MAX_BOARD_BYTES) all gave.1,
-              fault,
+              board,
               subst
-                  (λ t. IsWrongAmong OfAnySize t fault) all bad,
-              same,
-              refl,
+                  (λ t. IsBoardAmong IsSmall t board) all small,
+              end.2,
             )),
           )
-    ]
 
-    checked : (Untouched : Type 0) → EndsAs outcome_of_check (RanCheck MAX_BOARD_BYTES MAX_PROOF_BYTES b p output.bytes)
-        (CheckFails MAX_BOARD_BYTES MAX_PROOF_BYTES Untouched b p output.bytes) outcome → Checked
-    checked Untouched (result, match, same) = go result match same
-      where
-        go : (result : Result Verdict RunFault) → MatchResult result
-            (RanCheck MAX_BOARD_BYTES MAX_PROOF_BYTES b p output.bytes)
-            (CheckFails MAX_BOARD_BYTES MAX_PROOF_BYTES Untouched b p output.bytes) → outcome ≡ outcome_of_check result
-            → Checked
-        go (Ok verdict) (board, gave, ran) same = with_board board gave (Ok verdict, ran, same)
-        go (Err fault) (inl (none, untouched)) same = without_board fault same none
-        go (Err fault) (inr (board, gave, fails)) same = with_board board gave (Err fault, fails, same)
+      without_board : (fault : RunFault) → outcome ≡ Broken fault → GaveNoneAmong IsSmall MAX_BOARD_BYTES b fault
+          → BothEnded
+      without_board fault same (inl unread) =
+          let over =
+          unread_is MAX_BOARD_BYTES b board_bytes fault outcome old (plain_of outcome fair read) same unread in
+          ([], kept_by Limit (λ e. cc) over.1, inl (over.0, over.1, refl))
+      without_board fault same (inr (text, gave, none)) = elim (wrong_board IsSmall text fault none) [
+        | inl memory ↦ absurd (fair.memory (same ∙ ap Broken memory))
+        | inr bad ↦
+            let all : text ≡ board_bytes = gave_all b board_bytes text old gave.0 in (
+              [],
+              kept_by fault (λ e. fair.write (same ∙ ap Broken e)) same,
+              inr (inl (
+                subst (λ t. length t ≤ MAX_BOARD_BYTES) all gave.1,
+                fault,
+                subst
+                    (λ t. IsWrongAmong IsSmall t fault) all bad,
+                same,
+                refl,
+              )),
+            )
+      ]
 
-  both_opened : (board proof : File) → board ≢ Unknown → proof ≢ Unknown →
-      (outcome ≡ Broken Read → CanFail board ⊎ CanFail proof)
-      → Checks board proof output outcome → EndsBy output taken (PairEnds CheckEnds board proof) outcome
-  both_opened Unknown proof known known_too unread is = absurd (known refl)
-  both_opened Closed proof known known_too unread (inl (can, same), _) = ([], kept_by Read (λ e. cc) same, (same, refl))
-  both_opened Closed proof known known_too unread (inr (b, p, opens, opens_too, end), _) = absurd opens
-  both_opened (Holds bytes) Unknown known known_too unread is = absurd (known_too refl)
-  both_opened (Holds bytes) Closed known known_too unread (inl (can, same), _) =
-      ([], kept_by Read (λ e. cc) same, (same, refl))
-  both_opened (Holds bytes) Closed known known_too unread (inr (b, p, opens, opens_too, end), _) = absurd opens_too
-  both_opened (Holds bytes) (Holds more) known known_too unread (inl (inl can, same), _) = absurd can
-  both_opened (Holds bytes) (Holds more) known known_too unread (inl (inr can, same), _) = absurd can
-  both_opened (Holds bytes) (Holds more) known known_too unread (inr (b, p, opens, opens_too, end), _) =
-      checked b p bytes more opens opens_too (λ e. elim (unread e) [ inl bad ↦ bad | inr bad ↦ bad ])
-      (p.new ≡ p.old) end
+      both_ended : (Untouched : Type 0) → EndsAs outcome_of (RanBoth b p output) (BothFail b p output Untouched) outcome
+          → BothEnded
+      both_ended Untouched (result, match, same) = go result match same
+        where
+          go : (result : Result Answer RunFault) → MatchResult result (RanBoth b p output)
+              (BothFail b p output Untouched) → outcome ≡ outcome_of result → BothEnded
+          go (Ok answer) (board, gave, ran) same = with_board board gave (Ok answer, ran, same)
+          go (Err fault) (inl (none, untouched)) same = without_board fault (same ∙ breaks fault) none
+          go (Err fault) (inr (board, gave, fails)) same = with_board board gave (Err fault, fails, same)
+
+    abbrev Opens : File → File → Type 0
+    Opens first second =
+        OpeningBoth first second (λ b p. EndsAs outcome_of (RanBoth b p output) (BothFail b p output (p.new ≡ p.old)))
+        outcome
+
+    both_opened : (first second : File) → first ≢ Unknown → second ≢ Unknown
+        → (outcome ≡ Broken Read → CanFail first ⊎ CanFail second) → Opens first second
+        → EndsBy output taken (PairEnds BothEnd first second) outcome
+    both_opened Unknown second known known_too unread is = absurd (known refl)
+    both_opened Closed second known known_too unread (inl (can, same)) = ([], kept_by Read (λ e. cc) same, (same, refl))
+    both_opened Closed second known known_too unread (inr (b, p, opens, opens_too, end)) = absurd opens
+    both_opened (Holds bytes) Unknown known known_too unread is = absurd (known_too refl)
+    both_opened (Holds bytes) Closed known known_too unread (inl (can, same)) =
+        ([], kept_by Read (λ e. cc) same, (same, refl))
+    both_opened (Holds bytes) Closed known known_too unread (inr (b, p, opens, opens_too, end)) = absurd opens_too
+    both_opened (Holds bytes) (Holds more) known known_too unread (inl (inl can, same)) = absurd can
+    both_opened (Holds bytes) (Holds more) known known_too unread (inl (inr can, same)) = absurd can
+    both_opened (Holds bytes) (Holds more) known known_too unread (inr (b, p, opens, opens_too, end)) =
+        both_ended b p bytes more opens opens_too (λ e. elim (unread e) [ inl bad ↦ bad | inr bad ↦ bad ])
+        (p.new ≡ p.old) end
 
 -- ---- a nested board
 
@@ -390,6 +431,7 @@ module _ (text : List ℕ) where
   wrong_joined Write h = inr (inr h)
   wrong_joined DocumentTooLarge h = inr (inr h)
   wrong_joined TooManyChains h = inr (inr h)
+  wrong_joined (Symmetries why) h = inr (inr h)
   wrong_joined LastsForever h = inr (inr h)
   wrong_joined Limit h = inr (inr h)
 
@@ -421,6 +463,7 @@ module _ (text : List ℕ) where
   wrong_text_is Write h = inr h
   wrong_text_is DocumentTooLarge h = inr h
   wrong_text_is TooManyChains h = inr h
+  wrong_text_is (Symmetries why) h = inr h
   wrong_text_is LastsForever h = inr h
   wrong_text_is Limit h = inr h
 
@@ -822,19 +865,67 @@ module _ (at : List ℕ → File) (known : AreKnown at) (input output other_inpu
       (opened (SaysChains more) (CannotCountChains more) (HasNoChains more) (wrong_counting more) other_output taken
       had_too other fair_too also.1 (at second) (known second) unread_too also.0)
 
+  -- of runs on a board in one file and on another file
+  two_opened : {Answer : Type 0} (IsSmall : PlainBoard → Type 0) (outcome_of : Result Answer RunFault → Outcome)
+      (Says : PlainBoard → List ℕ → Answer → List ℕ → Type 0)
+      (Cannot IsWrong : PlainBoard → List ℕ → RunFault → Type 0) (limit : ℕ)
+      → ((board : PlainBoard) (bytes : List ℕ) → IsBoard board
+      → IsOne (Ends outcome_of (Says board) (IsWrong board) limit bytes))
+      → ((fault : RunFault) → outcome_of (Err fault) ≡ Broken fault)
+      → ((board : PlainBoard) (text : List ℕ) (fault : RunFault) → Cannot board text fault
+      → (fault ≡ Memory) ⊎ (fault ≡ Worker) ⊎ IsWrong board text fault)
+      → (path second paper others : List ℕ) → path ≡ second → paper ≡ others
+      → (outcome ≡ Broken Read → CanFail (at path) ⊎ CanFail (at paper))
+      → (other ≡ Broken Read → CanFail (at second) ⊎ CanFail (at others))
+      → OpeningBoth (at path) (at paper) (λ b p. EndsAs outcome_of
+      (RanBoth IsSmall outcome_of Says Cannot IsWrong limit b p output)
+      (BothFail IsSmall outcome_of Says Cannot IsWrong limit b p output (p.new ≡ p.old))) outcome
+      × WritesWhole output outcome
+      → OpeningBoth (at second) (at others) (λ b p. EndsAs outcome_of
+      (RanBoth IsSmall outcome_of Says Cannot IsWrong limit b p other_output)
+      (BothFail IsSmall outcome_of Says Cannot IsWrong limit b p other_output (p.new ≡ p.old))) other
+      × WritesWhole other_output other
+      → AreAlike outcome other output other_output
+  two_opened IsSmall outcome_of Says Cannot IsWrong limit one breaks wrong path second paper others same same_too
+      unread unread_too is also =
+      let Both : List ℕ → List ℕ → Outcome → List ℕ → Type 0 = BothEnd IsSmall outcome_of Says Cannot IsWrong limit in
+      alike (PairEnds Both (at second) (at others))
+      (one_pair Both (one_both_end IsSmall outcome_of Says Cannot IsWrong limit one) (at second) (at others))
+      outcome other output other_output taken
+      (subst (λ p. EndsBy output taken (PairEnds Both (at p) (at others)) outcome) same
+      (subst (λ p. EndsBy output taken (PairEnds Both (at path) (at p)) outcome) same_too
+      (both_opened IsSmall outcome_of Says Cannot IsWrong limit breaks wrong output taken had outcome fair is.1
+      (at path) (at paper) (known path) (known paper) unread is.0)))
+      (both_opened IsSmall outcome_of Says Cannot IsWrong limit breaks wrong other_output taken had_too other fair_too
+      also.1 (at second) (at others) (known second) (known others) unread_too also.0)
+
   two_checked : (path second document paper : List ℕ) → path ≡ second → document ≡ paper
       → (outcome ≡ Broken Read → CanFail (at path) ⊎ CanFail (at document)) →
       (other ≡ Broken Read → CanFail (at second) ⊎ CanFail (at paper))
       → Checks (at path) (at document) output outcome → Checks (at second) (at paper) other_output other
       → AreAlike outcome other output other_output
-  two_checked path second document paper same same_too unread unread_too is also =
-      alike (PairEnds CheckEnds (at second) (at paper))
-      (one_pair CheckEnds one_check_end (at second) (at paper)) outcome other output other_output taken
-      (subst (λ p. EndsBy output taken (PairEnds CheckEnds (at p) (at paper)) outcome) same
-      (subst (λ p. EndsBy output taken (PairEnds CheckEnds (at path) (at p)) outcome) same_too
-      (both_opened output taken had outcome fair is.1 (at path) (at document) (known path) (known document) unread is)))
-      (both_opened other_output taken had_too other fair_too also.1 (at second) (at paper) (known second)
-      (known paper) unread_too also)
+  two_checked path second document paper =
+      two_opened OfAnySize outcome_of_check IsChecked HasNoProof IsWrongProof MAX_PROOF_BYTES
+      (λ board bytes is. one_end outcome_of_check (IsChecked board) (IsWrongProof board) MAX_PROOF_BYTES bytes
+      (one_check board bytes is) (one_wrong_proof board bytes is) (verdict_or_fault board bytes is))
+      check_breaks wrong_proof path second document paper
+
+  two_up_to : (side : Option Side) (limit : BoardLimit) (path second given others : List ℕ) → path ≡ second
+      → given ≡ others
+      → (outcome ≡ Broken Read → CanFail (at path) ⊎ CanFail (at given)) →
+      (other ≡ Broken Read → CanFail (at second) ⊎ CanFail (at others))
+      → SolvesUpTo side limit (at path) (at given) output outcome
+      → SolvesUpTo side limit (at second) (at others) other_output other
+      → AreAlike outcome other output other_output
+  two_up_to side limit path second given others =
+      two_opened (IsWithinLimit limit) (outcome_of_run {Answer = Value}) (IsSolutionUpTo side) (CannotSolveUpTo side)
+      (IsUnsolvedUpTo side) MAX_SYMMETRIES_BYTES
+      (λ board bytes is. one_end outcome_of_run (IsSolutionUpTo side board) (IsUnsolvedUpTo side board)
+      MAX_SYMMETRIES_BYTES bytes
+      (λ answer other line more is_so also.
+      (refl, (one_symmetric_solution board is bytes side answer other line more is_so also).1))
+      (one_unsolved_up_to board is bytes side) (symmetric_solution_or_fault board is bytes side))
+      (run_breaks Value) (wrong_up_to side) path second given others
 
   two_nested : (levels pebbles more others : ℕ) → levels ≡ more → pebbles ≡ others
       → WritesNested levels pebbles output outcome → WritesNested more others other_output other
@@ -932,7 +1023,7 @@ module _ (at : List ℕ → File) (known : AreKnown at) (input output other_inpu
       is.unread also.unread is.does.0 also.does.0
   two_done name rows (jobs.Check b p) (jobs.Nested ol oq) asks asks_too is also =
       absurd (names_differ (codes "check") (codes "nested") refl (sym asks.0 ∙ asks_too.0))
-  two_done name rows (jobs.Check b p) (jobs.Solve ow os og ob) asks asks_too is also =
+  two_done name rows (jobs.Check b p) (jobs.Solve ow os og oy ob) asks asks_too is also =
       absurd (names_differ (codes "check") (codes "solve") refl (sym asks.0 ∙ asks_too.0))
   two_done name rows (jobs.Check b p) (jobs.Report ow og ob) asks asks_too is also =
       absurd (names_differ (codes "check") (codes "report") refl (sym asks.0 ∙ asks_too.0))
@@ -951,7 +1042,7 @@ module _ (at : List ℕ → File) (known : AreKnown at) (input output other_inpu
       two_nested l q ol oq (same_number rows (codes "levels") _ l ol asks.1 asks_too.1)
       (same_number rows (codes "pebbles") _ q oq asks.2 asks_too.2)
       is.does.0 also.does.0
-  two_done name rows (jobs.Nested l q) (jobs.Solve ow os og ob) asks asks_too is also =
+  two_done name rows (jobs.Nested l q) (jobs.Solve ow os og oy ob) asks asks_too is also =
       absurd (names_differ (codes "nested") (codes "solve") refl (sym asks.0 ∙ asks_too.0))
   two_done name rows (jobs.Nested l q) (jobs.Report ow og ob) asks asks_too is also =
       absurd (names_differ (codes "nested") (codes "report") refl (sym asks.0 ∙ asks_too.0))
@@ -963,32 +1054,43 @@ module _ (at : List ℕ → File) (known : AreKnown at) (input output other_inpu
       absurd (names_differ (codes "nested") (codes "play") refl (sym asks.0 ∙ asks_too.0))
   two_done name rows (jobs.Nested l q) (jobs.Climb ol) asks asks_too is also =
       absurd (names_differ (codes "nested") (codes "climb") refl (sym asks.0 ∙ asks_too.0))
-  two_done name rows (jobs.Solve w s g b) jobs.Joined asks asks_too is also = absurd asks_too
-  two_done name rows (jobs.Solve w s g b) (jobs.Check ob op) asks asks_too is also =
+  two_done name rows (jobs.Solve w s g y b) jobs.Joined asks asks_too is also = absurd asks_too
+  two_done name rows (jobs.Solve w s g y b) (jobs.Check ob op) asks asks_too is also =
       absurd (names_differ (codes "solve") (codes "check") refl (sym asks.0 ∙ asks_too.0))
-  two_done name rows (jobs.Solve w s g b) (jobs.Nested ol oq) asks asks_too is also =
+  two_done name rows (jobs.Solve w s g y b) (jobs.Nested ol oq) asks asks_too is also =
       absurd (names_differ (codes "solve") (codes "nested") refl (sym asks.0 ∙ asks_too.0))
-  two_done name rows (jobs.Solve w s g b) (jobs.Solve ow os og ob) asks asks_too is also =
-      two_solved w ow os og b.now ob.now (same_path _ b.now ob.now asks.4 asks_too.4) is.unread also.unread
+  two_done name rows (jobs.Solve w s g None b) (jobs.Solve ow os og None ob) asks asks_too is also =
+      two_solved w ow os og b.now ob.now (same_path _ b.now ob.now asks.5 asks_too.5) is.unread also.unread
       (subst (λ l. Solves w os l (at b.now) output outcome) (same_limit rows g og asks.3 asks_too.3)
       (subst (λ t. Solves w t g (at b.now) output outcome) (same_side rows s os asks.2 asks_too.2) is.does.0))
       also.does.0
-  two_done name rows (jobs.Solve w s g b) (jobs.Report ow og ob) asks asks_too is also =
+  two_done name rows (jobs.Solve w s g None b) (jobs.Solve ow os og (Some oy) ob) asks asks_too is also =
+      absurd (no_text (sym asks_too.4 ∙ asks.4))
+  two_done name rows (jobs.Solve w s g (Some y) b) (jobs.Solve ow os og None ob) asks asks_too is also =
+      absurd (no_text (sym asks.4 ∙ asks_too.4))
+  two_done name rows (jobs.Solve w s g (Some y) b) (jobs.Solve ow os og (Some oy) ob) asks asks_too is also =
+      two_up_to os og b.now ob.now y.now oy.now (same_path _ b.now ob.now asks.5 asks_too.5)
+      (same_path _ y.now oy.now asks.4 asks_too.4) is.unread also.unread
+      (subst (λ l. SolvesUpTo os l (at b.now) (at y.now) output outcome) (same_limit rows g og asks.3 asks_too.3)
+      (subst (λ t. SolvesUpTo t g (at b.now) (at y.now) output outcome) (same_side rows s os asks.2 asks_too.2)
+      is.does.0))
+      also.does.0
+  two_done name rows (jobs.Solve w s g y b) (jobs.Report ow og ob) asks asks_too is also =
       absurd (names_differ (codes "solve") (codes "report") refl (sym asks.0 ∙ asks_too.0))
-  two_done name rows (jobs.Solve w s g b) (jobs.Starts ow og ob) asks asks_too is also =
+  two_done name rows (jobs.Solve w s g y b) (jobs.Starts ow og ob) asks asks_too is also =
       absurd (names_differ (codes "solve") (codes "starts") refl (sym asks.0 ∙ asks_too.0))
-  two_done name rows (jobs.Solve w s g b) (jobs.Chains ow om ob) asks asks_too is also =
+  two_done name rows (jobs.Solve w s g y b) (jobs.Chains ow om ob) asks asks_too is also =
       absurd (names_differ (codes "solve") (codes "chains") refl (sym asks.0 ∙ asks_too.0))
-  two_done name rows (jobs.Solve w s g b) (jobs.Play os og ob) asks asks_too is also =
+  two_done name rows (jobs.Solve w s g y b) (jobs.Play os og ob) asks asks_too is also =
       absurd (names_differ (codes "solve") (codes "play") refl (sym asks.0 ∙ asks_too.0))
-  two_done name rows (jobs.Solve w s g b) (jobs.Climb ol) asks asks_too is also =
+  two_done name rows (jobs.Solve w s g y b) (jobs.Climb ol) asks asks_too is also =
       absurd (names_differ (codes "solve") (codes "climb") refl (sym asks.0 ∙ asks_too.0))
   two_done name rows (jobs.Report w g b) jobs.Joined asks asks_too is also = absurd asks_too
   two_done name rows (jobs.Report w g b) (jobs.Check ob op) asks asks_too is also =
       absurd (names_differ (codes "report") (codes "check") refl (sym asks.0 ∙ asks_too.0))
   two_done name rows (jobs.Report w g b) (jobs.Nested ol oq) asks asks_too is also =
       absurd (names_differ (codes "report") (codes "nested") refl (sym asks.0 ∙ asks_too.0))
-  two_done name rows (jobs.Report w g b) (jobs.Solve ow os og ob) asks asks_too is also =
+  two_done name rows (jobs.Report w g b) (jobs.Solve ow os og oy ob) asks asks_too is also =
       absurd (names_differ (codes "report") (codes "solve") refl (sym asks.0 ∙ asks_too.0))
   two_done name rows (jobs.Report w g b) (jobs.Report ow og ob) asks asks_too is also =
       two_counted w ow og b.now ob.now (same_path _ b.now ob.now asks.3 asks_too.3) is.unread also.unread
@@ -1008,7 +1110,7 @@ module _ (at : List ℕ → File) (known : AreKnown at) (input output other_inpu
       absurd (names_differ (codes "starts") (codes "check") refl (sym asks.0 ∙ asks_too.0))
   two_done name rows (jobs.Starts w g b) (jobs.Nested ol oq) asks asks_too is also =
       absurd (names_differ (codes "starts") (codes "nested") refl (sym asks.0 ∙ asks_too.0))
-  two_done name rows (jobs.Starts w g b) (jobs.Solve ow os og ob) asks asks_too is also =
+  two_done name rows (jobs.Starts w g b) (jobs.Solve ow os og oy ob) asks asks_too is also =
       absurd (names_differ (codes "starts") (codes "solve") refl (sym asks.0 ∙ asks_too.0))
   two_done name rows (jobs.Starts w g b) (jobs.Report ow og ob) asks asks_too is also =
       absurd (names_differ (codes "starts") (codes "report") refl (sym asks.0 ∙ asks_too.0))
@@ -1028,7 +1130,7 @@ module _ (at : List ℕ → File) (known : AreKnown at) (input output other_inpu
       absurd (names_differ (codes "chains") (codes "check") refl (sym asks.0 ∙ asks_too.0))
   two_done name rows (jobs.Chains w m b) (jobs.Nested ol oq) asks asks_too is also =
       absurd (names_differ (codes "chains") (codes "nested") refl (sym asks.0 ∙ asks_too.0))
-  two_done name rows (jobs.Chains w m b) (jobs.Solve ow os og ob) asks asks_too is also =
+  two_done name rows (jobs.Chains w m b) (jobs.Solve ow os og oy ob) asks asks_too is also =
       absurd (names_differ (codes "chains") (codes "solve") refl (sym asks.0 ∙ asks_too.0))
   two_done name rows (jobs.Chains w m b) (jobs.Report ow og ob) asks asks_too is also =
       absurd (names_differ (codes "chains") (codes "report") refl (sym asks.0 ∙ asks_too.0))
@@ -1046,7 +1148,7 @@ module _ (at : List ℕ → File) (known : AreKnown at) (input output other_inpu
       absurd (names_differ (codes "play") (codes "check") refl (sym asks.0 ∙ asks_too.0))
   two_done name rows (jobs.Play s g b) (jobs.Nested ol oq) asks asks_too is also =
       absurd (names_differ (codes "play") (codes "nested") refl (sym asks.0 ∙ asks_too.0))
-  two_done name rows (jobs.Play s g b) (jobs.Solve ow os og ob) asks asks_too is also =
+  two_done name rows (jobs.Play s g b) (jobs.Solve ow os og oy ob) asks asks_too is also =
       absurd (names_differ (codes "play") (codes "solve") refl (sym asks.0 ∙ asks_too.0))
   two_done name rows (jobs.Play s g b) (jobs.Report ow og ob) asks asks_too is also =
       absurd (names_differ (codes "play") (codes "report") refl (sym asks.0 ∙ asks_too.0))
@@ -1067,7 +1169,7 @@ module _ (at : List ℕ → File) (known : AreKnown at) (input output other_inpu
       absurd (names_differ (codes "climb") (codes "check") refl (sym asks.0 ∙ asks_too.0))
   two_done name rows (jobs.Climb l) (jobs.Nested ol oq) asks asks_too is also =
       absurd (names_differ (codes "climb") (codes "nested") refl (sym asks.0 ∙ asks_too.0))
-  two_done name rows (jobs.Climb l) (jobs.Solve ow os og ob) asks asks_too is also =
+  two_done name rows (jobs.Climb l) (jobs.Solve ow os og oy ob) asks asks_too is also =
       absurd (names_differ (codes "climb") (codes "solve") refl (sym asks.0 ∙ asks_too.0))
   two_done name rows (jobs.Climb l) (jobs.Report ow og ob) asks asks_too is also =
       absurd (names_differ (codes "climb") (codes "report") refl (sym asks.0 ∙ asks_too.0))
@@ -1190,7 +1292,7 @@ typed_by_name : (name : Text) (rows : List Row) (job : Job) → AsksFor name row
 typed_by_name name rows jobs.Joined asks = absurd asks
 typed_by_name name rows (jobs.Check b p) asks = rw asks.0 refl
 typed_by_name name rows (jobs.Nested l p) asks = rw asks.0 refl
-typed_by_name name rows (jobs.Solve w s g b) asks = rw asks.0 refl
+typed_by_name name rows (jobs.Solve w s g y b) asks = rw asks.0 refl
 typed_by_name name rows (jobs.Report w g b) asks = rw asks.0 refl
 typed_by_name name rows (jobs.Starts w g b) asks = rw asks.0 refl
 typed_by_name name rows (jobs.Chains w m b) asks = rw asks.0 refl

@@ -1,6 +1,7 @@
 -- Where standard error is no terminal, a person is told nothing.
 use Rattle.std.proofs.Common.{◌≡◌, ℕ, suc, ◌&&◌, Bool, true, false, List, [], ◌∷◌, ◌++◌, ap, inl, inr, refl, subst, ◌∙◌}
-use Rattle.std.specs.Prelude.{◌⊎◌, Err, Ok, Result, if◌then◌else◌}
+use Rattle.std.specs.Prelude.{◌⊎◌, Err, None, Ok, Result, Some, if◌then◌else◌}
+use Rattle.board_text.specs.PlainBoard.{PlainBoard}
 use Rattle.command_line.specs.declared.asked.BoardLimit.{BoardLimit}
 use Rattle.command_line.specs.declared.asked.Job.{Job}
 use Rattle.command_line.specs.declared.asked.Job.TheVariants.{Joined, Check, Nested, Solve, Report, Starts, Chains}
@@ -14,7 +15,7 @@ use Rattle.player.proofs.Cited.{nothing_told}
 use Rattle.positions.specs.declared.side.Side.{Side}
 use Rattle.runs.specs.CheckRun.{RanCheck}
 use Rattle.console.specs.Watching.{lines_of}
-use Rattle.runs.specs.Notices.{IsNoticedInRun, IsToldOfChains, notice_of_length}
+use Rattle.runs.specs.Notices.{IsNoticed, IsNoticedInRun, IsToldOfChains, notice_of_length}
 use Rattle.runs.specs.PlayRun.{IsToldInRun, game_played, run_of_play}
 use Rattle.runs.specs.Run.{Bytes, Ran, Stream}
 use Rattle.runs.specs.Verdicts.{IsAnswered}
@@ -35,12 +36,13 @@ unseen : (typed sees : Bool) → sees ≡ false → (typed && sees) ≡ false
 unseen true sees off = off
 unseen false sees off = refl
 
-unnoticed : {Answer : Type 0} (limit : BoardLimit) (read : Bytes) (shows : Bool) → shows ≡ false
-    → (result : Result Answer RunFault) (told : List ℕ) → IsNoticedInRun limit read shows result told → told ≡ []
-unnoticed limit read true off result told is = cc
-unnoticed limit read false off result told (inl (board, given, rounds, inl (refused, none), is)) = is ∙ none
-unnoticed limit read false off result told (inl (board, given, rounds, inr none, is)) = is ∙ none
-unnoticed limit read false off result told (inr (fault, broke, missing, none)) = none
+untold_of : {Answer : Type 0} (IsGiven : PlainBoard → Type 0) (IsMissing : RunFault → Type 0) (shows : Bool)
+    → shows ≡ false
+    → (result : Result Answer RunFault) (told : List ℕ) → IsNoticed IsGiven IsMissing shows result told → told ≡ []
+untold_of IsGiven IsMissing true off result told is = cc
+untold_of IsGiven IsMissing false off result told (inl (board, given, rounds, inl (refused, none), is)) = is ∙ none
+untold_of IsGiven IsMissing false off result told (inl (board, given, rounds, inr none, is)) = is ∙ none
+untold_of IsGiven IsMissing false off result told (inr (fault, broke, missing, none)) = none
 
 unprompted : (limit : BoardLimit) (side : Side) (most_bytes : ℕ) (Untouched : Type 0) (board lines written : Bytes)
     (result : Result PlayEnd RunFault) (told : List ℕ)
@@ -97,7 +99,7 @@ module _ (at : List ℕ → File) (terminals : Terminals) (off : terminals.error
       → told ≡ []
   size_untold {Answer} limit file told is =
       unopened {Answer = Answer} file (λ read. IsNoticedInRun limit read terminals.errors) outcome told
-      (λ read result tells. unnoticed limit read terminals.errors off result told tells) is
+      (λ read result tells. untold_of _ _ terminals.errors off result told tells) is
 
   pub nothing_in_job : (job : Job) (told : List ℕ) → IsToldInJob at terminals input output outcome job told → told ≡ []
   nothing_in_job Joined told (rows, after, is) =
@@ -107,7 +109,11 @@ module _ (at : List ℕ → File) (terminals : Terminals) (off : terminals.error
   nothing_in_job (Check board proof) told (inr (b, p, opens, opens_too, after)) =
       uncounted terminals.errors off (RanCheck MAX_BOARD_BYTES MAX_PROOF_BYTES b p output.bytes) outcome told after
   nothing_in_job (Nested levels pebbles) told is = is
-  nothing_in_job (Solve workers side limit board) told is = size_untold limit (at board.now) told is
+  nothing_in_job (Solve workers side limit None board) told is = size_untold limit (at board.now) told is
+  nothing_in_job (Solve workers side limit (Some symmetries) board) told (inl (fails, is)) = is
+  nothing_in_job (Solve workers side limit (Some symmetries) board) told
+      (inr (read, given, opens, more, result, same, is)) =
+      untold_of _ _ terminals.errors off result told is
   nothing_in_job (Report workers limit board) told is = size_untold limit (at board.now) told is
   nothing_in_job (Starts workers limit board) told is = size_untold limit (at board.now) told is
   nothing_in_job (Chains workers most board) told is =

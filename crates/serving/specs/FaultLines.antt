@@ -6,11 +6,15 @@ use Rattle.board_text.specs.declared.fault.BoardKind.{BoardKind}
 use Rattle.board_text.specs.declared.fault.BoardKind.TheVariants as board_kinds
 use Rattle.proof_text.specs.declared.fault.ProofKind.{ProofKind}
 use Rattle.proof_text.specs.declared.fault.ProofKind.TheVariants as proof_kinds
+use Rattle.runs.specs.Output.{map_fault_words}
 use Rattle.runs.specs.declared.fault.RunFault.{RunFault}
 use Rattle.runs.specs.declared.fault.RunFault.TheVariants.{Board, TooLarge, Proof, Memory, Worker}
 use Rattle.runs.specs.declared.fault.RunFault.TheVariants.{DocumentTooLarge, LastsForever}
 use Rattle.runs.specs.declared.fault.RunFault.TheVariants.{TooManyChains, Read}
-use Rattle.runs.specs.declared.fault.RunFault.TheVariants.{Write, Limit}
+use Rattle.runs.specs.declared.fault.RunFault.TheVariants.{Write, Limit, Symmetries}
+use Rattle.runs.specs.declared.fault.SymmetriesFault.{SymmetriesFault}
+use Rattle.runs.specs.declared.fault.SymmetriesFault.TheVariants.{Text, Map, TooMany}
+use Rattle.symmetries.specs.declared.maps.MapFault.{MapFault}
 
 -- the name of a kind of fault of a board
 abbrev pub name_of_board_kind : BoardKind → List ℕ
@@ -45,6 +49,17 @@ abbrev pub line_at : List ℕ → ℕ → List ℕ → List ℕ
 line_at text number kind =
     with_line_feed (text ++ codes " fault line " ++ decimal number ++ codes " " ++ kind)
 
+-- what is wrong with the map of this number
+abbrev pub line_of_map : ℕ → MapFault → List ℕ
+line_of_map number fault = with_line_feed (codes "wrong " ++ map_fault_words number fault)
+
+-- why symmetries that are given can't be taken
+abbrev pub line_of_symmetries : SymmetriesFault → List ℕ
+line_of_symmetries (Text fault) =
+    line_at (codes "symmetries") fault.line (name_of_proof_kind fault.kind)
+line_of_symmetries (Map number fault) = line_of_map number fault
+line_of_symmetries TooMany = with_line_feed (codes "too many symmetries")
+
 -- the line that says the fault
 abbrev pub line_of_fault : RunFault → List ℕ
 line_of_fault (Board fault) = line_at (codes "board") fault.line (name_of_board_kind fault.kind)
@@ -53,6 +68,7 @@ line_of_fault DocumentTooLarge = with_line_feed (codes "document too large")
 line_of_fault LastsForever = with_line_feed (codes "start lasts forever")
 line_of_fault TooManyChains = with_line_feed (codes "too many chains")
 line_of_fault (Proof fault) = line_at (codes "proof") fault.line (name_of_proof_kind fault.kind)
+line_of_fault (Symmetries fault) = line_of_symmetries fault
 line_of_fault Memory = with_line_feed (codes "out of memory")
 line_of_fault Worker = with_line_feed (codes "worker not started")
 line_of_fault Read = with_line_feed (codes "read fault")

@@ -1,5 +1,5 @@
 -- Jobs: from the files and standard input to standard output.
-use Rattle.std.specs.Prelude.{◌≡◌, ◌≢◌, ℕ, ◌⊎◌, ◌↔◌, List, Option}
+use Rattle.std.specs.Prelude.{◌≡◌, ◌≢◌, ℕ, ◌⊎◌, ◌↔◌, List, Option, None, Some}
 use Rattle.command_line.specs.declared.asked.Job.{Job}
 use Rattle.command_line.specs.declared.asked.Job.TheVariants.{Joined, Check, Nested, Solve, Report}
 use Rattle.command_line.specs.declared.asked.Job.TheVariants.{Starts, Chains}
@@ -17,6 +17,7 @@ use Rattle.runs.specs.StartText.{SaysStarts}
 use Rattle.runs.specs.Run.{Bytes, Fails, Ran, Stream, Wrote, WrotePrefix}
 use Rattle.runs.specs.LimitedSolveRun.{CannotSolveWithin, SolutionWithin}
 use Rattle.runs.specs.SolveRun.{CannotSolve}
+use Rattle.runs.specs.SymmetricSolveRun.{FailsUpTo, RanUpTo}
 use Rattle.runs.specs.Verdicts.{CannotAnswer, IsAnswered}
 use Rattle.command_line.specs.declared.asked.BoardLimit.{BoardLimit}
 use Rattle.runs.specs.declared.checking.TheConstants.{MAX_JOINED_BYTES, MAX_PROOF_BYTES}
@@ -31,6 +32,13 @@ abbrev pub Opening : File → Type 0 → (Bytes → Outcome → Type 0) → Outc
 Opening file IsUntouched Then outcome =
     (CanFail file × IsUntouched × (outcome ≡ Broken Read))
     ⊎ ((read : Bytes) × OpensWith file read.old × Then read outcome)
+
+-- both files were opened and this was done with them; or one can't be opened
+abbrev pub OpeningBoth : File → File → (Bytes → Bytes → Outcome → Type 0) → Outcome → Type 0
+OpeningBoth first second Then outcome =
+    ((CanFail first ⊎ CanFail second) × (outcome ≡ Broken Read))
+    ⊎ ((one two : Bytes) × OpensWith first one.old × OpensWith second two.old
+    × Then one two outcome)
 
 -- nothing was written before a fault, but for one of writing
 abbrev pub WritesWhole : Stream → Outcome → Type 0
@@ -55,10 +63,18 @@ ChecksJoined input output outcome =
 -- both files were opened, and the document was checked for the board; or one can't be opened
 abbrev pub Checks : File → File → Stream → Outcome → Type 0
 Checks board proof output outcome =
-    (((CanFail board ⊎ CanFail proof) × (outcome ≡ Broken Read))
-    ⊎ ((b p : Bytes) × OpensWith board b.old × OpensWith proof p.old
-    × EndsAs outcome_of_check (RanCheck MAX_BOARD_BYTES MAX_PROOF_BYTES b p output.bytes)
-    (CheckFails MAX_BOARD_BYTES MAX_PROOF_BYTES (p.new ≡ p.old) b p output.bytes) outcome))
+    OpeningBoth board proof (λ b p. EndsAs outcome_of_check
+    (RanCheck MAX_BOARD_BYTES MAX_PROOF_BYTES b p output.bytes)
+    (CheckFails MAX_BOARD_BYTES MAX_PROOF_BYTES (p.new ≡ p.old) b p output.bytes)) outcome
+    × WritesWhole output outcome
+
+-- both files were opened, and the board was solved up to the symmetries, for the side alone or for
+-- both; or one can't be opened
+abbrev pub SolvesUpTo : Option Side → BoardLimit → File → File → Stream → Outcome → Type 0
+SolvesUpTo side limit board symmetries output outcome =
+    OpeningBoth board symmetries (λ b s. EndsAs outcome_of_run
+    (RanUpTo limit side b s output.bytes)
+    (FailsUpTo limit side (s.new ≡ s.old) b s output.bytes)) outcome
     × WritesWhole output outcome
 
 -- the board was solved by this number of workers, for the side alone or for both
@@ -127,8 +143,10 @@ module _ (at : List ℕ → File) (input output : Stream) where
       Checks (at board.now) (at proof.now) output outcome × input.IsKept
   DoesJob (Nested levels pebbles) outcome =
       WritesNested levels pebbles output outcome × input.IsKept
-  DoesJob (Solve workers side limit board) outcome =
+  DoesJob (Solve workers side limit None board) outcome =
       Solves workers side limit (at board.now) output outcome × input.IsKept
+  DoesJob (Solve workers side limit (Some symmetries) board) outcome =
+      SolvesUpTo side limit (at board.now) (at symmetries.now) output outcome × input.IsKept
   DoesJob (Report workers limit board) outcome =
       Counts workers limit (at board.now) output outcome × input.IsKept
   DoesJob (Starts workers limit board) outcome =
@@ -143,7 +161,9 @@ module _ (at : List ℕ → File) (input output : Stream) where
   CanBeUnread Joined = input.HasFailed
   CanBeUnread (Check board proof) = CanFail (at board.now) ⊎ CanFail (at proof.now)
   CanBeUnread (Nested levels pebbles) = ⊥
-  CanBeUnread (Solve workers side limit board) = CanFail (at board.now)
+  CanBeUnread (Solve workers side limit None board) = CanFail (at board.now)
+  CanBeUnread (Solve workers side limit (Some symmetries) board) =
+      CanFail (at board.now) ⊎ CanFail (at symmetries.now)
   CanBeUnread (Report workers limit board) = CanFail (at board.now)
   CanBeUnread (Starts workers limit board) = CanFail (at board.now)
   CanBeUnread (Chains workers most board) = CanFail (at board.now)

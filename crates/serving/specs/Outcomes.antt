@@ -3,7 +3,7 @@ use Rattle.std.specs.Prelude.{◌≡◌, ℕ, Result, Ok, Err, MatchResult}
 use Rattle.runs.specs.declared.fault.RunFault.{RunFault}
 use Rattle.runs.specs.declared.fault.RunFault.TheVariants.{Board, TooLarge, Proof, Memory, Worker}
 use Rattle.runs.specs.declared.fault.RunFault.TheVariants.{DocumentTooLarge, LastsForever}
-use Rattle.runs.specs.declared.fault.RunFault.TheVariants.{TooManyChains, Read}
+use Rattle.runs.specs.declared.fault.RunFault.TheVariants.{Symmetries, TooManyChains, Read}
 use Rattle.runs.specs.declared.fault.RunFault.TheVariants.{Write, Limit}
 use Rattle.serving.specs.declared.outcome.Outcome.{Outcome}
 use Rattle.serving.specs.declared.outcome.Outcome.TheVariants.{Done, Refused, Broken}
@@ -40,6 +40,7 @@ status_of_fault DocumentTooLarge = 1
 status_of_fault LastsForever = 1
 status_of_fault TooManyChains = 1
 status_of_fault (Proof fault) = 1
+status_of_fault (Symmetries fault) = 1
 status_of_fault Memory = 4
 status_of_fault Worker = 4
 status_of_fault Read = 5

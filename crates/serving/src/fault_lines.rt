@@ -3,16 +3,17 @@
 ghost use Rattle.std.specs.Prelude.{◌≡◌, ◌<◌, ◌≤◌, length};
 ghost use Rattle.board_text.specs.LineForms.{with_line_feed};
 ghost use Rattle.serving.specs.FaultLines.{line_at as words_at, line_of_fault, name_of_board_kind};
-ghost use Rattle.serving.specs.FaultLines.{name_of_proof_kind};
+ghost use Rattle.serving.specs.FaultLines.{line_of_map, line_of_symmetries, name_of_proof_kind};
 
 use arrayvec::ArrayString;
 use board_text::BoardKind;
 use itoa::Buffer;
 use proof_text::ProofKind;
-use runs::RunFault;
+use runs::{RunFault, SymmetriesFault};
+use symmetries::MapFault;
 
 /// A fault line has at most this many bytes.
-pub(crate) const MAX_LINE_BYTES: usize = 40;
+pub(crate) const MAX_LINE_BYTES: usize = 48;
 
 /// The bytes of a fault line.
 pub(crate) type FaultLine = ArrayString<MAX_LINE_BYTES>;
@@ -28,6 +29,7 @@ pub(crate) fn fault_line(fault: RunFault) -> FaultLine
         RunFault::LastsForever => line("start lasts forever"),
         RunFault::TooManyChains => line("too many chains"),
         RunFault::Proof(fault) => line_at("proof", fault.line, proof_kind_name(fault.kind)),
+        RunFault::Symmetries(fault) => symmetries_line(fault),
         RunFault::Memory => line("out of memory"),
         RunFault::Worker => line("worker not started"),
         RunFault::Read => line("read fault"),
@@ -47,9 +49,45 @@ fn line(words: &str) -> FaultLine
     line
 }
 
+/// The line that says why symmetries that are given can't be taken.
+fn symmetries_line(fault: SymmetriesFault) -> FaultLine
+    ensures { result.bytes ≡ line_of_symmetries fault }
+{
+    match fault {
+        SymmetriesFault::Text(fault) => {
+            line_at("symmetries", fault.line, proof_kind_name(fault.kind))
+        }
+        SymmetriesFault::Map { number, fault } => map_line(number, fault),
+        SymmetriesFault::TooMany => line("too many symmetries"),
+    }
+}
+
+/// The line that says what is wrong with the map of this number.
+fn map_line(number: u8, fault: MapFault) -> FaultLine
+    ensures { result.bytes ≡ line_of_map number fault }
+{
+    let mut line = ArrayString::new();
+    line.push_str("wrong symmetry ");
+    line.push_str(Buffer::new().format(number));
+    match fault {
+        MapFault::Missing { label } => {
+            line.push_str(" label ");
+            line.push_str(Buffer::new().format(label));
+        }
+        MapFault::Pair { x, y } => {
+            line.push_str(" labels ");
+            line.push_str(Buffer::new().format(x));
+            line.push_str(" ");
+            line.push_str(Buffer::new().format(y));
+        }
+    }
+    line.push_str("\n");
+    line
+}
+
 /// The line that says that a text has a fault of this kind at the line with this number.
 fn line_at(text: &str, number: u32, kind: &str) -> FaultLine
-    requires text { length text.now ≤ 5 }
+    requires text { length text.now ≤ 10 }
     requires kind { length kind.now ≤ 8 }
     ensures { result.bytes ≡ words_at text.now number kind.now }
 {

@@ -70,7 +70,7 @@ fn fault_status(fault: RunFault) -> u8
     ensures { result ≡ status_of_fault fault }
 {
     match fault {
-        RunFault::Board(_) | RunFault::Proof(_) => 1,
+        RunFault::Board(_) | RunFault::Proof(_) | RunFault::Symmetries(_) => 1,
         RunFault::TooLarge | RunFault::DocumentTooLarge => 1,
         RunFault::LastsForever | RunFault::TooManyChains => 1,
         RunFault::Memory | RunFault::Worker => 4,

@@ -14,6 +14,7 @@ use Rattle.runs.specs.declared.fault.RunFault.{RunFault}
 use Rattle.strategies.specs.ClassDocument.{HasLongText, IsClassDocumentFor}
 use Rattle.strategies.specs.DocumentTexts.{IsDocumentText}
 use Rattle.strategies.specs.Sides.{HasStrategy}
+use Rattle.strategies.specs.SymmetricDocument.{HasLongSymmetryText}
 use Rattle.runs.specs.declared.checking.TheConstants.{MAX_PROOF_BYTES}
 use Rattle.command_line.specs.declared.asked.BoardLimit.{BoardLimit}
 use Rattle.command_line.specs.declared.asked.BoardLimit.TheVariants.{Small}
@@ -45,6 +46,14 @@ IsUnshown side board DocumentTooLarge =
     ((value : Value) → HasValue board board.start value → HasStrategy side value)
     × HasLongText side board MAX_PROOF_BYTES
 IsUnshown side board fault = IsUnmade side board fault
+
+-- out of memory, the adversary is asked for alone where requests are answered for ever, or the
+-- document up to the symmetries that the maps make is too long
+abbrev pub IsUnshownUpTo : Option Side → PlainBoard → List (List ℕ) → RunFault → Type 0
+IsUnshownUpTo side board maps DocumentTooLarge =
+    ((value : Value) → HasValue board board.start value → HasStrategy side value)
+    × HasLongSymmetryText side board maps MAX_PROOF_BYTES
+IsUnshownUpTo side board maps fault = IsUnmade side board fault
 
 -- that value, and the text of the board's document for the side alone, or for both
 abbrev pub IsSolvedFor : Option Side → PlainBoard → Value → List ℕ → Type 0

@@ -47,13 +47,23 @@ returns-in-Nested-clause-done g c =
       unread = c.write_nested.ensures.unread;
     }
 
-pub returns-in-Solve-clause-done : goal.returns-in-Solve-clause-done
-returns-in-Solve-clause-done g c =
-    rw c.in-Solve.is record {
+pub returns-in-None-clause-done : goal.returns-in-None-clause-done
+returns-in-None-clause-done g c =
+    rw (c.in-Solve.is, c.in-None.is) record {
       does = (c.solve.ensures.done, c.solve.ensures.kept);
       writes = c.solve.ensures.writes;
       reads = (λ failed. absurd (true≢false (sym (rw c.solve.ensures.kept at failed) ∙ c.requires.ready.input)));
       unread = c.solve.ensures.unread;
+    }
+
+pub returns-in-Some-clause-done : goal.returns-in-Some-clause-done
+returns-in-Some-clause-done g c =
+    let run = c.solve_up_to.ensures in
+    rw (c.in-Solve.is, c.in-Some.is) record {
+      does = (run.done, run.kept);
+      writes = run.writes;
+      reads = (λ failed. absurd (true≢false (sym (rw run.kept at failed) ∙ c.requires.ready.input)));
+      unread = run.unread;
     }
 
 pub returns-in-Report-clause-done : goal.returns-in-Report-clause-done
@@ -96,8 +106,11 @@ returns-in-Nested-clause-told g c =
 pub returns-in-Chains-clause-told : goal.returns-in-Chains-clause-told
 returns-in-Chains-clause-told g c = rw c.in-Chains.is c.chains.ensures.told
 
-pub returns-in-Solve-clause-told : goal.returns-in-Solve-clause-told
-returns-in-Solve-clause-told g c = rw c.in-Solve.is c.solve.ensures.told
+pub returns-in-None-clause-told : goal.returns-in-None-clause-told
+returns-in-None-clause-told g c = rw (c.in-Solve.is, c.in-None.is) c.solve.ensures.told
+
+pub returns-in-Some-clause-told : goal.returns-in-Some-clause-told
+returns-in-Some-clause-told g c = rw (c.in-Solve.is, c.in-Some.is) c.solve_up_to.ensures.told
 
 pub returns-in-Report-clause-told : goal.returns-in-Report-clause-told
 returns-in-Report-clause-told g c = rw c.in-Report.is c.report.ensures.told

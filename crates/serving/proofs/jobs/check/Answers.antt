@@ -2,17 +2,24 @@ use Rattle.std.proofs.Common.{[], inl, inr, refl}
 use Rattle.console.proofs.Cited.{none_more}
 use Rattle.serving.specs.Outcomes.{outcome_of_check}
 use Rattle.serving.specs.Telling.{rows_told}
-use Rattle.runs.specs.Run.{stream_of}
+use Rattle.runs.specs.Run.{Fails, Ran, stream_of}
+use Rattle.runs.specs.Texts.{HasNoProof, OfAnySize}
+use Rattle.runs.specs.Verdicts.{IsChecked}
+use Rattle.runs.specs.declared.checking.TheConstants.{MAX_PROOF_BYTES}
 use Rattle.runs.specs.declared.fault.RunFault.TheVariants.{Read}
 use Rattle.serving.proofs.Endings.{broken_check, opened_both, told_as}
 use Rattle.serving.proofs.jobs.check.Goals as goal
 
 pub returns-clause-done : goal.returns-clause-done
 returns-clause-done g c =
-    opened_both (g.F.Folder.at c.args.files.now.folder.now c.args.board.now)
+    let output = stream_of g.O.Sink.contents g.O.Sink.has_failed c.args.console.now.output
+    c.run_check-checked.new.writer in
+    opened_both outcome_of_check broken_check OfAnySize
+    (λ p board. Ran (IsChecked board) MAX_PROOF_BYTES p output.bytes)
+    (λ p board. Fails (IsChecked board) (HasNoProof board) MAX_PROOF_BYTES p output.bytes)
+    (g.F.Folder.at c.args.files.now.folder.now c.args.board.now)
     (g.F.Folder.at c.args.files.now.folder.now c.args.proof.now) _ _ c.in-Ok.ensures.opened c.in-Ok-open.ensures.opened
-    (stream_of g.O.Sink.contents g.O.Sink.has_failed c.args.console.now.output c.run_check-checked.new.writer)
-    c.run_check-checked.result c.of_check.result c.of_check.ensures c.run_check-checked.ensures.ok _
+    output c.run_check-checked.result c.of_check.result c.of_check.ensures c.run_check-checked.ensures.ok _
     (λ same. rw same refl)
     c.run_check-checked.ensures.fault c.run_check-checked.ensures.streams.unwritten
 

@@ -1,0 +1,271 @@
+-- Solutions up to symmetries: a text of symmetries gives one of them or one fault, and a check accepts it.
+use Rattle.std.proofs.Common.{◌≡◌, ◌≢◌, ◌⊎◌, ◌≤◌, ℕ, List, [], Option, Some, None, length, refl, sym, ap, ◌∙◌, subst}
+use Rattle.std.proofs.Common.{inl, inr, arith}
+use Rattle.std.specs.List.{All}
+use Rattle.std.proofs.lemmas.Bool.{cases_lt}
+use Rattle.std.proofs.lemmas.List.Elements.{All-nil}
+use Rattle.board_text.specs.PlainBoard.{PlainBoard, IsBoard}
+use Rattle.command_line.specs.declared.asked.BoardLimit.{BoardLimit}
+use Rattle.positions.specs.Claim.{claim_of}
+use Rattle.positions.specs.Table.{AnswerRow, RequestRow}
+use Rattle.positions.specs.Value.{HasValue}
+use Rattle.positions.specs.declared.claim.Claim.TheVariants as claims
+use Rattle.positions.specs.declared.side.Side.{Side}
+use Rattle.positions.specs.declared.side.Side.TheVariants.{Adversary, Labeller}
+use Rattle.positions.specs.declared.value.Value.{Value}
+use Rattle.positions.specs.declared.value.Value.TheVariants.{Finite, Forever}
+use Rattle.positions.proofs.Cited.{same_value, some_value}
+use Rattle.proof_check.specs.SymmetryFaults.{IsFirstWrongMap}
+use Rattle.proof_check.specs.declared.symmetry_fault.SymmetryFault.{SymmetryFault}
+use Rattle.proof_check.specs.declared.symmetry_fault.SymmetryFault.TheVariants as check_faults
+use Rattle.proof_check.proofs.Cited.{has_places, one_symmetry_fault, only_symmetry_memory, wrong_map_apart}
+use Rattle.proof_text.specs.Documents.{IsClassProof, IsSymmetryProof}
+use Rattle.proof_text.specs.ProofText.{symmetry_text}
+use Rattle.proof_text.specs.SymmetryProof.{PlainSymmetryProof}
+use Rattle.proof_text.specs.declared.fault.ProofFault.{ProofFault}
+use Rattle.proof_text.proofs.Cited.{no_symmetries_fault, one_symmetries, one_symmetries_fault}
+use Rattle.strategies.specs.Sides.{HasStrategy}
+use Rattle.strategies.specs.SymmetricDocument.{IsSymmetryDocumentFor, IsSymmetryDocumentOf, symmetric_document_for}
+use Rattle.strategies.proofs.Cited.{one_symmetry_document, symmetry_document_exists}
+use Rattle.symmetries.specs.ClosingLoop.{HasLargeGroup}
+use Rattle.symmetries.specs.Symmetries.{IsSymmetry}
+use Rattle.symmetries.specs.declared.maps.MapFault.{MapFault}
+use Rattle.runs.specs.SymmetricSolveRun.{IsLongUpTo, IsSolutionUpTo, IsSolvedUpTo, IsUnsolvedUpTo}
+use Rattle.runs.specs.Symmetries.{AreWrongSymmetries, HasSymmetries, SpellsMaps, SpellsSymmetries}
+use Rattle.runs.specs.declared.checking.TheConstants.{MAX_PROOF_BYTES}
+use Rattle.runs.specs.declared.fault.RunFault.{RunFault}
+use Rattle.runs.specs.declared.fault.RunFault.TheVariants.{Board, TooLarge, Proof, Memory, Worker, Read, Write, Limit}
+use Rattle.runs.specs.declared.fault.RunFault.TheVariants.{DocumentTooLarge, LastsForever, Symmetries, TooManyChains}
+use Rattle.runs.specs.declared.fault.SymmetriesFault.{SymmetriesFault}
+use Rattle.runs.specs.declared.fault.SymmetriesFault.TheVariants.{Map, Text, TooMany}
+
+no_strategy : (side : Option Side) (value : Value) → side ≡ Some Adversary → value ≡ Forever → HasStrategy side value
+    → ⊥
+no_strategy side value is lasts strategy =
+    subst (λ v. HasStrategy (Some Adversary) v) lasts (subst (λ s. HasStrategy s value) is strategy)
+
+-- whether the side has a strategy on the value
+strategy_or_not : (side : Option Side) (value : Value)
+    → HasStrategy side value ⊎ ((side ≡ Some Adversary) × (value ≡ Forever))
+strategy_or_not None value = inl tt
+strategy_or_not (Some Labeller) value = inl tt
+strategy_or_not (Some Adversary) (Finite number) = inl tt
+strategy_or_not (Some Adversary) Forever = inr (refl, refl)
+
+-- the fault of maps, by that of a check
+abbrev fault_of_maps : SymmetryFault → SymmetriesFault
+fault_of_maps (check_faults.Map number fault) = Map number fault
+fault_of_maps fault = TooMany
+
+module _ (board : PlainBoard) (is_board : IsBoard board) (text : List ℕ) where
+  -- the text is that of one list of maps at most
+  same_maps : (maps others : List (List ℕ)) → SpellsMaps board text maps → SpellsMaps board text others
+      → others ≡ maps
+  same_maps maps others one other =
+      one_symmetries board others maps is_board other.are_maps one.are_maps (sym other.spelled ∙ one.spelled)
+
+  -- ---- a text of symmetries, or one with a fault
+
+  no_text_fault : (maps : List (List ℕ)) (fault : ProofFault) → SpellsMaps board text maps
+      → AreWrongSymmetries board text (Text fault) → ⊥
+  no_text_fault maps fault spells (has, some) =
+      some (no_symmetries_fault board text fault.line fault.kind maps is_board spells.are_maps spells.spelled has)
+
+  not_wrong_maps : (maps : List (List ℕ)) → SpellsSymmetries board text maps → (why : SymmetriesFault)
+      → AreWrongSymmetries board text why → ⊥
+  not_wrong_maps maps spells (Text fault) wrong = no_text_fault maps fault spells.spells wrong
+  not_wrong_maps maps spells (Map number fault) (others, is, wrong) =
+      wrong_map_apart board maps number fault
+      (subst (λ m. IsFirstWrongMap board m number fault) (same_maps maps others spells.spells is) wrong)
+      spells.are_made.symmetries
+  not_wrong_maps maps spells TooMany (others, is, each, large) =
+      let more = subst (HasLargeGroup board.labels) (same_maps maps others spells.spells is) large spells.group
+      spells.are_made.are_group in
+      absurd (omega (arith, more, spells.are_made.few))
+
+  -- one of two faults of maps
+  module _ (maps : List (List ℕ)) where
+    -- a document with these maps
+    abbrev document : PlainSymmetryProof
+    document = record { maps = maps; rows = record { claim = claims.Forever; labeller = []; adversary = [] } }
+
+    one_map_fault : (number other : ℕ) (fault next : MapFault) → IsFirstWrongMap board maps number fault
+        → IsFirstWrongMap board maps other next → ◌≡◌ {A = SymmetriesFault} (Map number fault) (Map other next)
+    one_map_fault number other fault next wrong also =
+        ap fault_of_maps (one_symmetry_fault board document
+        (record {
+          labeller = λ k d low. absurd (omega (arith, low));
+          adversary = λ k d low. absurd (omega (arith, low));
+        })
+        is_board.start (check_faults.Map number fault) (check_faults.Map other next) (λ e. cc) (λ e. cc) wrong also)
+
+  one_wrong : (why other : SymmetriesFault) → AreWrongSymmetries board text why → AreWrongSymmetries board text other
+      → why ≡ other
+  one_wrong (Text fault) (Text other) wrong also =
+      let same = one_symmetries_fault board text fault.line other.line fault.kind other.kind is_board wrong.1 also.1
+      wrong.0 also.0 in
+      let told : ◌≡◌ {A = ProofFault} (record { line = fault.line; kind = fault.kind }) other =
+      rw (same.0, same.1) refl in
+      ap Text told
+  one_wrong (Text fault) (Map number other) wrong (maps, is, more) = absurd (no_text_fault maps fault is wrong)
+  one_wrong (Text fault) TooMany wrong (maps, is, each, large) = absurd (no_text_fault maps fault is wrong)
+  one_wrong (Map number fault) (Text other) (maps, is, more) also = absurd (no_text_fault maps other is also)
+  one_wrong (Map number fault) (Map there other) (maps, is, wrong) (others, is_too, also) =
+      one_map_fault maps number there fault other wrong
+      (subst (λ m. IsFirstWrongMap board m there other) (same_maps maps others is is_too) also)
+  one_wrong (Map number fault) TooMany (maps, is, wrong) (others, is_too, each, large) =
+      absurd (wrong_map_apart board maps number fault wrong
+      (subst (All (IsSymmetry board)) (same_maps maps others is is_too) each))
+  one_wrong TooMany (Text other) (maps, is, each, large) also = absurd (no_text_fault maps other is also)
+  one_wrong TooMany (Map number fault) (maps, is, each, large) (others, is_too, wrong) =
+      absurd (wrong_map_apart board maps number fault
+      (subst (λ m. IsFirstWrongMap board m number fault) (same_maps maps others is is_too) wrong) each)
+  one_wrong TooMany TooMany wrong also = refl
+
+  -- ---- one solution
+
+  module _ (side : Option Side) where
+    one_document : (maps : List (List ℕ)) → All (IsSymmetry board) maps → (first second : PlainSymmetryProof)
+        → IsSymmetryDocumentFor side board maps first → IsSymmetryDocumentFor side board maps second → first ≡ second
+    one_document maps each first second (one, is, for) (other, is_too, for_too) =
+        for ∙ ap (symmetric_document_for side)
+        (one_symmetry_document board maps is_board.start each one other is is_too) ∙ sym for_too
+
+    pub one_symmetric_solution : (value worth : Value) (first second : List ℕ)
+        → IsSolutionUpTo side board text value first → IsSolutionUpTo side board text worth second
+        → (value ≡ worth) × (first ≡ second)
+    one_symmetric_solution value worth first second (maps, spells, one) (others, spells_too, other) =
+        let also : IsSolvedUpTo side board maps worth second =
+        subst (λ m. IsSolvedUpTo side board m worth second)
+        (same_maps maps others spells.spells spells_too.spells) other in
+        let same : one.document ≡ also.document =
+        one_document maps spells.are_made.symmetries one.document also.document one.is_document also.is_document in (
+          same_value board board.start value worth one.has_value also.has_value,
+          one.written_is ∙ ap (symmetry_text board) same ∙ sym also.written_is,
+        )
+
+    -- ---- a solution, or a fault
+
+    record IsOfSide (fault : RunFault) : Type 0 where
+      told : fault ≡ LastsForever
+      is : IsUnsolvedUpTo side board text LastsForever
+
+    record IsOfDocument (fault : RunFault) : Type 0 where
+      told : fault ≡ DocumentTooLarge
+      is : IsUnsolvedUpTo side board text DocumentTooLarge
+
+    record IsOfSymmetries (fault : RunFault) : Type 0 where
+      why : SymmetriesFault
+      told : fault ≡ Symmetries why
+      is : AreWrongSymmetries board text why
+
+    fault_is : (fault : RunFault) → IsUnsolvedUpTo side board text fault
+        → IsOfSide fault ⊎ IsOfDocument fault ⊎ IsOfSymmetries fault
+    fault_is LastsForever h = inl (record { told = refl; is = h })
+    fault_is DocumentTooLarge h = inr (inl (record { told = refl; is = h }))
+    fault_is (Symmetries why) h = inr (inr (record { why = why; told = refl; is = h }))
+    fault_is (Board fault) h = absurd h
+    fault_is TooLarge h = absurd h
+    fault_is (Proof fault) h = absurd h
+    fault_is Memory h = absurd h
+    fault_is Worker h = absurd h
+    fault_is Read h = absurd h
+    fault_is Write h = absurd h
+    fault_is TooManyChains h = absurd h
+    fault_is Limit h = absurd h
+
+    no_value : (value : Value) → HasValue board board.start value → HasStrategy side value → side ≡ Some Adversary
+        → HasValue board board.start Forever → ⊥
+    no_value value has strategy is lasts =
+        no_strategy side value is (same_value board board.start value Forever has lasts) strategy
+
+    short_or_long : (maps : List (List ℕ)) (value : Value) (written : List ℕ) → All (IsSymmetry board) maps
+        → IsSolvedUpTo side board maps value written → IsLongUpTo side board maps → ⊥
+    short_or_long maps value written each solved long =
+        let whole : PlainSymmetryProof = symmetric_document_for side long.long.0 in
+        let same : whole ≡ solved.document =
+        one_document maps each whole solved.document (long.long.0, long.long.1, refl) solved.is_document in
+        let size : length written ≡ length (symmetry_text board whole) =
+        ap length (solved.written_is ∙ ap (symmetry_text board) (sym same)) in
+        absurd (omega (arith, size, long.long.2, solved.short))
+
+    pub symmetric_solution_or_fault : (value : Value) (written : List ℕ) (fault : RunFault)
+        → IsSolutionUpTo side board text value written → IsUnsolvedUpTo side board text fault → ⊥
+    symmetric_solution_or_fault value written fault (maps, spells, solved) bad = elim (fault_is fault bad) [
+      | inl of_side ↦ no_value value solved.has_value solved.strategy of_side.is.1 of_side.is.2
+      | inr (inl of_document) ↦
+          short_or_long maps value written spells.are_made.symmetries solved
+          (subst (IsLongUpTo side board) (same_maps maps of_document.is.0 spells.spells of_document.is.1.spells)
+          of_document.is.2)
+      | inr (inr wrong) ↦ not_wrong_maps maps spells wrong.why wrong.is
+    ]
+
+    pub one_unsolved_up_to : (fault other : RunFault) → IsUnsolvedUpTo side board text fault
+        → IsUnsolvedUpTo side board text other → fault ≡ other
+    one_unsolved_up_to fault other bad also = elim (fault_is fault bad) [
+      | inl of_side ↦ elim (fault_is other also) [
+        | inl too ↦ of_side.told ∙ sym too.told
+        | inr (inl of_document) ↦
+            let long = of_document.is.2 in
+            absurd (no_value long.value long.has_value long.strategy of_side.is.1 of_side.is.2)
+        | inr (inr wrong) ↦ absurd (not_wrong_maps of_side.is.0.0 of_side.is.0.1 wrong.why wrong.is)
+      ]
+      | inr (inl of_document) ↦ elim (fault_is other also) [
+        | inl of_side ↦
+            let long = of_document.is.2 in
+            absurd (no_value long.value long.has_value long.strategy of_side.is.1 of_side.is.2)
+        | inr (inl too) ↦ of_document.told ∙ sym too.told
+        | inr (inr wrong) ↦ absurd (not_wrong_maps of_document.is.0 of_document.is.1 wrong.why wrong.is)
+      ]
+      | inr (inr wrong) ↦ elim (fault_is other also) [
+        | inl of_side ↦ absurd (not_wrong_maps of_side.is.0.0 of_side.is.0.1 wrong.why wrong.is)
+        | inr (inl of_document) ↦ absurd (not_wrong_maps of_document.is.0 of_document.is.1 wrong.why wrong.is)
+        | inr (inr too) ↦ wrong.told ∙ ap Symmetries (one_wrong wrong.why too.why wrong.is too.is) ∙ sym too.told
+      ]
+    ]
+
+    abbrev IsEither : Type 0
+    IsEither = ((value : Value) × (written : List ℕ) × IsSolutionUpTo side board text value written)
+        ⊎ ((fault : RunFault) × IsUnsolvedUpTo side board text fault)
+
+    solved_or_long : (maps : List (List ℕ)) (value : Value) → SpellsSymmetries board text maps
+        → HasValue board board.start value → HasStrategy side value → IsEither
+    solved_or_long maps value spells has strategy =
+        let document = symmetry_document_exists board maps is_board.start spells.are_made.symmetries spells.group
+        spells.are_made.are_group in
+        let whole : PlainSymmetryProof = symmetric_document_for side document.0 in
+        elim (cases_lt MAX_PROOF_BYTES (length (symmetry_text board whole))) [
+          | inl long ↦
+              let is_long : IsLongUpTo side board maps = record {
+                value = value;
+                has_value = has;
+                strategy = strategy;
+                long = (document.0, document.1, long);
+              } in
+              inr (DocumentTooLarge, (maps, spells, is_long))
+          | inr short ↦
+              let solved : IsSolvedUpTo side board maps value (symmetry_text board whole) = record {
+                has_value = has;
+                strategy = strategy;
+                document = whole;
+                is_document = (document.0, document.1, refl);
+                written_is = refl;
+                short = omega (arith, short);
+              } in
+              inl (value, symmetry_text board whole, (maps, spells, solved))
+        ]
+
+    pub symmetric_solution_or_unsolved : HasSymmetries board text → IsEither
+    symmetric_solution_or_unsolved (maps, spells) =
+        let value = some_value board board.start is_board.start in
+        elim (strategy_or_not side value.0) [
+          | inl strategy ↦ solved_or_long maps value.0 spells value.1 strategy
+          | inr (adversary, lasts) ↦ inr (
+            LastsForever,
+            (
+              (maps, spells),
+              adversary,
+              subst (λ v. HasValue board board.start v) lasts value.1,
+            ),
+          )
+        ]
