@@ -21,15 +21,18 @@ use Rattle.proof_text.specs.declared.class_proof.AdversaryClassRow.{AdversaryCla
 use Rattle.proof_text.specs.declared.class_proof.LabellerClassRow.{LabellerClassRow}
 use Rattle.strategies.specs.Inside.LongSections.{IsDocumentOverFor}
 use Rattle.strategies.specs.Inside.NormalForm.{IsNormalForm}
-use Rattle.strategies.specs.PositionDocument.{AreExactlyOver, IsAdversaryRowOver, IsDocumentOver, IsLabellerRowOver}
-use Rattle.strategies.specs.Document.{AsksAdversary}
-use Rattle.strategies.specs.Inside.ClassSide.{AreClassRowsIf, class_adversary_side, class_labeller_side}
+use Rattle.strategies.specs.Inside.ClassSide.{class_labeller_side, class_adversary_side, AreClassRowsIf}
+use Rattle.strategies.specs.Inside.Numbering.{by_order}
 use Rattle.strategies.specs.Inside.Side.{Side}
+use Rattle.strategies.specs.PositionDocument.{AsksAdversary, IsLabellerRowOver, IsAdversaryRowOver, AreExactlyOver}
+use Rattle.strategies.specs.PositionDocument.{IsDocumentOver}
 use Rattle.strategies.specs.Sides.{HasStrategy, claim_for, document_for}
 use Rattle.strategies.proofs.ClassDocumentForm.{adversary_asked}
-use Rattle.strategies.proofs.OneClassList.{same_rows}
+use Rattle.strategies.proofs.OneList.{same_rows}
 use Rattle.strategies.proofs.OneSide.{adversary_is, always_asked, asks_finite, claim_is, labeller_is}
-use Rattle.strategies.proofs.SomeClassDocument.{document_exists_over}
+use Rattle.strategies.proofs.Numberings.{are_orders}
+use Rattle.strategies.proofs.PositionLaws.{are_normal}
+use Rattle.strategies.proofs.SomeDocument.{document_exists_over}
 
 -- rows that aren't asked for are none
 labeller_none : (side : Option DocumentSide) (value : Value) (document : PlainProof)
@@ -81,10 +84,12 @@ module _ (board : PlainBoard) (normal : List ℕ → List ℕ) (form : IsNormalF
     (is_start : IsConfiguration board board.start) (side : Option DocumentSide) (value : Value)
     (has : HasValue board board.start value) (strategy : HasStrategy side value) where
   abbrev document : PlainProof
-  document = (document_exists_over board normal form is_start).0
+  document = (document_exists_over board (normal_positions normal) (are_normal board normal form) (by_order board)
+      (are_orders board) is_start).0
 
   abbrev is : IsDocumentOver (normal_positions normal) (order_number board.labels) board document
-  is = (document_exists_over board normal form is_start).1
+  is = (document_exists_over board (normal_positions normal) (are_normal board normal form) (by_order board)
+      (are_orders board) is_start).1
 
   abbrev same : is.value ≡ value
   same = same_value board board.start is.value value is.has_value has
@@ -105,7 +110,7 @@ module _ (board : PlainBoard) (normal : List ℕ → List ℕ) (form : IsNormalF
       claim_is side document ∙ ap (claim_for side) (is.claim ∙ ap claim_of same) in
       let labellers : class_answer_rows board labeller ≡ (document_for side document).labeller =
       rows_if board (class_labeller_side board normal value) _ (asks_labeller claim) labeller _ answers
-      (λ asked are. same_rows board (IsLabellerRowOver (normal_positions normal) board value)
+      (λ asked are. same_rows (order_number board.labels) (IsLabellerRowOver (normal_positions normal) board value)
       (λ (row : AnswerRow). row.at) (class_answer_rows board labeller) document.labeller are.exactly
       (subst (λ (v : Value). AreExactlyOver (order_number board.labels)
       (IsLabellerRowOver (normal_positions normal) board v) (λ (row : AnswerRow). row.at) document.labeller) same
@@ -114,7 +119,7 @@ module _ (board : PlainBoard) (normal : List ℕ → List ℕ) (form : IsNormalF
       (labeller_none side value document) in
       let adversarys : class_request_rows board adversary ≡ (document_for side document).adversary =
       rows_if board (class_adversary_side board normal value) _ (asks_adversary claim) adversary _ requests
-      (λ asked are. same_rows board (IsAdversaryRowOver (normal_positions normal) board) (λ (row : RequestRow). row.at)
+      (λ asked are. same_rows (order_number board.labels) (IsAdversaryRowOver (normal_positions normal) board) (λ (row : RequestRow). row.at)
       (class_request_rows board adversary) document.adversary are.exactly (all_asked asked)
       ∙ sym (adversary_is side value document strategy asked))
       (adversary_none board normal document is side value same strategy) in

@@ -18,7 +18,9 @@ use Rattle.positions.proofs.Cited.{moved_is_configuration, same_value}
 use Rattle.proof_text.specs.declared.proof.TheConstants.{MOST_TURNS}
 use Rattle.proof_text.specs.Proof.{PlainProof, IsClaim, IsAnswerRow, AreTurns, asks_labeller, asks_adversary}
 use Rattle.strategies.specs.Best.{IsLess}
-use Rattle.strategies.specs.Document.{IsAnswerMove, IsRequestMove, AsksAdversary, turns_of}
+use Rattle.strategies.specs.Inside.Numbering.{by_order}
+use Rattle.strategies.specs.PositionDocument.{IsAnswerMove, IsRequestMove, turns_of, AsksAdversary, LeadsOver}
+use Rattle.strategies.specs.PositionDocument.{IsLabellerRowOver, IsAdversaryRowOver, IsDocumentOver}
 use Rattle.strategies.proofs.ValueOrder.{at_least, less_than_finite}
 use Rattle.classes.specs.Numbers.{class_count, ways}
 use Rattle.classes.proofs.Cited.{ways-within}
@@ -32,12 +34,12 @@ use Rattle.proof_text.specs.declared.class_proof.TheConstants.{MAX_CLASS_ROWS}
 use Rattle.proof_text.proofs.Cited.{asked_is}
 use Rattle.strategies.specs.ClassDocument.{IsClassDocumentOf, FitsFormat}
 use Rattle.strategies.specs.Inside.NormalForm.{IsNormalForm}
-use Rattle.strategies.specs.PositionDocument.{IsAdversaryRowOver, IsDocumentOver, IsLabellerRowOver, LeadsOver}
 use Rattle.strategies.proofs.EveryClass.{IsArrangedAt}
+use Rattle.strategies.proofs.PositionLaws.{are_normal}
 use Rattle.strategies.proofs.FewValues.{few_values}
-use Rattle.strategies.proofs.KeptClassRules.{start_is, start_value, answered_is, requested_is}
+use Rattle.strategies.proofs.KeptRules.{start_is, start_value, answered_is, requested_is}
 use Rattle.strategies.proofs.NormalForms.{arranged_form}
-use Rattle.strategies.proofs.OneClassList.{adversarys_normal, labellers_normal}
+use Rattle.strategies.proofs.GatheredRows.{adversarys_normal, labellers_normal}
 use Rattle.strategies.proofs.ShownClassClaims.{rows-few}
 
 -- best requests don't raise the value
@@ -127,7 +129,8 @@ module _ (board : PlainBoard) (normal : List ℕ → List ℕ) (form : IsNormalF
   start = normal board.start
 
   has_start : HasValue board start is.value
-  has_start = start_value board normal form proof is_start is
+  has_start = start_value board (normal_positions normal) (are_normal board normal form) (order_number board.labels)
+      proof is_start is
 
   answers_are : (row : AnswerRow) → IsLabellerRowOver (normal_positions normal) board is.value row
       → AreNumbers board.pebbles board.labels row.answers
@@ -150,20 +153,20 @@ module _ (board : PlainBoard) (normal : List ℕ → List ℕ) (form : IsNormalF
   answers_placed : All (λ (row : AnswerRow). IsArrangedAt board row.at) proof.labeller
   answers_placed k d low =
       let is_row = row_at k d low in record {
-        is = answered_is board normal form proof is_start is is_row.moves (get_or proof.labeller k d).at is_row.reached;
-        arranged_is = labellers_normal board normal form is.value is_start (λ c. arranged board.labels c ≡ c)
-            form.placed
-            (get_or proof.labeller k d) is_row;
+        is = answered_is board (normal_positions normal) (are_normal board normal form) (order_number board.labels) proof
+            is_start is is_row.moves (get_or proof.labeller k d).at is_row.reached;
+        arranged_is = labellers_normal board (normal_positions normal) (are_normal board normal form) (by_order board)
+            is_start (λ c. arranged board.labels c ≡ c) form.placed is.value (get_or proof.labeller k d) is_row;
       }
 
   requests_placed : All (λ (row : RequestRow). IsArrangedAt board row.at) proof.adversary
   requests_placed k d low =
       let is_row = (asked_at k d low).1 in record {
-        is = requested_is board normal form proof is_start is is_row.moves (get_or proof.adversary k d).at
+        is = requested_is board (normal_positions normal) (are_normal board normal form) (order_number board.labels) proof
+            is_start is is_row.moves (get_or proof.adversary k d).at
             is_row.reached;
-        arranged_is = adversarys_normal board normal form is.value is_start (λ c. arranged board.labels c ≡ c)
-            form.placed
-            (get_or proof.adversary k d) is_row;
+        arranged_is = adversarys_normal board (normal_positions normal) (are_normal board normal form) (by_order board)
+            is_start (λ c. arranged board.labels c ≡ c) form.placed (get_or proof.adversary k d) is_row;
       }
 
   -- the document of a board of few classes fits, since its rows are at different classes
@@ -189,7 +192,8 @@ module _ (board : PlainBoard) (normal : List ℕ → List ℕ) (form : IsNormalF
     answer_form : (row : AnswerRow) → IsLabellerRowOver (normal_positions normal) board is.value row → IsAnswerRow
         board proof.claim row
     answer_form row is_row = record {
-      at = answered_is board normal form proof is_start is is_row.moves row.at is_row.reached;
+      at = answered_is board (normal_positions normal) (are_normal board normal form) (order_number board.labels) proof
+          is_start is is_row.moves row.at is_row.reached;
       turns = subst (λ (claim : Claim). AreTurns claim row.turns) (sym is.claim)
           (subst (AreTurns (claim_of is.value)) (sym is_row.turns)
           (turns_fit is.value small
@@ -204,14 +208,16 @@ module _ (board : PlainBoard) (normal : List ℕ → List ℕ) (form : IsNormalF
         → (row : RequestRow) → IsAdversaryRowOver (normal_positions normal) board row → row.left ≤ MOST_TURNS
     left_few (Finite number) most has asks row is_row =
         let below : row.left ≤ number = no_more board normal form start is_row.moves row.at number row.left
-        (start_is board normal form proof is_start is) has is_row.reached is_row.has_value in
+        (start_is board (normal_positions normal) (are_normal board normal form) (order_number board.labels) proof
+        is_start is) has is_row.reached is_row.has_value in
         omega (arith, most, below)
     left_few Forever most has asks row is_row = absurd asks
 
     request_form : (row : RequestRow) → AsksAdversary is.value → IsAdversaryRowOver (normal_positions normal) board row
         → IsClassRequestRow board row
     request_form row asks is_row = record {
-      at = requested_is board normal form proof is_start is is_row.moves row.at is_row.reached;
+      at = requested_is board (normal_positions normal) (are_normal board normal form) (order_number board.labels) proof
+          is_start is is_row.moves row.at is_row.reached;
       left = left_few is.value small has_start asks row is_row;
       request = asked_is row is_row.asks;
     }

@@ -10,8 +10,8 @@ use Rattle.proof_text.proofs.Cited.{arranged_is}
 use Rattle.proof_text.proofs.Cited.{order-none, order-label, orders-below}
 use Rattle.proof_text.proofs.Cited.{places-few}
 use Rattle.strategies.specs.Inside.NormalForm.{IsNormalForm}
-use Rattle.strategies.specs.Inside.ReachedClasses.{place_of, class_numbered, number_of_class_at, normal_number}
-use Rattle.strategies.specs.Inside.ReachedClasses.{IsClassNumber}
+use Rattle.strategies.specs.Inside.Numbering.{place_of, class_numbered, IsClassNumber}
+use Rattle.strategies.specs.Inside.ReachedClasses.{number_of_class_at, normal_number}
 
 place_of-order : (labels place : ℕ) → place_of labels (order_of labels place) ≡ place
 place_of-order labels place = elim (cases_eq place labels) [

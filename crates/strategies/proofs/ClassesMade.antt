@@ -14,7 +14,7 @@ use Rattle.proof_text.specs.declared.class_proof.ClassProof.{ClassProof}
 use Rattle.strategies.specs.ClassDocument.{FitsFormat, IsClassDocumentFor, IsClassDocumentOf}
 use Rattle.strategies.specs.Inside.ClassSide.{AreClassPadded}
 use Rattle.strategies.specs.Sides.{HasStrategy}
-use Rattle.strategies.proofs.KeptClassRules.{breaks_no_class_rule}
+use Rattle.strategies.proofs.KeptRules.{breaks_no_class_rule}
 use Rattle.strategies.proofs.OneSide.{breaks_no_rule_for, class_form_for}
 
 -- facts of a result together

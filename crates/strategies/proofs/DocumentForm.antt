@@ -18,10 +18,13 @@ use Rattle.proof_text.specs.Proof.{PlainProof, IsClaim, AreTurns, IsAnswerRow, I
 use Rattle.proof_text.specs.Proof.{asks_labeller, asks_adversary}
 use Rattle.proof_text.specs.Documents.{IsProof}
 use Rattle.strategies.specs.Best.{IsLess}
-use Rattle.strategies.specs.Document.{IsAnswerable, IsAnswerMove, LeadsBy, IsLabellerRow, IsAdversaryRow, AsksAdversary}
-use Rattle.strategies.specs.Document.{AreExactly, IsDocumentOf, turns_of}
+use Rattle.strategies.specs.Document.{IsDocumentOf}
+use Rattle.strategies.specs.PositionDocument.{IsAnswerable, IsAnswerMove, turns_of, AsksAdversary, LeadsOver}
+use Rattle.strategies.specs.PositionDocument.{IsLabellerRowOver, IsAdversaryRowOver, AreExactlyOver}
 use Rattle.positions.specs.Claim.{claim_of}
 use Rattle.strategies.proofs.ValueOrder.{worthless}
+use Rattle.proof_text.specs.Positions.{Positions, configuration_positions}
+use Rattle.strategies.proofs.PositionLaws.{are_plain}
 use Rattle.strategies.proofs.ReachedByMoves.{answers_lead_to, requests_lead_to}
 
 -- a finite value is smaller than the number of configurations
@@ -63,7 +66,7 @@ few_rows rank bound (row ∷ rows) ascends each =
 pub section : {X : Type 0} (board : PlainBoard) (IsRow IsFormed : X → Type 0) (at : X → List ℕ) (rows : List X)
     → configurations board ≤ MAX_CONFIGURATIONS
     → ((row : X) → IsRow row → IsConfiguration board (at row)) → ((row : X) → IsRow row → IsFormed row)
-    → AreExactly board IsRow at rows → (length rows ≤ MAX_CONFIGURATIONS) × All IsFormed rows
+    → AreExactlyOver (rank_of board) IsRow at rows → (length rows ≤ MAX_CONFIGURATIONS) × All IsFormed rows
 section {X} board IsRow IsFormed at rows few are formed exactly =
     let is : (k : ℕ) (d : X) → k < length rows → IsRow (get_or rows k d) =
     λ k d inside. (exactly.each (get_or rows k d)).0 (Contains-get_or rows k d inside) in
@@ -81,10 +84,10 @@ turns_formed (Finite (suc number)) (Finite value) low some here = (omega (arith,
 turns_formed (Finite (suc number)) Forever low some here = (omega arith, omega (arith, low))
 
 -- if best answers lead to a configuration of value 1 or more, they lead from one
-pub start_answerable : (board : PlainBoard) (from : List ℕ) (moves : List (ℕ × ℕ)) (to : List ℕ)
-    → LeadsBy (IsAnswerMove board) from moves to → IsAnswerable board to → IsAnswerable board from
-start_answerable board from [] to leads some = subst (IsAnswerable board) (sym leads) some
-start_answerable board from (move ∷ moves) to leads some = leads.0.answerable
+pub start_answerable : (board : PlainBoard) (positions : Positions) (from : List ℕ) (moves : List (ℕ × ℕ)) (to : List ℕ)
+    → LeadsOver positions (IsAnswerMove board) from moves to → IsAnswerable board to → IsAnswerable board from
+start_answerable board positions from [] to leads some = subst (IsAnswerable board) (sym leads) some
+start_answerable board positions from (move ∷ moves) to leads some = leads.0.answerable
 
 pub not_answerable : (board : PlainBoard) (configuration : List ℕ) → IsAnswerable board configuration
     → HasValue board configuration (Finite 0) → ⊥
@@ -100,12 +103,12 @@ module _ (board : PlainBoard) (proof : PlainProof) (is_start : IsConfiguration b
 
   -- ---- rows
 
-  answers_configuration : (row : AnswerRow) → IsLabellerRow board is.value row → IsConfiguration board row.at
-  answers_configuration row is_row = answers_lead_to board board.start is_row.moves row.at is_start is_row.reached
+  answers_configuration : (row : AnswerRow) → IsLabellerRowOver configuration_positions board is.value row → IsConfiguration board row.at
+  answers_configuration row is_row = answers_lead_to board configuration_positions (are_plain board) board.start is_row.moves row.at is_start is_row.reached
 
-  answers_formed : (row : AnswerRow) → IsLabellerRow board is.value row → IsAnswerRow board (claim_of is.value) row
+  answers_formed : (row : AnswerRow) → IsLabellerRowOver configuration_positions board is.value row → IsAnswerRow board (claim_of is.value) row
   answers_formed row is_row =
-      let some : IsAnswerable board board.start = start_answerable board board.start is_row.moves row.at is_row.reached
+      let some : IsAnswerable board board.start = start_answerable board configuration_positions board.start is_row.moves row.at is_row.reached
       (record { value = is_row.value; has_value = is_row.has_value; some = is_row.some }) in
       let not_zero : is.value ≡ Finite 0 → ⊥ = λ same. not_answerable board board.start some
       (subst (HasValue board board.start) same is.has_value) in
@@ -121,12 +124,12 @@ module _ (board : PlainBoard) (proof : PlainProof) (is_start : IsConfiguration b
         );
       }
 
-  requests_configuration : (row : RequestRow) → AsksAdversary is.value × IsAdversaryRow board row
+  requests_configuration : (row : RequestRow) → AsksAdversary is.value × IsAdversaryRowOver configuration_positions board row
       → IsConfiguration board row.at
   requests_configuration row (asks, is_row) =
-      requests_lead_to board board.start is_row.moves row.at is_start is_row.reached
+      requests_lead_to board configuration_positions (are_plain board) board.start is_row.moves row.at is_start is_row.reached
 
-  requests_formed : (row : RequestRow) → AsksAdversary is.value × IsAdversaryRow board row → IsRequestRow board row
+  requests_formed : (row : RequestRow) → AsksAdversary is.value × IsAdversaryRowOver configuration_positions board row → IsRequestRow board row
   requests_formed row (asks, is_row) =
       let low = value_below board row.at row.left (requests_configuration row (asks, is_row)) is_row.has_value in
       record {
@@ -151,7 +154,7 @@ module _ (board : PlainBoard) (proof : PlainProof) (is_start : IsConfiguration b
 
   answers : (length proof.labeller ≤ MAX_CONFIGURATIONS) × All (IsAnswerRow board (claim_of is.value)) proof.labeller
   answers =
-      section board (IsLabellerRow board is.value) (IsAnswerRow board (claim_of is.value))
+      section board (IsLabellerRowOver configuration_positions board is.value) (IsAnswerRow board (claim_of is.value))
       (λ (row : AnswerRow). row.at) proof.labeller few
       answers_configuration answers_formed is.labeller
 

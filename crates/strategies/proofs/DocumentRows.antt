@@ -8,10 +8,12 @@ use Rattle.positions.specs.Value.{HasValue}
 use Rattle.positions.specs.Table.{AnswerRow, RequestRow}
 use Rattle.positions.proofs.Cited.{lasts_at_most}
 use Rattle.strategies.specs.Best.{IsLess, IsBestAnswer}
-use Rattle.strategies.specs.Document.{IsAnswerMove, IsRequestMove, LeadsBy, IsLabellerRow, IsAdversaryRow, turns_of}
+use Rattle.proof_text.specs.Positions.{Positions}
+use Rattle.strategies.specs.PositionDocument.{IsAnswerMove, IsRequestMove, turns_of, LeadsOver, IsLabellerRowOver}
+use Rattle.strategies.specs.PositionDocument.{IsAdversaryRowOver}
 use Rattle.strategies.proofs.BestAnswers.{best_answer}
 use Rattle.strategies.proofs.BestRequests.{best_request}
-use Rattle.strategies.proofs.ReachedByMoves.{answers_lead_to}
+use Rattle.strategies.proofs.PositionLaws.{ArePositions}
 
 -- a list of numbers, one for each below a bound
 pub each_number : (P : ℕ → ℕ → Type 0) (count : ℕ) → ((k : ℕ) → k < count → (n : ℕ) × P k n)
@@ -36,18 +38,19 @@ answers_one board configuration (Finite number) has some =
     lasts_at_most board configuration 1 number (omega (arith, some)) has.0
 answers_one board configuration Forever has some = has 1
 
--- each configuration of value 1 or more that best answers lead to has a row
-pub answer_row_for : (board : PlainBoard) (start value : Value) (moves : List (ℕ × ℕ)) (to : List ℕ)
-    → IsConfiguration board board.start
-    → LeadsBy (IsAnswerMove board) board.start moves to → HasValue board to value → IsLess (Finite 0) value
-    → (row : AnswerRow) × IsLabellerRow board start row × (row.at ≡ to) × (row.turns ≡ turns_of start value)
-answer_row_for board start value moves to is leads has some =
+-- all places of value 1 or more that best answers lead to have a row
+pub answer_row_for : (board : PlainBoard) (positions : Positions) (start value : Value) (moves : List (ℕ × ℕ))
+    (to : List ℕ) → IsConfiguration board to
+    → LeadsOver positions (IsAnswerMove board) (positions.normal board.start) moves to
+    → HasValue board to value → IsLess (Finite 0) value
+    → (row : AnswerRow) × IsLabellerRowOver positions board start row × (row.at ≡ to)
+    × (row.turns ≡ turns_of start value)
+answer_row_for board positions start value moves to is leads has some =
     let lasts = answers_one board to value has some in
     let answers = each_number (IsBestAnswer board to) board.pebbles
-    (λ pebble below. let answer = lasts pebble below in
-    best_answer board to pebble (answers_lead_to board board.start moves to is leads) answer.0 answer.1) in
+    (λ pebble below. let answer = lasts pebble below in best_answer board to pebble is answer.0 answer.1) in
     let row : AnswerRow = record { at = to; turns = turns_of start value; answers = answers.0 } in
-    let is_row : IsLabellerRow board start row = record {
+    let is_row : IsLabellerRowOver positions board start row = record {
       moves = moves;
       reached = leads;
       value = value;
@@ -59,12 +62,21 @@ answer_row_for board start value moves to is leads has some =
     } in
     (row, is_row, refl, refl)
 
--- each configuration of a finite value that best requests lead to has a row
-pub request_row_for : (board : PlainBoard) (number : ℕ) (moves : List (ℕ × ℕ)) (to : List ℕ)
-    → LeadsBy (IsRequestMove board) board.start moves to → HasValue board to (Finite number)
-    → (row : RequestRow) × IsAdversaryRow board row × (row.at ≡ to) × (row.left ≡ number)
-request_row_for board number moves to leads has =
+-- all places of a finite value that best requests lead to have a row
+pub request_row_for : (board : PlainBoard) (positions : Positions) → ArePositions board positions → (number : ℕ)
+    (moves : List (ℕ × ℕ)) (to : List ℕ) → IsConfiguration board to
+    → LeadsOver positions (IsRequestMove board) (positions.normal board.start) moves to
+    → HasValue board to (Finite number)
+    → (row : RequestRow) × IsAdversaryRowOver positions board row × (row.at ≡ to) × (row.left ≡ number)
+request_row_for board positions are number moves to is leads has =
     let best = best_request board number to has in
-    let row : RequestRow = record { at = to; left = number; request = best.0 } in
-    let is_row : IsAdversaryRow board row = record { moves = moves; reached = leads; has_value = has; best = best.1 } in
+    let asking = are.asking to number best.0 is best.1 in
+    let row : RequestRow = record { at = to; left = number; request = asking.0 } in
+    let is_row : IsAdversaryRowOver positions board row = record {
+      moves = moves;
+      reached = leads;
+      has_value = has;
+      asks = asking.1.asks;
+      best = asking.1.best;
+    } in
     (row, is_row, refl, refl)

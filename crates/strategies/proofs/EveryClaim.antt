@@ -15,7 +15,7 @@ use Rattle.positions.specs.Table.{AnswerRow, RequestRow}
 use Rattle.positions.proofs.Cited.{moved_is_configuration, some_value, same_value}
 use Rattle.proof_text.specs.Rules.{IsEnough, one_less, Serves, IsListedFor, IsListedBelow}
 use Rattle.strategies.specs.Best.{IsLess, IsBestAnswer, IsBestRequest}
-use Rattle.strategies.specs.Document.{turns_of}
+use Rattle.strategies.specs.PositionDocument.{turns_of}
 use Rattle.strategies.proofs.ValueOrder.{less_than_finite}
 use Rattle.strategies.proofs.BestAnswers.{best_answer, lasts_after}
 use Rattle.strategies.proofs.BestRequests.{best_request}
@@ -28,7 +28,7 @@ use Rattle.proof_text.proofs.Cited.{asked_below}
 use Rattle.proof_text.proofs.Cited.{arranged_is}
 use Rattle.proof_text.proofs.Cited.{arranged-again}
 use Rattle.strategies.proofs.LikePebbles.{arranged-value, first-best}
-use Rattle.strategies.proofs.KeptClassRules.{keeps}
+use Rattle.strategies.proofs.KeptRules.{keeps}
 use Rattle.strategies.proofs.ClassNumbers.{last_number, numbers-end}
 use Rattle.strategies.proofs.EveryClass.{IsArrangedAt, RowsBelow, rows_below}
 

@@ -10,7 +10,7 @@ use lib.Pointwise.{pointwise, bytes_decides}
 use Rattle.board_text.specs.PlainBoard.{PlainBoard, IsConfiguration, places}
 use Rattle.proof_text.specs.Arranged.{arranged, order_number, IsClassBefore}
 use Rattle.proof_check.specs.FirstFaults.{HasRow}
-use Rattle.strategies.specs.Inside.ReachedClasses.{class_numbered}
+use Rattle.strategies.specs.Inside.Numbering.{class_numbered}
 use Rattle.strategies.proofs.ClassNumbers.{class_numbered-order}
 
 -- ---- decisions

@@ -8,8 +8,11 @@ use Rattle.positions.proofs.Cited.{moved_is_configuration}
 use Rattle.positions.specs.declared.value.Value.{Value}
 use Rattle.positions.specs.Value.{HasValue}
 use Rattle.strategies.specs.Best.{HasGreatestResult, IsBestRequest}
-use Rattle.strategies.specs.Document.{IsAnswerable}
+use Rattle.strategies.specs.Inside.Numbering.{class_numbered}
+use Rattle.strategies.specs.Inside.ReachedClasses.{number_of_class_at, normal_number, IsClassAnswerStep}
+use Rattle.strategies.specs.Inside.ReachedClasses.{ClassRequestLeads, LegalLeads, AreExpandedBy}
 use Rattle.strategies.specs.Inside.ReachedRanks.{IsWith, IsWithAll}
+use Rattle.strategies.specs.PositionDocument.{IsAnswerable}
 use Rattle.strategies.proofs.AddedRanks.{added_known, added_one, added_same}
 use Rattle.strategies.proofs.BestRequests.{same_request}
 use Rattle.classes.specs.Classes.{class_of, put}
@@ -18,9 +21,6 @@ use Rattle.classes.proofs.Cited.{class_of-set, legal-answers, put-cancel}
 use Rattle.proof_text.specs.Arranged.{arranged, order_number}
 use Rattle.proof_text.proofs.Cited.{class-arranged}
 use Rattle.strategies.specs.Inside.NormalForm.{IsNormalForm}
-use Rattle.strategies.specs.Inside.ReachedClasses.{class_numbered, normal_number, number_of_class_at}
-use Rattle.strategies.specs.Inside.ReachedClasses.{ClassRequestLeads, IsClassAnswerStep, LegalLeads}
-use Rattle.strategies.specs.Inside.ReachedClasses.{AreExpandedBy}
 use Rattle.strategies.proofs.ClassNumbers.{class_numbered-number_at}
 use Rattle.strategies.proofs.LikePebbles.{same-value}
 

@@ -16,9 +16,11 @@ use Rattle.positions.specs.Ranks.{configurations}
 use Rattle.strategies.specs.declared.lines.Lines.{Lines}
 use Rattle.strategies.specs.Inside.Lines.{AreLinesBetween, AreSectionLines}
 use Rattle.strategies.specs.Inside.Marks.{AreListed, IsMarked}
+use Rattle.strategies.specs.Inside.Numbering.{by_rank}
 use Rattle.strategies.specs.Inside.Side.{Side, AreReached, AreRowsAt}
 use Rattle.strategies.proofs.OneList.{behind_first, tail_ascends}
-use Rattle.strategies.proofs.RowsAtRanks.{rows_append, section_is}
+use Rattle.strategies.proofs.Numberings.{are_ranks, ranks_end}
+use Rattle.strategies.proofs.RowsAt.{rows_append, section_of_marks}
 
 -- each span has its ranks, and all have no more than are there and one span more
 pub within_spans : (all size count span : ℕ) → 0 < size → count ≡ all / size + min 1 (all % size) → span < count
@@ -78,7 +80,7 @@ module _ {R : Type 0} (board : PlainBoard) (side : Side R) (line : R → List �
     ranks : List ℕ
     listed : AreListed (IsMarked marks) first end ranks
     rows : List R
-    are_rows : AreRowsAt board side ranks rows
+    are_rows : AreRowsAt (by_rank board) side ranks rows
     bytes_are : flat_map (λ (part : Lines). part.bytes.items) parts ≡ flat_map line rows
     count_is : sum_by (λ (part : Lines). part.rows) parts ≡ length rows
 
@@ -105,7 +107,7 @@ module _ {R : Type 0} (board : PlainBoard) (side : Side R) (line : R → List �
     ranks = one.ranks ++ others.ranks;
     listed = listed_on (IsMarked marks) first mid end one.ranks others.ranks before after one.listed others.listed;
     rows = one.are_lines.rows ++ others.rows;
-    are_rows = rows_append board side one.ranks others.ranks one.are_lines.rows others.rows one.are_lines.are_rows
+    are_rows = rows_append board (by_rank board) (are_ranks board) side one.ranks others.ranks one.are_lines.rows others.rows one.are_lines.are_rows
         others.are_rows;
     bytes_are = flat_map-cons (λ (p : Lines). p.bytes.items) part parts
         ∙ (λ i. one.are_lines.bytes_are i ++ others.bytes_are i)
@@ -140,7 +142,7 @@ module _ {R : Type 0} (board : PlainBoard) (side : Side R) (line : R → List �
       (subst (λ n. AreSpanLines n ((first + 1 + count) * size) parts) step others))
 
   -- spans that have all ranks
-  all_spans : (size count : ℕ) (parts : List Lines) → AreReached board side marks
+  all_spans : (size count : ℕ) (parts : List Lines) → AreReached (by_rank board) board side (IsMarked marks)
       → configurations board ≤ count * size
       → AllZip (λ span part. AreLinesBetween board side line marks (span * size) (span * size + size) part)
       (range_with_len 0 count) parts
@@ -151,7 +153,8 @@ module _ {R : Type 0} (board : PlainBoard) (side : Side R) (line : R → List �
       let whole : AreSpanLines 0 (count * size) parts = subst (λ n. AreSpanLines n (count * size) parts) none
       (subst (λ n. AreSpanLines (0 * size) (n * size) parts) all (spans size count 0 parts are)) in record {
         rows = whole.rows;
-        are_rows = section_is board side marks (count * size) whole.ranks whole.rows reached enough whole.listed
+        are_rows = section_of_marks board (by_rank board) (are_ranks board) side marks (count * size) whole.ranks whole.rows reached
+            (ranks_end board (count * size) enough) whole.listed
             whole.are_rows;
         bytes_are = whole.bytes_are;
         count_is = whole.count_is;
@@ -165,7 +168,7 @@ module _ {R : Type 0} (board : PlainBoard) (side : Side R) (line : R → List �
   made_of E Is (span ∷ numbers) (part ∷ parts) are = (are.0, made_of E Is numbers parts are.1)
 
   -- the lines that were made of each span, unless one was refused memory
-  pub joined : {E V : Type 0} (items : V → List Lines) (size count : ℕ) → AreReached board side marks
+  pub joined : {E V : Type 0} (items : V → List Lines) (size count : ℕ) → AreReached (by_rank board) board side (IsMarked marks)
       → configurations board ≤ count * size → (made : List (Result Lines E))
       → AllZip (λ span (lines : Result Lines E). IfOk lines
       (AreLinesBetween board side line marks (span * size) (span * size + size))) (range_with_len 0 count) made

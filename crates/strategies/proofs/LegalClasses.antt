@@ -8,9 +8,9 @@ use Rattle.positions.specs.Counts.{IsSmallest}
 use Rattle.positions.specs.Game.{Legal, moved}
 use Rattle.positions.specs.LabelWalk.{Walk, TakesSmallest}
 use Rattle.positions.proofs.Cited.{AreFrom, after_step, from_zero, next_of, none_left, walk_begins}
+use Rattle.strategies.specs.Inside.ReachedClasses.{normal_number, IsLegalStep, LegalLeads}
 use Rattle.strategies.specs.Inside.ReachedRanks.{IsWith, IsWithAll}
 use Rattle.strategies.proofs.AddedRanks.{Below, added_one, added_same, added_start, added_more, below_same, below_all}
-use Rattle.strategies.specs.Inside.ReachedClasses.{normal_number, IsLegalStep, LegalLeads}
 
 -- the walk is over the legal labels from its bound on, and the normal places after those below are added
 pub record AreAddedBefore (board : PlainBoard) (normal : List ℕ → List ℕ) (from : List ℕ) (pebble : ℕ) (walk : Walk)

@@ -1,4 +1,6 @@
 -- The document of the board with a lone pebble.
+use Rattle.positions.specs.Ranks.{rank_of}
+use Rattle.proof_text.specs.Positions.{configuration_positions}
 use Rattle.std.proofs.Common.{◌≡◌, ℕ, zero, suc, ◌<◌, List, [], ◌∷◌, slice_index, refl, sym, subst, arith}
 use Rattle.std.proofs.lemmas.List.Elements.{All-cons, All-nil}
 use Rattle.board_text.specs.PlainBoard.{IsBoard}
@@ -9,8 +11,9 @@ use Rattle.positions.specs.Game.{Legal, LabellerTree, moved}
 use Rattle.positions.specs.Inside.Game.{HasAnswer}
 use Rattle.positions.specs.Table.{AnswerRow, RequestRow}
 use Rattle.strategies.specs.Best.{HasNoGreaterValue, IsBestAnswer}
-use Rattle.strategies.specs.Document.{IsAnswerMove, LeadsBy, IsLabellerRow, IsAdversaryRow, AsksAdversary, AreExactly}
 use Rattle.strategies.specs.Document.{IsDocumentOf}
+use Rattle.strategies.specs.PositionDocument.{IsAnswerMove, AsksAdversary, LeadsOver, IsLabellerRowOver}
+use Rattle.strategies.specs.PositionDocument.{IsAdversaryRowOver, AreExactlyOver}
 use Rattle.strategies.specs.Example.{lone_board, lone_document}
 use Rattle.strategies.proofs.OneList.{one_answer_row}
 use Rattle.strategies.proofs.RowLists.{no_rows, one_row}
@@ -60,7 +63,7 @@ best_answer = (
 abbrev answers : AnswerRow
 answers = record { at = start; turns = Always; answers = 0 ∷ [] }
 
-is_row : IsLabellerRow lone_board Forever answers
+is_row : IsLabellerRowOver configuration_positions lone_board Forever answers
 is_row = record {
   moves = [];
   reached = refl;
@@ -76,21 +79,21 @@ is_row = record {
     best zero below = best_answer
     best (suc pebble) below = absurd (omega arith)
 
-only_start : (moves : List (ℕ × ℕ)) (to : List ℕ) → LeadsBy (IsAnswerMove lone_board) start moves to → start ≡ to
+only_start : (moves : List (ℕ × ℕ)) (to : List ℕ) → LeadsOver configuration_positions (IsAnswerMove lone_board) start moves to → start ≡ to
 only_start [] to leads = leads
 only_start ((zero, label) ∷ moves) to leads =
-    only_start moves to (subst (λ (l : ℕ). LeadsBy (IsAnswerMove lone_board) (moved start 0 l) moves to)
+    only_start moves to (subst (λ (l : ℕ). LeadsOver configuration_positions (IsAnswerMove lone_board) (moved start 0 l) moves to)
     (only_label label leads.0.best.0.legal) leads.1)
 only_start ((suc pebble, label) ∷ moves) to leads = absurd (omega (arith, leads.0.is_pebble))
 
-labeller_rows : AreExactly lone_board (IsLabellerRow lone_board Forever)
+labeller_rows : AreExactlyOver (rank_of lone_board) (IsLabellerRowOver configuration_positions lone_board Forever)
     (λ (row : AnswerRow). row.at) lone_document.labeller
-labeller_rows = one_row lone_board (λ (row : AnswerRow). row.at) (IsLabellerRow lone_board Forever) answers is_row
-    (λ row is. one_answer_row lone_board Forever answers row is_row is (only_start is.moves row.at is.reached))
+labeller_rows = one_row (rank_of lone_board) (λ (row : AnswerRow). row.at) (IsLabellerRowOver configuration_positions lone_board Forever) answers is_row
+    (λ row is. one_answer_row lone_board configuration_positions Forever answers row is_row is (only_start is.moves row.at is.reached))
 
-adversary_rows : AreExactly lone_board (λ (row : RequestRow). AsksAdversary Forever × IsAdversaryRow lone_board row)
+adversary_rows : AreExactlyOver (rank_of lone_board) (λ (row : RequestRow). AsksAdversary Forever × IsAdversaryRowOver configuration_positions lone_board row)
     (λ (row : RequestRow). row.at) lone_document.adversary
-adversary_rows = no_rows lone_board (λ (row : RequestRow). row.at) _ (λ row asked. asked.0)
+adversary_rows = no_rows (rank_of lone_board) (λ (row : RequestRow). row.at) _ (λ row asked. asked.0)
 
 pub is_document : IsDocumentOf lone_board lone_document
 is_document =

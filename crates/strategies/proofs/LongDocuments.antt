@@ -30,21 +30,23 @@ use Rattle.proof_text.specs.Positions.{normal_positions}
 use Rattle.proof_text.specs.Proof.{PlainProof, asks_adversary, asks_labeller}
 use Rattle.proof_text.specs.ProofText.{answer_line, class_request_line, turns_text}
 use Rattle.strategies.specs.ClassDocument.{CannotBeMade}
-use Rattle.strategies.specs.Document.{AsksAdversary, IsRequestMove}
+use Rattle.strategies.specs.Inside.ClassSide.{class_labeller_side, class_adversary_side, AreMoreReached, HasNoSection}
+use Rattle.strategies.specs.Inside.Numbering.{by_order, class_numbered, IsClassNumber}
+use Rattle.strategies.specs.Inside.ReachedClasses.{IsClassReachedByAnswers, IsClassReachedByRequests}
+use Rattle.strategies.specs.PositionDocument.{IsRequestMove, AsksAdversary, LeadsOver, IsLabellerRowOver}
+use Rattle.strategies.specs.PositionDocument.{IsAdversaryRowOver, IsDocumentOver}
 use Rattle.strategies.specs.Sides.{HasStrategy, claim_for, document_for}
 use Rattle.strategies.specs.declared.unmade.Unmade.{Unmade}
 use Rattle.strategies.specs.declared.unmade.Unmade.TheVariants.{Memory, TooLong}
-use Rattle.strategies.specs.Inside.ClassSide.{AreMoreReached, HasNoSection, class_adversary_side, class_labeller_side}
 use Rattle.strategies.specs.Inside.LongSections.{HasLongSections, HasNoRows}
 use Rattle.strategies.specs.Inside.NormalForm.{IsNormalForm}
-use Rattle.strategies.specs.Inside.ReachedClasses.{class_numbered, IsClassNumber, IsClassReachedByAnswers}
-use Rattle.strategies.specs.Inside.ReachedClasses.{IsClassReachedByRequests}
-use Rattle.strategies.specs.PositionDocument.{IsAdversaryRowOver, IsDocumentOver, IsLabellerRowOver, LeadsOver}
-use Rattle.strategies.proofs.ClassMoves.{answer_row_for, request_row_for}
+use Rattle.strategies.proofs.Numberings.{are_orders}
+use Rattle.strategies.proofs.PositionLaws.{are_normal}
+use Rattle.strategies.proofs.DocumentRows.{answer_row_for, request_row_for}
 use Rattle.strategies.proofs.LongTexts.{adversary_section, in_class_text, labeller_section}
-use Rattle.strategies.proofs.OneClassList.{adversarys, labellers}
+use Rattle.strategies.proofs.GatheredRows.{adversarys, labellers}
 use Rattle.strategies.proofs.OneSide.{adversary_is, asks_finite, claim_is, labeller_is}
-use Rattle.strategies.proofs.SomeClassDocument.{document_exists_over}
+use Rattle.strategies.proofs.SomeDocument.{document_exists_over}
 use Rattle.strategies.proofs.ValueOrder.{less_than_finite}
 
 -- ---- the lengths of lines
@@ -122,7 +124,8 @@ module _ (board : PlainBoard) (normal : List ℕ → List ℕ) (form : IsNormalF
   answers_long : (start : Value) (row : AnswerRow) → IsLabellerRowOver (normal_positions normal) board start row
       → 13 + 4 * board.pebbles ≤ length (answer_line board row)
   answers_long start row is =
-      let at_is = (labellers board normal form start is_board.start).is row is in
+      let at_is = (labellers board (normal_positions normal) (are_normal board normal form) (by_order board) is_board.start
+      (λ (r : AnswerRow). r) (λ r. Unit {0}) start).is row is in
       let at_long = places_long board.labels (places board) row.at few at_is.each_place in
       let answers_long = places_long board.labels board.labels row.answers (omega (arith, is_board.labels.1))
       (λ k d inside. placed row is k d inside) in
@@ -147,7 +150,8 @@ module _ (board : PlainBoard) (normal : List ℕ → List ℕ) (form : IsNormalF
   requests_long : (start : Value) (row : RequestRow) → IsAdversaryRowOver (normal_positions normal) board row
       → 13 + 2 * board.pebbles ≤ length (class_request_line board row)
   requests_long start row is =
-      let at_is = (adversarys board normal form start is_board.start).is row is in
+      let at_is = (adversarys board (normal_positions normal) (are_normal board normal form) (by_order board) is_board.start
+      (λ (r : RequestRow). r) (λ r. Unit {0})).is row is in
       let at_long = places_long board.labels (places board) row.at few at_is.each_place in
       let word : length (codes " ask") ≡ 4 = refl in
       omega (
@@ -173,7 +177,8 @@ module _ (board : PlainBoard) (normal : List ℕ → List ℕ) (form : IsNormalF
       → bytes < (most + 1) * (13 + 4 * board.pebbles)
       → AreMoreReached board (class_labeller_side board normal start) most → HasLongSections side board normal bytes
   labeller_too_long side start bytes most has strategy asked room (numbers, apart, each, more) =
-      let made = document_exists_over board normal form is_board.start in
+      let made = document_exists_over board (normal_positions normal) (are_normal board normal form) (by_order board)
+      (are_orders board) is_board.start in
       let proof : PlainProof = made.0 in
       let is : IsDocumentOver (normal_positions normal) (order_number board.labels) board proof = made.1 in
       let number_of : AnswerRow → ℕ = λ row. order_number board.labels row.at in
@@ -181,7 +186,7 @@ module _ (board : PlainBoard) (normal : List ℕ → List ℕ) (form : IsNormalF
       λ number among.
       let found : IsClassNumber board number × IsClassReachedByAnswers board normal number =
       All-contains (λ m. IsClassNumber board m × IsClassReachedByAnswers board normal m) numbers number each among in
-      let row = answer_row_for board normal is.value found.1.holds.value found.1.moves (class_numbered board number)
+      let row = answer_row_for board (normal_positions normal) is.value found.1.holds.value found.1.moves (class_numbered board number)
       found.0.is
       found.1.reached found.1.holds.has_value found.1.holds.some in
       subst (Contains (map number_of proof.labeller)) (ap (order_number board.labels) row.2 ∙ found.0.number_is)
@@ -227,7 +232,8 @@ module _ (board : PlainBoard) (normal : List ℕ → List ℕ) (form : IsNormalF
   adversary_too_long side Forever bytes most has strategy asked room more =
       absurd (asks_finite side Forever asked)
   adversary_too_long side (Finite number) bytes most has strategy asked room (numbers, apart, each, more) =
-      let made = document_exists_over board normal form is_board.start in
+      let made = document_exists_over board (normal_positions normal) (are_normal board normal form) (by_order board)
+      (are_orders board) is_board.start in
       let proof : PlainProof = made.0 in
       let is : IsDocumentOver (normal_positions normal) (order_number board.labels) board proof = made.1 in
       let same : Finite number ≡ is.value = same_value board board.start (Finite number) is.value has is.has_value in
@@ -241,7 +247,7 @@ module _ (board : PlainBoard) (normal : List ℕ → List ℕ) (form : IsNormalF
       let found : IsClassNumber board n × IsClassReachedByRequests board normal n =
       All-contains (λ m. IsClassNumber board m × IsClassReachedByRequests board normal m) numbers n each among in
       let left = stays_finite from number found.1.moves (class_numbered board n) start_is start_has found.1.reached in
-      let row = request_row_for board normal left.0 found.1.moves (class_numbered board n) found.0.is found.1.reached
+      let row = request_row_for board (normal_positions normal) (are_normal board normal form) left.0 found.1.moves (class_numbered board n) found.0.is found.1.reached
       left.1 in
       subst (Contains (map number_of proof.adversary)) (ap (order_number board.labels) row.2 ∙ found.0.number_is)
       (contains_map number_of proof.adversary row.0 ((is.adversary.each row.0).1 (asks, row.1))) in

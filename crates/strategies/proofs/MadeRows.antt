@@ -9,11 +9,12 @@ use Rattle.board_text.specs.declared.board.TheConstants.{MAX_PEBBLES}
 use Rattle.positions.specs.declared.value.Value.{Value}
 use Rattle.positions.specs.declared.value.Value.TheVariants.{Finite}
 use Rattle.positions.specs.Value.{HasValue}
-use Rattle.positions.specs.Ranks.{configuration_at}
+use Rattle.proof_text.specs.Positions.{Positions}
 use Rattle.positions.proofs.Cited.{same_value}
 use Rattle.strategies.specs.Best.{IsLess, IsBestAnswer, IsBestFor}
-use Rattle.strategies.specs.Document.{IsLabellerRow, turns_of}
-use Rattle.strategies.specs.Inside.ReachedRanks.{IsReachedByAnswers}
+use Rattle.strategies.specs.Inside.Numbering.{Numbering}
+use Rattle.strategies.specs.Inside.ReachedOver.{IsReachedByAnswersOver}
+use Rattle.strategies.specs.PositionDocument.{turns_of, IsLabellerRowOver}
 use Rattle.strategies.proofs.DocumentRows.{answers_one}
 
 -- the best answers to requests below a pebble are in their places, and all others are 0
@@ -40,34 +41,37 @@ taken_more board configuration pebble label labels low taken is = record {
       ∙ taken.rest other (omega arith);
 }
 
--- a configuration of value 1 or more has an answer to each request
-pub has_answer : (board : PlainBoard) (rank pebble : ℕ) → IsReachedByAnswers board rank → pebble < board.pebbles
-    → IsBestFor board (configuration_at board rank) pebble None → ⊥
-has_answer board rank pebble reached is_pebble none =
-    let c : List ℕ = configuration_at board rank in
-    let answer = answers_one board c reached.holds.value reached.holds.has_value reached.holds.some pebble is_pebble in
-    none answer.0 answer.1
+module _ (board : PlainBoard) (positions : Positions) (numbering : Numbering) (number : ℕ)
+    (reached : IsReachedByAnswersOver positions numbering board number) where
+  abbrev places : List ℕ
+  places = numbering.places number
 
--- the labeller's row of a configuration
-pub labeller_row_is : (board : PlainBoard) (start value : Value) (rank bound : ℕ) (labels : List ℕ) → IsBoard board
-    → board.pebbles ≤ bound
-    → IsReachedByAnswers board rank → HasValue board (configuration_at board rank) value
-    → AreTaken board (configuration_at board rank) bound labels
-    → IsLabellerRow board start
-    (record { at = configuration_at board rank; turns = turns_of start value; answers = take board.pebbles labels })
-labeller_row_is board start value rank bound labels is_board enough reached has taken =
-    let c : List ℕ = configuration_at board rank in
-    let same : reached.holds.value ≡ value = same_value board c reached.holds.value value reached.holds.has_value has in
-    let most = is_board.pebbles in
-    let room : board.pebbles ≤ length labels = omega (arith, most, taken.six) in
-    record {
-      moves = reached.moves;
-      reached = reached.reached;
-      value = value;
-      has_value = has;
-      some = subst (IsLess (Finite 0)) same reached.holds.some;
-      turns = refl;
-      one_each = length-take-le board.pebbles labels room;
-      best = λ pebble below. subst (IsBestAnswer board c pebble) (sym (get_or-take board.pebbles labels pebble 0 below))
-          (taken.best pebble (omega (arith, below, enough)));
-    }
+  -- places of value 1 or more have an answer to each request
+  pub has_answer : (pebble : ℕ) → pebble < board.pebbles → IsBestFor board places pebble None → ⊥
+  has_answer pebble is_pebble none =
+      let answer = answers_one board places reached.holds.value reached.holds.has_value reached.holds.some pebble
+      is_pebble in
+      none answer.0 answer.1
+
+  -- the labeller's row there
+  pub labeller_row_is : (start value : Value) (bound : ℕ) (labels : List ℕ) → IsBoard board → board.pebbles ≤ bound
+      → HasValue board places value → AreTaken board places bound labels
+      → IsLabellerRowOver positions board start
+      (record { at = places; turns = turns_of start value; answers = take board.pebbles labels })
+  labeller_row_is start value bound labels is_board enough has taken =
+      let same : reached.holds.value ≡ value =
+      same_value board places reached.holds.value value reached.holds.has_value has in
+      let most = is_board.pebbles in
+      let room : board.pebbles ≤ length labels = omega (arith, most, taken.six) in
+      record {
+        moves = reached.moves;
+        reached = reached.reached;
+        value = value;
+        has_value = has;
+        some = subst (IsLess (Finite 0)) same reached.holds.some;
+        turns = refl;
+        one_each = length-take-le board.pebbles labels room;
+        best = λ pebble below. subst (IsBestAnswer board places pebble)
+            (sym (get_or-take board.pebbles labels pebble 0 below))
+            (taken.best pebble (omega (arith, below, enough)));
+      }

@@ -1,4 +1,4 @@
--- A board has one document at most, and that has one row at most for each configuration.
+-- A board has one document at most over positions, and that has one row at most at the same places.
 use Rattle.std.proofs.Common.{◌≡◌, ℕ, zero, suc, ◌<◌, ◌↔◌, List, [], ◌∷◌, length, get_or, slice_index, refl, sym, ap}
 use Rattle.std.proofs.Common.{◌∙◌, subst, arith}
 use Rattle.std.specs.List.{AllPairs, Contains}
@@ -14,10 +14,16 @@ use Rattle.positions.specs.Ranks.{rank_of}
 use Rattle.positions.proofs.Cited.{same_value}
 use Rattle.proof_text.specs.Proof.{PlainProof}
 use Rattle.strategies.specs.Best.{IsBestAnswer, IsBestRequest}
-use Rattle.strategies.specs.Document.{IsLabellerRow, IsAdversaryRow, AsksAdversary, AreExactly, IsDocumentOf, turns_of}
 use Rattle.positions.specs.Claim.{claim_of}
+use Rattle.proof_text.specs.Arranged.{order_number}
+use Rattle.proof_text.specs.Positions.{Positions, class_positions, configuration_positions}
+use Rattle.strategies.specs.ClassDocument.{IsClassDocumentOf}
+use Rattle.strategies.specs.Document.{IsDocumentOf}
+use Rattle.strategies.specs.PositionDocument.{turns_of, AsksAdversary, IsLabellerRowOver, IsAdversaryRowOver}
+use Rattle.strategies.specs.PositionDocument.{AreExactlyOver, IsDocumentOver}
 use Rattle.strategies.proofs.BestAnswers.{same_answer}
-use Rattle.strategies.proofs.BestRequests as requests
+use Rattle.strategies.proofs.BestRequests.{same_request}
+use Rattle.strategies.proofs.PositionLaws.{ArePositions}
 
 -- ---- ascending lists with the same members
 
@@ -71,36 +77,48 @@ module _ {X : Type 0} (rank : X → ℕ) where
       ap (λ (r : X). r ∷ ones) equal ∙ ap (λ (rs : List X). other ∷ rs) rest
 
 -- lists of exactly the same rows are the same
-pub same_rows : {X : Type 0} (board : PlainBoard) (IsRow : X → Type 0) (at : X → List ℕ) (ones others : List X)
-    → AreExactly board IsRow at ones → AreExactly board IsRow at others → ones ≡ others
-same_rows board IsRow at ones others exactly also =
-    same_list (λ row. rank_of board (at row)) ones others exactly.ascending also.ascending (λ row. (
+pub same_rows : {X : Type 0} (number : List ℕ → ℕ) (IsRow : X → Type 0) (at : X → List ℕ) (ones others : List X)
+    → AreExactlyOver number IsRow at ones
+    → AreExactlyOver number IsRow at others → ones ≡ others
+same_rows number IsRow at ones others exactly also =
+    same_list (λ row. number (at row)) ones others exactly.ascending also.ascending (λ row. (
       λ among. (also.each row).1 ((exactly.each row).0 among),
       λ among. (exactly.each row).1 ((also.each row).0 among),
     ))
 
-pub one_document : (board : PlainBoard) (first second : PlainProof) → IsDocumentOf board first
-    → IsDocumentOf board second → first ≡ second
-one_document board first second one other =
+pub one_document_over : (positions : Positions) (number : List ℕ → ℕ) (board : PlainBoard)
+    (first second : PlainProof)
+    → IsDocumentOver positions number board first
+    → IsDocumentOver positions number board second → first ≡ second
+one_document_over positions number board first second one other =
     let value : other.value ≡ one.value =
     same_value board board.start other.value one.value other.has_value one.has_value in
     let claim : first.claim ≡ second.claim = one.claim ∙ sym (ap claim_of value) ∙ sym other.claim in
     let labeller : first.labeller ≡ second.labeller =
-    same_rows board (IsLabellerRow board one.value)
+    same_rows number (IsLabellerRowOver positions board one.value)
     (λ (row : AnswerRow). row.at) first.labeller second.labeller one.labeller
-    (subst (λ (v : Value). AreExactly board (IsLabellerRow board v)
+    (subst (λ (v : Value). AreExactlyOver number (IsLabellerRowOver positions board v)
     (λ (row : AnswerRow). row.at) second.labeller) value other.labeller) in
     let adversary : first.adversary ≡ second.adversary =
-    same_rows board (λ (row : RequestRow). AsksAdversary one.value × IsAdversaryRow board row)
+    same_rows number (λ (row : RequestRow). AsksAdversary one.value × IsAdversaryRowOver positions board row)
     (λ (row : RequestRow). row.at) first.adversary second.adversary one.adversary
-    (subst (λ (v : Value). AreExactly board (λ (row : RequestRow). AsksAdversary v × IsAdversaryRow board row)
+    (subst (λ (v : Value). AreExactlyOver number (λ (row : RequestRow). AsksAdversary v
+    × IsAdversaryRowOver positions board row)
     (λ (row : RequestRow). row.at) second.adversary) value other.adversary) in
     let same : ◌≡◌ {A = PlainProof}
     (record { claim = first.claim; labeller = first.labeller; adversary = first.adversary }) second =
     rw (claim, labeller, adversary) refl in
     same
 
--- ---- one row for each configuration
+pub one_document : (board : PlainBoard) (first second : PlainProof) → IsDocumentOf board first
+    → IsDocumentOf board second → first ≡ second
+one_document board = one_document_over configuration_positions (rank_of board) board
+
+pub one_class_document : (board : PlainBoard) (first second : PlainProof) → IsClassDocumentOf board first
+    → IsClassDocumentOf board second → first ≡ second
+one_class_document board = one_document_over (class_positions board.labels) (order_number board.labels) board
+
+-- ---- one row at the same places
 
 same_answers : (board : PlainBoard) (configuration ones others : List ℕ) → length ones ≡ board.pebbles
     → length others ≡ board.pebbles
@@ -112,10 +130,11 @@ same_answers board configuration ones others size long best also =
     (λ k inside. same_answer board configuration k (slice_index ones k) (slice_index others k)
     (best k (omega (arith, inside, size))) (also k (omega (arith, inside, size))))
 
-pub one_answer_row : (board : PlainBoard) (start : Value) (first second : AnswerRow) → IsLabellerRow board start first
-    → IsLabellerRow board start second
+pub one_answer_row : (board : PlainBoard) (positions : Positions) (start : Value) (first second : AnswerRow)
+    → IsLabellerRowOver positions board start first
+    → IsLabellerRowOver positions board start second
     → first.at ≡ second.at → first ≡ second
-one_answer_row board start first second one other at =
+one_answer_row board positions start first second one other at =
     let value : one.value ≡ other.value = same_value board second.at one.value other.value
     (subst (λ (c : List ℕ). HasValue board c one.value) at one.has_value) other.has_value in
     let turns : first.turns ≡ second.turns = one.turns ∙ ap (turns_of start) value ∙ sym other.turns in
@@ -130,15 +149,17 @@ one_answer_row board start first second one other at =
 finite_is : (a b : ℕ) → Finite a ≡ Finite b → a ≡ b
 finite_is a b same = cc
 
-pub one_request_row : (board : PlainBoard) (first second : RequestRow) → IsAdversaryRow board first
-    → IsAdversaryRow board second
-    → first.at ≡ second.at → first ≡ second
-one_request_row board first second one other at =
+pub one_request_row : (board : PlainBoard) (positions : Positions) → ArePositions board positions
+    → (first second : RequestRow)
+    → IsAdversaryRowOver positions board first
+    → IsAdversaryRowOver positions board second → first.at ≡ second.at → first ≡ second
+one_request_row board positions are first second one other at =
     let left : first.left ≡ second.left =
     finite_is first.left second.left (same_value board second.at (Finite first.left) (Finite second.left)
     (subst (λ (c : List ℕ). HasValue board c (Finite first.left)) at one.has_value) other.has_value) in
-    let request : first.request ≡ second.request = requests.same_request board second.at first.request second.request
-    (subst (λ (c : List ℕ). IsBestRequest board c first.request) at one.best) other.best in
+    let pebble : positions.asked first ≡ positions.asked second = same_request board second.at (positions.asked first)
+    (positions.asked second) (subst (λ (c : List ℕ). IsBestRequest board c (positions.asked first)) at one.best) other.best in
+    let request : first.request ≡ second.request = are.one first second one.asks other.asks at pebble in
     let same : ◌≡◌ {A = RequestRow} (record { at = first.at; left = first.left; request = first.request }) second =
     rw (at, left, request) refl in
     same

@@ -27,9 +27,8 @@ use Rattle.proof_text.specs.Versions.{answers_by_classes, by_configurations, req
 use Rattle.symmetries.specs.SymmetryRules.{alike_positions}
 use Rattle.symmetries.specs.Symmetries.{IsSymmetry, least_alike}
 use Rattle.strategies.specs.ClassDocument.{FitsFormat, IsClassDocumentOf}
-use Rattle.strategies.specs.Document.{AsksAdversary}
+use Rattle.strategies.specs.PositionDocument.{AsksAdversary, IsDocumentOver}
 use Rattle.strategies.specs.Inside.NormalForm.{IsNormalForm}
-use Rattle.strategies.specs.PositionDocument.{IsDocumentOver}
 use Rattle.strategies.specs.Sides.{HasStrategy, claim_for, document_for, part_of}
 use Rattle.strategies.specs.SymmetricDocument.{IsSymmetryDocumentOf, symmetric_document_for}
 use Rattle.strategies.proofs.ClassDocumentForm.{adversary_form, claim_form, has_form, labeller_asked, labeller_form}

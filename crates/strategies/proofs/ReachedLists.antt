@@ -11,25 +11,24 @@ use Rattle.positions.specs.declared.value.Value.TheVariants.{Finite, Forever}
 use Rattle.positions.specs.Game.{Legal, moved}
 use Rattle.positions.specs.Value.{HasValue}
 use Rattle.positions.proofs.Cited.{dominates_or_not, moved_is_configuration, some_value}
+use Rattle.proof_text.specs.Positions.{Positions}
 use Rattle.strategies.specs.Best.{IsBestAnswer, IsBestRequest}
-use Rattle.strategies.specs.Document.{IsAnswerable}
+use Rattle.strategies.specs.Inside.Numbering.{Numbering, AreAll}
+use Rattle.strategies.specs.Inside.ReachedOver.{number_over, IsAnswerStepOver, AnswerLeadsOver, IsRequestStepOver}
+use Rattle.strategies.specs.Inside.ReachedOver.{RequestLeadsOver, IsReachedOver, IsReachedByAnswersOver}
+use Rattle.strategies.specs.Inside.ReachedOver.{IsReachedByRequestsOver}
 use Rattle.strategies.specs.Inside.ReachedRanks.{IsWith, IsWithAll}
+use Rattle.strategies.specs.PositionDocument.{IsAnswerable}
 use Rattle.strategies.proofs.AddedRanks.{Below, added_known, added_one, added_same, added_start, added_more, below_all}
 use Rattle.strategies.proofs.AddedRanks.{contains_or_not, few_apart}
 use Rattle.strategies.proofs.BestAnswers.{best_answer, same_answer}
 use Rattle.strategies.proofs.BestRequests.{best_request, same_request, not_lowered}
-use Rattle.strategies.proofs.Closure.{answerable_or_not}
 use Rattle.strategies.proofs.DocumentRows.{answers_one}
-use Rattle.strategies.proofs.SpreadRanks.{get_there}
-use Rattle.strategies.specs.Inside.NormalForm.{IsNormalForm}
-use Rattle.strategies.specs.Inside.ReachedClasses.{class_numbered, normal_number, IsClassNumber}
-use Rattle.strategies.specs.Inside.ReachedClasses.{IsClassAnswerStep, ClassAnswerLeads}
-use Rattle.strategies.specs.Inside.ReachedClasses.{IsClassRequestStep, ClassRequestLeads, IsClassReachedBy}
-use Rattle.strategies.specs.Inside.ReachedClasses.{IsClassReachedByAnswers}
-use Rattle.strategies.specs.Inside.ReachedClasses.{IsClassReachedByRequests, AreClassNumbersOf}
-use Rattle.strategies.proofs.ClassNumbers.{last_number, number-ends}
-use Rattle.strategies.proofs.SpreadClasses.{AreMoves, answer_moves, request_moves, IsSpreadBy, IsStart}
-use Rattle.strategies.proofs.SpreadClasses.{spread_begins, spread_more, spread_ends}
+use Rattle.strategies.proofs.Numberings.{IsNumbering}
+use Rattle.strategies.proofs.PositionLaws.{ArePositions}
+use Rattle.strategies.proofs.SpreadMoves.{AreMoves, IsSpreadBy, IsStart, answer_moves, get_there, request_moves}
+use Rattle.strategies.proofs.SpreadMoves.{spread_begins, spread_ends, spread_more}
+use Rattle.strategies.proofs.DocumentForm.{not_answerable}
 
 -- ---- the numbers that each number below a bound leads to are added
 
@@ -93,49 +92,61 @@ add_all P bound low one numbers apart =
 
 -- ---- a list that is worked off comes to an end
 
-module _ (board : PlainBoard) (normal : List ℕ → List ℕ) (form : IsNormalForm board normal)
-    (IsMove : List ℕ → ℕ → ℕ → Type 0) (Holds : List ℕ → Type 0) (Leads : ℕ → ℕ → Type 0)
-    (is : IsConfiguration board board.start) (are : AreMoves board normal IsMove Holds Leads)
-    (add : (number : ℕ) → IsClassNumber board number → Holds (class_numbered board number)
+module _ (board : PlainBoard) (positions : Positions) (are_positions : ArePositions board positions)
+    (numbering : Numbering) (are_numbers : IsNumbering board numbering) (IsMove : List ℕ → ℕ → ℕ → Type 0) (Holds : List ℕ → Type 0) (Leads : ℕ → ℕ → Type 0)
+    (is : IsConfiguration board board.start) (are : AreMoves board positions numbering IsMove Holds Leads)
+    (add : (number : ℕ) → numbering.IsNumber number → Holds (numbering.places number)
     → (numbers : List ℕ) → AreApart numbers → CanAdd numbers (Leads number)) where
-  works_off : (left place : ℕ) (numbers : List ℕ) → last_number board ≤ place + left
-      → IsSpreadBy board normal IsMove Holds Leads place numbers
-      → AreApart numbers → (all : List ℕ) × AreClassNumbersOf board (IsClassReachedBy board normal IsMove Holds) all
+  works_off : (left place : ℕ) (numbers : List ℕ) → are_numbers.end ≤ place + left
+      → IsSpreadBy board positions numbering IsMove Holds Leads place numbers
+      → AreApart numbers → (all : List ℕ) × AreAll numbering (IsReachedOver positions numbering board IsMove Holds)
+      (Contains all)
   works_off zero place numbers enough spread apart = elim (slice_get_cases numbers place).1 [
-    | inr end ↦ (numbers, spread_ends board normal form IsMove Holds Leads is are place numbers spread end.1)
+    | inr end ↦ (numbers, spread_ends board positions are_positions numbering are_numbers IsMove Holds Leads is are place numbers spread end.1)
     | inl there ↦
-        let few = few_apart numbers (last_number board) apart
-        (λ number among. number-ends board number (spread.on.sound number among).0) in
+        let few = few_apart numbers (are_numbers.end) apart
+        (λ number among. are_numbers.below number (spread.on.sound number among).0) in
         absurd (omega (arith, few, there.1, enough))
   ]
   works_off (suc left) place numbers enough spread apart = elim (slice_get_cases numbers place).1 [
-    | inr end ↦ (numbers, spread_ends board normal form IsMove Holds Leads is are place numbers spread end.1)
+    | inr end ↦ (numbers, spread_ends board positions are_positions numbering are_numbers IsMove Holds Leads is are place numbers spread end.1)
     | inl there ↦
         let found = spread.on.sound there.0 (get_there numbers place there.0 there.2) in
         let added = add there.0 found.0 found.1.holds numbers apart in
         works_off left (place + 1) added.0 (omega (arith, enough))
-        (spread_more board normal form IsMove Holds Leads is are place there.0 numbers added.0 spread there.2
+        (spread_more board positions are_positions numbering are_numbers IsMove Holds Leads is are place there.0 numbers added.0 spread there.2
         added.1) added.2
   ]
 
-  all_reached : Holds (normal board.start) ⊎ ¬ Holds (normal board.start)
-      → (all : List ℕ) × AreClassNumbersOf board (IsClassReachedBy board normal IsMove Holds) all
+  all_reached : Holds (positions.normal board.start) ⊎ ¬ Holds (positions.normal board.start)
+      → (all : List ℕ) × AreAll numbering (IsReachedOver positions numbering board IsMove Holds)
+      (Contains all)
   all_reached either =
-      let one : OneOrNone (IsStart board normal form IsMove Holds Leads is) = elim either [
-        | inl holds ↦ inl (normal_number board normal board.start, (holds, refl), λ number starts. starts.1)
+      let one : OneOrNone (IsStart board positions are_positions numbering are_numbers IsMove Holds Leads is) = elim either [
+        | inl holds ↦ inl (number_over positions numbering board.start, (holds, refl), λ number starts. starts.1)
         | inr not ↦ inr (λ number starts. not starts.0)
       ] in
-      let begun = add_one (IsStart board normal form IsMove Holds Leads is) one [] none_apart in
-      works_off (last_number board) 0 begun.0 (omega arith)
-      (spread_begins board normal form IsMove Holds Leads is begun.0 begun.1) begun.2
+      let begun = add_one (IsStart board positions are_positions numbering are_numbers IsMove Holds Leads is) one [] none_apart in
+      works_off (are_numbers.end) 0 begun.0 (omega arith)
+      (spread_begins board positions are_positions numbering are_numbers IsMove Holds Leads is begun.0 begun.1) begun.2
 
 -- ---- best answers
 
+pub answerable_or_not : (board : PlainBoard) (configuration : List ℕ) → IsConfiguration board configuration
+    → IsAnswerable board configuration ⊎ ¬ IsAnswerable board configuration
+answerable_or_not board configuration is = let value = some_value board configuration is in by value.0 value.1
+  where
+    by : (value : Value) → HasValue board configuration value
+        → IsAnswerable board configuration ⊎ ¬ IsAnswerable board configuration
+    by (Finite zero) has = inr (λ some. not_answerable board configuration some has)
+    by (Finite (suc number)) has = inl (record { value = Finite (suc number); has_value = has; some = omega arith })
+    by Forever has = inl (record { value = Forever; has_value = has; some = tt })
+
 -- a request of a pebble leads to one class, or to none
-answer_step : (board : PlainBoard) (normal : List ℕ → List ℕ) (form : IsNormalForm board normal) (c : List ℕ)
-    (pebble : ℕ) → IsConfiguration board c → IsAnswerable board c
-    → pebble < board.pebbles → OneOrNone (IsClassAnswerStep board normal c pebble)
-answer_step board normal form c pebble is some is_pebble =
+answer_step : (board : PlainBoard) (positions : Positions) (are : ArePositions board positions)
+    (numbering : Numbering) (c : List ℕ) (pebble : ℕ) → IsConfiguration board c → IsAnswerable board c
+    → pebble < board.pebbles → OneOrNone (IsAnswerStepOver positions numbering board c pebble)
+answer_step board positions are numbering c pebble is some is_pebble =
     let answer = answers_one board c some.value some.has_value some.some pebble is_pebble in
     let best = best_answer board c pebble is answer.0 answer.1 in
     let next : List ℕ = moved c pebble best.0 in
@@ -143,37 +154,39 @@ answer_step board normal form c pebble is some is_pebble =
     moved_is_configuration board c pebble best.0 best.1.0.legal.is_label is in
     let one : (label : ℕ) → IsBestAnswer board c pebble label → label ≡ best.0 =
     λ label is_best. same_answer board c pebble label best.0 is_best best.1 in
-    elim (answerable_or_not board (normal next) (form.is next is_next)) [
+    elim (answerable_or_not board (positions.normal next) (are.is next is_next)) [
       | inl holds ↦ inl (
-        normal_number board normal next,
+        number_over positions numbering next,
         record { is_pebble = is_pebble; label = best.0; best = best.1; to_is = refl; some = holds },
-        λ other step. step.to_is ∙ ap (λ (l : ℕ). normal_number board normal (moved c pebble l))
+        λ other step. step.to_is ∙ ap (λ (l : ℕ). number_over positions numbering (moved c pebble l))
             (one step.label step.best),
       )
       | inr not ↦ inr (λ other step. not
-          (subst (λ (l : ℕ). IsAnswerable board (normal (moved c pebble l))) (one step.label step.best)
+          (subst (λ (l : ℕ). IsAnswerable board (positions.normal (moved c pebble l))) (one step.label step.best)
           step.some))
     ]
 
-pub answers_reach : (board : PlainBoard) (normal : List ℕ → List ℕ) → IsNormalForm board normal
-    → IsConfiguration board board.start
-    → (numbers : List ℕ) × AreClassNumbersOf board (IsClassReachedByAnswers board normal) numbers
-answers_reach board normal form is =
-    all_reached board normal form _ (IsAnswerable board) (ClassAnswerLeads board normal) is (answer_moves board normal)
-    (λ number class some. add_all (IsClassAnswerStep board normal (class_numbered board number)) board.pebbles
+pub answers_reach : (board : PlainBoard) (positions : Positions) → ArePositions board positions → (numbering : Numbering)
+    → IsNumbering board numbering → IsConfiguration board board.start
+    → (numbers : List ℕ) × AreAll numbering (IsReachedByAnswersOver positions numbering board) (Contains numbers)
+answers_reach board positions are numbering are_numbers is =
+    all_reached board positions are numbering are_numbers _ (IsAnswerable board)
+    (AnswerLeadsOver positions numbering board) is (answer_moves board positions numbering)
+    (λ number is_number some. add_all (IsAnswerStepOver positions numbering board (numbering.places number)) board.pebbles
     (λ pebble to step. step.is_pebble)
-    (λ pebble. answer_step board normal form (class_numbered board number) pebble class.is some))
-    (answerable_or_not board (normal board.start) (form.is board.start is))
+    (λ pebble. answer_step board positions are numbering (numbering.places number) pebble
+    (are_numbers.is number is_number) some))
+    (answerable_or_not board (positions.normal board.start) (are.is board.start is))
 
 -- ---- best requests
 
 -- a label leads to one class, or to none
-request_step : (board : PlainBoard) (normal : List ℕ → List ℕ) (c : List ℕ) (label : ℕ) → IsConfiguration board c →
+request_step : (board : PlainBoard) (positions : Positions) (numbering : Numbering) (c : List ℕ) (label : ℕ) → IsConfiguration board c →
     label < board.labels
-    → OneOrNone (IsClassRequestStep board normal c label)
-request_step board normal c label is is_label = let value = some_value board c is in by value.0 value.1
+    → OneOrNone (IsRequestStepOver positions numbering board c label)
+request_step board positions numbering c label is is_label = let value = some_value board c is in by value.0 value.1
   where
-    by : (value : Value) → HasValue board c value → OneOrNone (IsClassRequestStep board normal c label)
+    by : (value : Value) → HasValue board c value → OneOrNone (IsRequestStepOver positions numbering board c label)
     by Forever has = inr (λ to step. not_lowered board c step.pebble is has step.best.0)
     by (Finite number) has =
         let best = best_request board number c has in
@@ -181,25 +194,26 @@ request_step board normal c label is is_label = let value = some_value board c i
         λ pebble is_best. same_request board c pebble best.0 is_best best.1 in
         elim (dominates_or_not board c best.0 label) [
           | inl dominates ↦ inl (
-            normal_number board normal (moved c best.0 label),
+            number_over positions numbering (moved c best.0 label),
             record {
               pebble = best.0;
               best = best.1;
               legal = record { is_label = is_label; dominates = dominates };
               to_is = refl;
             },
-            λ other step. step.to_is ∙ ap (λ (p : ℕ). normal_number board normal (moved c p label))
+            λ other step. step.to_is ∙ ap (λ (p : ℕ). number_over positions numbering (moved c p label))
                 (one step.pebble step.best),
           )
           | inr not ↦ inr (λ other step. not
               (subst (λ (p : ℕ). Legal board c p label) (one step.pebble step.best) step.legal).dominates)
         ]
 
-pub requests_reach : (board : PlainBoard) (normal : List ℕ → List ℕ) → IsNormalForm board normal
-    → IsConfiguration board board.start
-    → (numbers : List ℕ) × AreClassNumbersOf board (IsClassReachedByRequests board normal) numbers
-requests_reach board normal form is =
-    all_reached board normal form _ (λ c. Unit {0}) (ClassRequestLeads board normal) is (request_moves board normal)
-    (λ number class holds. add_all (IsClassRequestStep board normal (class_numbered board number)) board.labels
+pub requests_reach : (board : PlainBoard) (positions : Positions) → ArePositions board positions → (numbering : Numbering)
+    → IsNumbering board numbering → IsConfiguration board board.start
+    → (numbers : List ℕ) × AreAll numbering (IsReachedByRequestsOver positions numbering board) (Contains numbers)
+requests_reach board positions are numbering are_numbers is =
+    all_reached board positions are numbering are_numbers _ (λ c. Unit {0})
+    (RequestLeadsOver positions numbering board) is (request_moves board positions numbering)
+    (λ number is_number holds. add_all (IsRequestStepOver positions numbering board (numbering.places number)) board.labels
     (λ label to step. step.legal.is_label)
-    (λ label. request_step board normal (class_numbered board number) label class.is)) (inl tt)
+    (λ label. request_step board positions numbering (numbering.places number) label (are_numbers.is number is_number))) (inl tt)

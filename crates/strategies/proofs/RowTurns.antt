@@ -4,7 +4,7 @@ use Rattle.positions.specs.declared.value.Value.{Value}
 use Rattle.positions.specs.declared.value.Value.TheVariants.{Finite, Forever}
 use Rattle.proof_text.specs.Rules.{IsEnough, IsWanted, one_less, wanted_of}
 use Rattle.strategies.specs.Best.{IsLess}
-use Rattle.strategies.specs.Document.{turns_of}
+use Rattle.strategies.specs.PositionDocument.{turns_of}
 use Rattle.positions.specs.Claim.{claim_of}
 
 -- the second value is at most one smaller than the first

@@ -1,4 +1,5 @@
 -- The tables of the document of a board show its claim.
+use Rattle.proof_text.specs.Positions.{configuration_positions}
 use Rattle.std.proofs.Common.{◌≡◌, ℕ, zero, suc, ◌<◌, ◌≤◌, List, [], ◌∷◌, ◌++◌, length, slice_get, slice_index, Some}
 use Rattle.std.proofs.Common.{refl, sym, ap, ◌∙◌, subst, arith}
 use Rattle.std.specs.Option.{option_and_then, option_map}
@@ -16,11 +17,13 @@ use Rattle.positions.specs.Table.{Requests, Leads, StopsAfter, request_at}
 use Rattle.positions.proofs.Cited.{lasts_at_most, some_value}
 use Rattle.proof_text.specs.Proof.{PlainProof}
 use Rattle.strategies.specs.Best.{IsLess, IsBestAnswer, IsBestRequest}
-use Rattle.strategies.specs.Document.{IsAnswerable, IsAnswerMove, IsRequestMove, LeadsBy, IsLabellerRow, AsksAdversary}
 use Rattle.strategies.specs.Document.{IsDocumentOf}
+use Rattle.strategies.specs.PositionDocument.{IsAnswerable, IsAnswerMove, IsRequestMove, AsksAdversary, LeadsOver}
+use Rattle.strategies.specs.PositionDocument.{IsLabellerRowOver}
 use Rattle.strategies.proofs.ValueOrder.{at_least, less_than_finite}
 use Rattle.strategies.proofs.BestAnswers.{lasts_after}
-use Rattle.strategies.proofs.ReachedByMoves.{one_more, answers_lead_to, stays_forever}
+use Rattle.strategies.proofs.ReachedByMoves.{one_more, answers_lead_to, requests_lead_to, stays_forever}
+use Rattle.strategies.proofs.PositionLaws.{are_plain}
 use Rattle.strategies.proofs.DocumentRows.{answer_row_for, request_row_for}
 use Rattle.strategies.proofs.FirstRows.{IsFound, find_row, find_listed, is_listed}
 
@@ -39,16 +42,17 @@ module _ (board : PlainBoard) (proof : PlainProof) (is_start : IsConfiguration b
   FoundAt configuration = IsFound (λ (row : AnswerRow). row.at) proof.labeller configuration
 
   -- a configuration that best answers lead to, and that lasts one more request, has a row
-  finds : (moves : List (ℕ × ℕ)) (to : List ℕ) → LeadsBy (IsAnswerMove board) board.start moves to
+  finds : (moves : List (ℕ × ℕ)) (to : List ℕ) → LeadsOver configuration_positions (IsAnswerMove board) board.start moves to
       → LabellerTree board 1 to → FoundAt to
   finds moves to leads lasts =
-      let value = some_value board to (answers_lead_to board board.start moves to is_start leads) in
-      let found = answer_row_for board is.value value.0 moves to is_start leads value.1
+      let is_to = answers_lead_to board configuration_positions (are_plain board) board.start moves to is_start leads in
+      let value = some_value board to is_to in
+      let found = answer_row_for board configuration_positions is.value value.0 moves to is_to leads value.1
       (some_from_tree board to value.0 lasts value.1) in
       find_row (λ (row : AnswerRow). row.at) to proof.labeller found.0 ((is.labeller.each found.0).1 found.1) found.2
 
   -- the row found is one of the document
-  row_is : (configuration : List ℕ) → (found : FoundAt configuration) → IsLabellerRow board is.value found.row
+  row_is : (configuration : List ℕ) → (found : FoundAt configuration) → IsLabellerRowOver configuration_positions board is.value found.row
   row_is configuration found = (is.labeller.each found.row).0 found.among
 
   best_there : (configuration : List ℕ) → (found : FoundAt configuration) → (pebble : ℕ) → pebble < board.pebbles
@@ -67,13 +71,13 @@ module _ (board : PlainBoard) (proof : PlainProof) (is_start : IsConfiguration b
 
   -- the answers of the row found are best answers, and lead on from the start
   leads_on : (configuration : List ℕ) → (found : FoundAt configuration) → (moves : List (ℕ × ℕ))
-      → LeadsBy (IsAnswerMove board) board.start moves configuration
+      → LeadsOver configuration_positions (IsAnswerMove board) board.start moves configuration
       → (pebble : ℕ) → pebble < board.pebbles
-      → LeadsBy (IsAnswerMove board) board.start (moves ++ (pebble, slice_index found.row.answers pebble) ∷ [])
+      → LeadsOver configuration_positions (IsAnswerMove board) board.start (moves ++ (pebble, slice_index found.row.answers pebble) ∷ [])
       (moved configuration pebble (slice_index found.row.answers pebble))
   leads_on configuration found moves leads pebble below =
       let is_row = row_is configuration found in
-      one_more (IsAnswerMove board) board.start moves configuration pebble (slice_index found.row.answers pebble) leads
+      one_more configuration_positions (IsAnswerMove board) board.start moves configuration pebble (slice_index found.row.answers pebble) leads
       (record {
         is_pebble = below;
         answerable = subst (IsAnswerable board) found.at_it
@@ -82,7 +86,7 @@ module _ (board : PlainBoard) (proof : PlainProof) (is_start : IsConfiguration b
       })
 
   answers_each : (asked : List ℕ) (number : ℕ) (moves : List (ℕ × ℕ)) (configuration : List ℕ)
-      → LeadsBy (IsAnswerMove board) board.start moves configuration
+      → LeadsOver configuration_positions (IsAnswerMove board) board.start moves configuration
       → LabellerTree board number configuration → length asked ≤ number → All (λ pebble. pebble < board.pebbles) asked
       → AnswersAll board proof.labeller configuration asked
   answers_each [] number moves configuration leads lasts short pebbles = tt
@@ -113,11 +117,11 @@ module _ (board : PlainBoard) (proof : PlainProof) (is_start : IsConfiguration b
       let found : FoundAt configuration =
       find_listed (λ (row : AnswerRow). row.at) configuration proof.labeller listed in
       let is_row = row_is configuration found in
-      let leads = subst (LeadsBy (IsAnswerMove board) board.start is_row.moves) found.at_it is_row.reached in
+      let leads = subst (LeadsOver configuration_positions (IsAnswerMove board) board.start is_row.moves) found.at_it is_row.reached in
       let label = slice_index found.row.answers pebble in
       let next = leads_on configuration found is_row.moves leads pebble below in
-      let lasts = stays_forever board board.start (is_row.moves ++ (pebble, label) ∷ [])
-      (moved configuration pebble label) forever next in
+      let lasts = stays_forever board configuration_positions (are_plain board) board.start (is_row.moves ++ (pebble, label) ∷ [])
+      (moved configuration pebble label) is_start forever next in
       let after = finds (is_row.moves ++ (pebble, label) ∷ []) (moved configuration pebble label) next (lasts 1) in (
         label,
         answers_there configuration found pebble below,
@@ -131,10 +135,11 @@ module _ (board : PlainBoard) (proof : PlainProof) (is_start : IsConfiguration b
     abbrev AskedAt : List ℕ → Type 0
     AskedAt configuration = IsFound (λ (row : RequestRow). row.at) proof.adversary configuration
 
-    asked : (moves : List (ℕ × ℕ)) (to : List ℕ) (number : ℕ) → LeadsBy (IsRequestMove board) board.start moves to
+    asked : (moves : List (ℕ × ℕ)) (to : List ℕ) (number : ℕ) → LeadsOver configuration_positions (IsRequestMove board) board.start moves to
         → HasValue board to (Finite number) → AskedAt to
     asked moves to number leads has =
-        let found = request_row_for board number moves to leads has in
+        let found = request_row_for board configuration_positions (are_plain board) number moves to
+        (requests_lead_to board configuration_positions (are_plain board) board.start moves to is_start leads) leads has in
         find_row (λ (row : RequestRow). row.at) to proof.adversary found.0
         ((is.adversary.each found.0).1 (asks, found.1)) found.2
 
@@ -148,7 +153,7 @@ module _ (board : PlainBoard) (proof : PlainProof) (is_start : IsConfiguration b
         ((is.adversary.each found.row).0 found.among).1.best
 
     stops_each : (answers : List ℕ) (number : ℕ) (moves : List (ℕ × ℕ)) (from to : List ℕ)
-        → LeadsBy (IsRequestMove board) board.start moves from → HasValue board from (Finite number)
+        → LeadsOver configuration_positions (IsRequestMove board) board.start moves from → HasValue board from (Finite number)
         → Leads board proof.adversary from answers to
         → ((pebble : ℕ) × Requests board proof.adversary to pebble) × (length answers ≤ number)
     stops_each [] number moves from to reached has leads =
@@ -169,7 +174,7 @@ module _ (board : PlainBoard) (proof : PlainProof) (is_start : IsConfiguration b
         let best : IsBestRequest board from leads.0 = subst (IsBestRequest board from) same (best_asked from found) in
         let less = less_than_finite board number (moved from leads.0 label) from has (best.0.lowers label leads.2) in
         let ends = stops_each answers less.0 (moves ++ (leads.0, label) ∷ []) (moved from leads.0 label) to
-        (one_more (IsRequestMove board) board.start moves from leads.0 label reached
+        (one_more configuration_positions (IsRequestMove board) board.start moves from leads.0 label reached
         (record { best = best; legal = leads.2 })) less.2 leads.3 in
         let fewer : length answers ≤ less.0 = ends.1 in
         let below : less.0 < number = less.1 in

@@ -21,7 +21,7 @@ use Rattle.proof_text.specs.declared.proof.TheConstants.{MOST_TURNS}
 use Rattle.proof_text.specs.Proof.{PlainProof, IsClaim, IsAnswerRow, AreTurns}
 use Rattle.proof_text.specs.Rules.{IsEnough, Serves}
 use Rattle.strategies.specs.Best.{IsLess}
-use Rattle.strategies.specs.Document.{turns_of}
+use Rattle.strategies.specs.PositionDocument.{turns_of}
 use Rattle.classes.specs.Classes.{class_of, IsClass}
 use Rattle.classes.specs.Numbers.{class_number, class_count}
 use Rattle.classes.proofs.Cited.{is-below, length-class_of, falls-class_of}

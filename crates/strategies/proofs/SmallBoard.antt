@@ -1,4 +1,6 @@
 -- The document of the small board.
+use Rattle.positions.specs.Ranks.{rank_of}
+use Rattle.proof_text.specs.Positions.{configuration_positions}
 use Rattle.std.proofs.Common.{◌≡◌, ℕ, zero, suc, ◌-◌, ◌<◌, ◌≤◌, List, [], ◌∷◌, slice_index, refl, sym, ap, ◌∙◌, subst}
 use Rattle.std.proofs.Common.{arith}
 use Rattle.std.specs.List.{Contains}
@@ -13,13 +15,15 @@ use Rattle.positions.specs.Value.{HasValue}
 use Rattle.positions.specs.Table.{AnswerRow, RequestRow}
 use Rattle.proof_text.specs.Proof.{IsBefore}
 use Rattle.strategies.specs.Best.{HasSmallerValue, HasNoGreaterValue, IsBestAnswer, LowersValue, IsBestRequest}
-use Rattle.strategies.specs.Document.{IsAnswerable, IsAnswerMove, IsRequestMove, LeadsBy, IsLabellerRow, IsAdversaryRow}
-use Rattle.strategies.specs.Document.{AsksAdversary, AreExactly, IsDocumentOf}
+use Rattle.strategies.specs.Document.{IsDocumentOf}
+use Rattle.strategies.specs.PositionDocument.{IsAnswerable, IsAnswerMove, IsRequestMove, AsksAdversary, LeadsOver}
+use Rattle.strategies.specs.PositionDocument.{IsLabellerRowOver, IsAdversaryRowOver, AreExactlyOver}
 use Rattle.strategies.specs.Example.{small_board, small_document}
 use Rattle.strategies.proofs.ValueOrder.{not_less}
 use Rattle.strategies.proofs.BestRequests as requests
 use Rattle.strategies.proofs.DocumentForm.{start_answerable, not_answerable}
 use Rattle.strategies.proofs.OneList.{one_answer_row, one_request_row}
+use Rattle.strategies.proofs.PositionLaws.{are_plain}
 use Rattle.strategies.proofs.RowLists.{one_row}
 
 -- ---- moves
@@ -158,7 +162,7 @@ best_after = (
 abbrev answers : AnswerRow
 answers = record { at = start; turns = Count 1; answers = 1 ∷ 1 ∷ [] }
 
-is_labeller_row : IsLabellerRow small_board (Finite 1) answers
+is_labeller_row : IsLabellerRowOver configuration_positions small_board (Finite 1) answers
 is_labeller_row = record {
   moves = [];
   reached = refl;
@@ -175,22 +179,25 @@ is_labeller_row = record {
     best (suc zero) below = best_answer 1 below
     best (suc (suc pebble)) below = absurd (omega arith)
 
-only_start : (moves : List (ℕ × ℕ)) (to : List ℕ) → LeadsBy (IsAnswerMove small_board) start moves to
+abbrev Leads : (List ℕ → ℕ → ℕ → Type 0) → List ℕ → List (ℕ × ℕ) → List ℕ → Type 0
+Leads = LeadsOver configuration_positions
+
+only_start : (moves : List (ℕ × ℕ)) (to : List ℕ) → Leads (IsAnswerMove small_board) start moves to
     → IsAnswerable small_board to → start ≡ to
 only_start [] to leads some = leads
 only_start ((pebble, label) ∷ moves) to leads some =
     let reached : IsAnswerable small_board (moved start pebble label) =
-    start_answerable small_board (moved start pebble label) moves to leads.1 some in
+    start_answerable small_board configuration_positions (moved start pebble label) moves to leads.1 some in
     absurd (not_answerable small_board (after pebble)
     (subst (λ (l : ℕ). IsAnswerable small_board (moved start pebble l))
     (legal_is start pebble (start_held pebble) label leads.0.best.0.legal).0 reached)
     (after_value pebble leads.0.is_pebble))
 
-labeller_rows : AreExactly small_board (IsLabellerRow small_board (Finite 1))
+labeller_rows : AreExactlyOver (rank_of small_board) (IsLabellerRowOver configuration_positions small_board (Finite 1))
     (λ (row : AnswerRow). row.at) small_document.labeller
 labeller_rows =
-    one_row small_board (λ (row : AnswerRow). row.at) (IsLabellerRow small_board (Finite 1)) answers is_labeller_row
-    (λ row is. one_answer_row small_board (Finite 1) answers row is_labeller_row is
+    one_row (rank_of small_board) (λ (row : AnswerRow). row.at) (IsLabellerRowOver configuration_positions small_board (Finite 1)) answers is_labeller_row
+    (λ row is. one_answer_row small_board configuration_positions (Finite 1) answers row is_labeller_row is
     (only_start is.moves row.at is.reached (record { value = is.value; has_value = is.has_value; some = is.some })))
 
 -- ---- the adversary's rows
@@ -201,19 +208,23 @@ first_request = record { at = start; left = 1; request = 0 }
 abbrev second_request : RequestRow
 second_request = record { at = after 0; left = 0; request = 1 }
 
-is_first : IsAdversaryRow small_board first_request
-is_first = record { moves = []; reached = refl; has_value = start_value; best = best_at_start }
+abbrev IsAsked : RequestRow → Type 0
+IsAsked = IsAdversaryRowOver configuration_positions small_board
 
-is_second : IsAdversaryRow small_board second_request
+is_first : IsAsked first_request
+is_first = record { moves = []; reached = refl; has_value = start_value; asks = omega arith; best = best_at_start }
+
+is_second : IsAsked second_request
 is_second = record {
   moves = (0, 1) ∷ [];
   reached = (record { best = best_at_start; legal = legal_from start 0 (omega arith) (start_free 1) }, refl);
   has_value = after_value 0 (omega arith);
+  asks = omega arith;
   best = best_after;
 }
 
 -- after the first move best requests lead nowhere else
-then_after : (moves : List (ℕ × ℕ)) (to : List ℕ) → LeadsBy (IsRequestMove small_board) (after 0) moves to
+then_after : (moves : List (ℕ × ℕ)) (to : List ℕ) → Leads (IsRequestMove small_board) (after 0) moves to
     → after 0 ≡ to
 then_after [] to leads = leads
 then_after ((pebble, label) ∷ moves) to leads =
@@ -221,22 +232,22 @@ then_after ((pebble, label) ∷ moves) to leads =
     absurd (none_after 0 (omega arith) label
     (subst (λ (p : ℕ). Legal small_board (after 0) p label) asked leads.0.legal))
 
-one_of_two : (row : RequestRow) → IsAdversaryRow small_board row → Contains small_document.adversary row
+one_of_two : (row : RequestRow) → IsAsked row → Contains small_document.adversary row
 one_of_two row is = by is.moves is.reached
   where
-    by : (moves : List (ℕ × ℕ)) → LeadsBy (IsRequestMove small_board) start moves row.at
+    by : (moves : List (ℕ × ℕ)) → Leads (IsRequestMove small_board) start moves row.at
         → Contains (first_request ∷ second_request ∷ []) row
-    by [] leads = (0, omega arith, one_request_row small_board first_request row is_first is leads)
+    by [] leads = (0, omega arith, one_request_row small_board configuration_positions (are_plain small_board) first_request row is_first is leads)
     by ((pebble, label) ∷ moves) leads =
         let asked : pebble ≡ 0 = requests.same_request small_board start pebble 0 leads.0.best best_at_start in
         let taken : label ≡ 1 = (legal_is start pebble (start_held pebble) label leads.0.legal).0 in
-        let rest : LeadsBy (IsRequestMove small_board) (after 0) moves row.at =
-        subst (λ (l : ℕ). LeadsBy (IsRequestMove small_board) (moved start 0 l) moves row.at) taken
-        (subst (λ (p : ℕ). LeadsBy (IsRequestMove small_board) (moved start p label) moves row.at) asked leads.1) in
-        (1, omega arith, one_request_row small_board second_request row is_second is (then_after moves row.at rest))
+        let rest : Leads (IsRequestMove small_board) (after 0) moves row.at =
+        subst (λ (l : ℕ). Leads (IsRequestMove small_board) (moved start 0 l) moves row.at) taken
+        (subst (λ (p : ℕ). Leads (IsRequestMove small_board) (moved start p label) moves row.at) asked leads.1) in
+        (1, omega arith, one_request_row small_board configuration_positions (are_plain small_board) second_request row is_second is (then_after moves row.at rest))
 
-adversary_rows : AreExactly small_board
-    (λ (row : RequestRow). AsksAdversary (Finite 1) × IsAdversaryRow small_board row)
+adversary_rows : AreExactlyOver (rank_of small_board)
+    (λ (row : RequestRow). AsksAdversary (Finite 1) × IsAsked row)
     (λ (row : RequestRow). row.at) small_document.adversary
 unfolding places
 adversary_rows = record {
@@ -249,9 +260,9 @@ adversary_rows = record {
     Ascends : RequestRow → RequestRow → Type 0
     Ascends first second = IsBefore small_board first.at second.at
 
-    either : (row : RequestRow) → Contains (first_request ∷ second_request ∷ []) row → IsAdversaryRow small_board row
-    either row (zero, inside, same) = subst (IsAdversaryRow small_board) same is_first
-    either row (suc zero, inside, same) = subst (IsAdversaryRow small_board) same is_second
+    either : (row : RequestRow) → Contains (first_request ∷ second_request ∷ []) row → IsAsked row
+    either row (zero, inside, same) = subst (IsAsked) same is_first
+    either row (suc zero, inside, same) = subst (IsAsked) same is_second
     either row (suc (suc place), inside, same) = absurd (omega arith)
 
 pub is_document : IsDocumentOf small_board small_document

@@ -1,112 +1,159 @@
 -- Each board has a document.
-use Rattle.std.proofs.Common.{◌≡◌, ℕ, zero, suc, ◌+◌, ◌<◌, ◌≤◌, ◌⊎◌, inl, inr, List, [], ◌∷◌, ◌++◌, refl, subst, arith}
+use Rattle.std.proofs.Common.{◌≡◌, ℕ, zero, suc, ◌+◌, ◌<◌, ◌⊎◌, inl, inr, List, [], ◌∷◌, ◌++◌, refl, ap, ◌∙◌}
+use Rattle.std.proofs.Common.{sym, subst, arith}
+use Rattle.std.specs.List.{Contains}
 use Rattle.board_text.specs.PlainBoard.{PlainBoard, IsConfiguration}
 use Rattle.positions.specs.declared.value.Value.{Value}
 use Rattle.positions.specs.declared.value.Value.TheVariants.{Finite, Forever}
-use Rattle.positions.specs.Value.{HasValue}
-use Rattle.positions.specs.Ranks.{configurations, rank_of, configuration_at}
-use Rattle.positions.specs.Table.{AnswerRow, RequestRow}
-use Rattle.positions.proofs.Cited.{some_value, configuration_at_is, rank_below}
-use Rattle.proof_text.specs.Proof.{PlainProof}
-use Rattle.strategies.specs.Document.{IsLabellerRow, IsAdversaryRow, AsksAdversary, AreExactly, IsDocumentOf}
 use Rattle.positions.specs.Claim.{claim_of}
-use Rattle.strategies.specs.Inside.Side.{Side, AreOfReached, labeller_side, adversary_side}
-use Rattle.strategies.specs.Inside.ReachedRanks.{IsReachedByAnswers, IsReachedByRequests, AreRanksOf}
+use Rattle.positions.specs.Table.{AnswerRow, RequestRow}
+use Rattle.positions.specs.Value.{HasValue}
+use Rattle.positions.proofs.Cited.{some_value}
+use Rattle.proof_text.specs.Arranged.{arranged}
+use Rattle.proof_text.specs.Positions.{Positions, class_positions, configuration_positions}
+use Rattle.proof_text.specs.Proof.{PlainProof}
+use Rattle.strategies.specs.ClassDocument.{IsClassDocumentOf}
+use Rattle.strategies.specs.Document.{IsDocumentOf}
+use Rattle.strategies.specs.Inside.Numbering.{Numbering, by_rank, by_order, AreAll}
+use Rattle.strategies.specs.Inside.ReachedOver.{IsReachedByRequestsOver}
+use Rattle.strategies.specs.Inside.Side.{Side, labeller_side_over, adversary_side_over, AreOfReached}
+use Rattle.strategies.specs.PositionDocument.{AsksAdversary, IsLabellerRowOver, IsAdversaryRowOver, AreExactlyOver}
+use Rattle.strategies.specs.PositionDocument.{IsDocumentOver}
 use Rattle.strategies.proofs.AddedRanks.{contains_or_not}
-use Rattle.strategies.proofs.RowLists.{AreExactlyBelow, same_fact, no_rows, all_rows}
-use Rattle.strategies.proofs.Closure.{answers_reach, requests_reach}
-use Rattle.strategies.proofs.GatheredRows.{labellers, adversarys, row_there, no_row_there, no_request}
 use Rattle.strategies.proofs.DocumentRows.{answer_row_for, request_row_for}
+use Rattle.strategies.proofs.GatheredRows.{adversarys, labellers, no_request, no_row_there, row_there}
+use Rattle.strategies.proofs.NormalForms.{arranged_form}
+use Rattle.strategies.proofs.Numberings.{IsNumbering, are_orders, are_ranks}
+use Rattle.strategies.proofs.PositionLaws.{ArePositions, are_normal, are_plain}
+use Rattle.strategies.proofs.ReachedLists.{answers_reach, requests_reach}
+use Rattle.strategies.proofs.RowLists.{AreExactlyBelow, all_rows, no_rows, same_fact}
 
--- the side has a row at a rank, or has none there
-abbrev StandsOrNot : {R : Type 0} → PlainBoard → Side R → ℕ → Type 0
-StandsOrNot board side rank = ((row : side.Row) × side.IsRow row × (side.at row ≡ configuration_at board rank))
-    ⊎ ((row : side.Row) → side.IsRow row → side.at row ≡ configuration_at board rank → ⊥)
+module _ {R : Type 0} (board : PlainBoard) (numbering : Numbering) (are : IsNumbering board numbering) (side : Side R)
+    (of_reached : AreOfReached numbering board side) where
+  -- the side has a row at some places, or has none there
+  abbrev StandsOrNot : List ℕ → Type 0
+  StandsOrNot places = ((row : side.Row) × side.IsRow row × (side.at row ≡ places))
+      ⊎ ((row : side.Row) → side.IsRow row → side.at row ≡ places → ⊥)
 
-module _ {R : Type 0} (board : PlainBoard) (side : Side R) (of_reached : AreOfReached board side)
-    (ranks : List ℕ) (are : AreRanksOf board side.IsReached ranks)
-    (stands : (rank : ℕ) → rank < configurations board → side.IsReached rank → StandsOrNot board side rank) where
-  row_or_none : (rank : ℕ) → rank < configurations board → StandsOrNot board side rank
-  row_or_none rank below = elim (contains_or_not ranks rank) [
-    | inl among ↦ stands rank below ((are rank).0 among).1
-    | inr not ↦ inr (λ row is here. not ((are rank).1 (below, of_reached.reached row rank is here)))
-  ]
+  -- the side has a row whose places have the number, or has none
+  abbrev HasRowOrNot : ℕ → Type 0
+  HasRowOrNot number = ((row : side.Row) × side.IsRow row × (numbering.number (side.at row) ≡ number))
+      ⊎ ((row : side.Row) → side.IsRow row → numbering.number (side.at row) ≡ number → ⊥)
 
-  rows_below : (bound : ℕ) → bound ≤ configurations board
-      → (rows : List side.Row) × AreExactlyBelow board side.IsRow side.at bound rows
-  rows_below zero few =
-      ([], no_rows board side.at _ (λ row is. let below : rank_of board (side.at row) < 0 = is.1 in omega arith))
-  rows_below (suc bound) few =
-      let before = rows_below bound (omega arith) in
-      let next : bound + 1 ≡ suc bound = omega arith in
-      elim (row_or_none bound (omega arith)) [
-        | inl (row, is, here) ↦ (
-          before.0 ++ row ∷ [],
-          subst (λ (n : ℕ). AreExactlyBelow board side.IsRow side.at n (before.0 ++ row ∷ [])) next
-              (row_there board side of_reached bound before.0 row (omega arith) before.1 is here),
-        )
-        | inr none ↦ (
-          before.0,
-          subst (λ (n : ℕ). AreExactlyBelow board side.IsRow side.at n before.0) next
-              (no_row_there board side of_reached bound before.0 before.1 none),
-        )
+  module _ (numbers : List ℕ) (all : AreAll numbering side.IsReached (Contains numbers))
+      (stands : (number : ℕ) → numbering.IsNumber number → side.IsReached number → StandsOrNot (numbering.places number))
+    where
+      at_places : (number : ℕ) (row : side.Row) → side.IsRow row → numbering.number (side.at row) ≡ number
+          → side.at row ≡ numbering.places number
+      at_places number row is_row same =
+          sym (are.places_are (side.at row) (of_reached.is row is_row)) ∙ ap numbering.places same
+
+      row_or_none : (number : ℕ) → HasRowOrNot number
+      row_or_none number = elim (contains_or_not numbers number) [
+        | inl among ↦
+            let reached = (all number).0 among in
+            elim (stands number reached.0 reached.1) [
+              | inl (row, is_row, here) ↦ inl
+                  (row, is_row, ap numbering.number here ∙ are.again number reached.0)
+              | inr none ↦ inr (λ row is_row same. none row is_row (at_places number row is_row same))
+            ]
+        | inr not ↦ inr (λ row is_row same. not ((all number).1 (
+          subst numbering.IsNumber same (are.number_is (side.at row) (of_reached.is row is_row)),
+          of_reached.reached row number is_row (at_places number row is_row same),
+        )))
       ]
 
-  -- a side has a list of its rows
-  rows_exist : (rows : List side.Row) × AreExactly board side.IsRow side.at rows
-  rows_exist =
-      let rows = rows_below (configurations board) (omega arith) in (
-        rows.0,
-        all_rows board side.IsRow side.at (configurations board) rows.0 rows.1
-            (λ row is. rank_below board (side.at row) (of_reached.is_configuration row is)),
+      rows_below : (bound : ℕ) → (rows : List side.Row) × AreExactlyBelow numbering.number side.IsRow side.at bound rows
+      rows_below zero = (
+        [],
+        no_rows numbering.number side.at _
+            (λ row is. let below : numbering.number (side.at row) < 0 = is.1 in omega (arith, below)),
       )
+      rows_below (suc bound) =
+          let before = rows_below bound in
+          let next : bound + 1 ≡ suc bound = omega arith in
+          elim (row_or_none bound) [
+            | inl (row, is_row, here) ↦ (
+              before.0 ++ row ∷ [],
+              subst (λ (n : ℕ). AreExactlyBelow numbering.number side.IsRow side.at n (before.0 ++ row ∷ [])) next
+                  (row_there board numbering are side of_reached bound before.0 row before.1 is_row here),
+            )
+            | inr none ↦ (
+              before.0,
+              subst (λ (n : ℕ). AreExactlyBelow numbering.number side.IsRow side.at n before.0) next
+                  (no_row_there board numbering are side of_reached bound before.0 before.1 none),
+            )
+          ]
 
-module _ (board : PlainBoard) (is : IsConfiguration board board.start) where
-  labeller_stands : (start : Value) (rank : ℕ) → rank < configurations board → IsReachedByAnswers board rank
-      → StandsOrNot board (labeller_side board start) rank
-  labeller_stands start rank below reached =
-      let some = reached.holds in
-      let row = answer_row_for board start some.value reached.moves (configuration_at board rank) is reached.reached
-      some.has_value some.some in
-      inl (row.0, row.1, row.2)
+      -- a side has a list of its rows
+      rows_exist : (rows : List side.Row) × AreExactlyOver numbering.number side.IsRow side.at rows
+      rows_exist =
+          let rows = rows_below are.end in (
+            rows.0,
+            all_rows numbering.number side.IsRow side.at are.end rows.0 rows.1 (λ row is_row.
+                are.below (numbering.number (side.at row)) (are.number_is (side.at row) (of_reached.is row is_row))),
+          )
 
-  adversary_stands : (start : Value) (rank : ℕ) → rank < configurations board → IsReachedByRequests board rank
-      → StandsOrNot board (adversary_side board start) rank
-  adversary_stands start rank below reached =
-      let value = some_value board (configuration_at board rank) (configuration_at_is board rank below) in
-      by value.0 value.1
-    where
-      by : (value : Value) → HasValue board (configuration_at board rank) value
-          → StandsOrNot board (adversary_side board start) rank
-      by (Finite number) has =
-          let row = request_row_for board number reached.moves (configuration_at board rank) reached.reached has in
-          inl (row.0, row.1, row.2)
-      by Forever has = inr (no_request board rank has)
+module _ (board : PlainBoard) (positions : Positions) (are : ArePositions board positions) (numbering : Numbering)
+    (are_numbers : IsNumbering board numbering) (is : IsConfiguration board board.start) where
+  abbrev answers_side : Value → Side AnswerRow
+  answers_side = labeller_side_over (λ row. row) (λ row. Unit {0}) positions numbering board
+
+  abbrev requests_side : Side RequestRow
+  requests_side = adversary_side_over (λ row. row) (λ row. Unit {0}) positions numbering board
 
   labeller_exists : (start : Value)
-      → (rows : List AnswerRow) × AreExactly board (IsLabellerRow board start) (λ row. row.at) rows
+      → (rows : List AnswerRow)
+      × AreExactlyOver numbering.number (IsLabellerRowOver positions board start) (λ row. row.at) rows
   labeller_exists start =
-      let ranks = answers_reach board is in
-      rows_exist board (labeller_side board start) (labellers board start is) ranks.0 ranks.1 (labeller_stands start)
+      let numbers = answers_reach board positions are numbering are_numbers is in
+      rows_exist board numbering are_numbers (answers_side start)
+      (labellers board positions are numbering is (λ row. row) (λ row. Unit {0}) start) numbers.0 numbers.1
+      (λ number is_number reached.
+      let row = answer_row_for board positions start reached.holds.value reached.moves (numbering.places number)
+      (are_numbers.is number is_number) reached.reached reached.holds.has_value reached.holds.some in
+      inl (row.0, row.1, row.2))
+
+  adversary_rows : (rows : List RequestRow)
+      × AreExactlyOver numbering.number (IsAdversaryRowOver positions board) (λ row. row.at) rows
+  adversary_rows =
+      let numbers = requests_reach board positions are numbering are_numbers is in
+      rows_exist board numbering are_numbers requests_side
+      (adversarys board positions are numbering is (λ row. row) (λ row. Unit {0})) numbers.0 numbers.1
+      (λ number is_number reached.
+      let is_at = are_numbers.is number is_number in
+      let value = some_value board (numbering.places number) is_at in
+      by number is_at reached value.0 value.1)
+    where
+      by : (number : ℕ) → IsConfiguration board (numbering.places number)
+          → IsReachedByRequestsOver positions numbering board number → (value : Value)
+          → HasValue board (numbering.places number) value
+          → StandsOrNot board numbering are_numbers requests_side
+          (adversarys board positions are numbering is (λ row. row) (λ row. Unit {0})) (numbering.places number)
+      by number is_at reached (Finite left) has =
+          let row = request_row_for board positions are left reached.moves (numbering.places number) is_at
+          reached.reached has in
+          inl (row.0, row.1, row.2)
+      by number is_at reached Forever has = inr (no_request board positions (numbering.places number) has)
 
   adversary_exists : (start : Value)
       → (rows : List RequestRow)
-      × AreExactly board (λ row. AsksAdversary start × IsAdversaryRow board row) (λ row. row.at) rows
-  adversary_exists Forever = ([], no_rows board (λ row. row.at) _ (λ row asked. asked.0))
-  adversary_exists (Finite number) =
-      let ranks = requests_reach board is in
-      let rows = rows_exist board (adversary_side board (Finite number))
-      (adversarys board (Finite number) is) ranks.0 ranks.1
-      (adversary_stands (Finite number)) in
-      (rows.0, same_fact board (λ row. row.at) _ _ rows.0 (λ row. (λ is_row. (tt, is_row), λ asked. asked.1)) rows.1)
+      × AreExactlyOver numbering.number (λ row. AsksAdversary start × IsAdversaryRowOver positions board row)
+      (λ row. row.at) rows
+  adversary_exists Forever = ([], no_rows numbering.number (λ row. row.at) _ (λ row asked. asked.0))
+  adversary_exists (Finite number) = (
+    adversary_rows.0,
+    same_fact numbering.number (λ row. row.at) _ _ adversary_rows.0
+        (λ row. (λ is_row. (tt, is_row), λ asked. asked.1)) adversary_rows.1,
+  )
 
-  pub document_exists : (proof : PlainProof) × IsDocumentOf board proof
-  document_exists =
+  pub document_exists_over : (proof : PlainProof) × IsDocumentOver positions numbering.number board proof
+  document_exists_over =
       let value = some_value board board.start is in
       let labeller = labeller_exists value.0 in
       let adversary = adversary_exists value.0 in
       let proof : PlainProof = record { claim = claim_of value.0; labeller = labeller.0; adversary = adversary.0 } in
-      let is_document : IsDocumentOf board proof = record {
+      let is_document : IsDocumentOver positions numbering.number board proof = record {
         value = value.0;
         has_value = value.1;
         claim = refl;
@@ -114,3 +161,15 @@ module _ (board : PlainBoard) (is : IsConfiguration board board.start) where
         adversary = adversary.1;
       } in
       (proof, is_document)
+
+-- each configuration for itself
+pub document_exists : (board : PlainBoard) → IsConfiguration board board.start
+    → (proof : PlainProof) × IsDocumentOf board proof
+document_exists board =
+    document_exists_over board configuration_positions (are_plain board) (by_rank board) (are_ranks board)
+
+-- by classes
+pub class_document_exists : (board : PlainBoard) → IsConfiguration board board.start
+    → (proof : PlainProof) × IsClassDocumentOf board proof
+class_document_exists board = document_exists_over board (class_positions board.labels)
+    (are_normal board (arranged board.labels) (arranged_form board)) (by_order board) (are_orders board)

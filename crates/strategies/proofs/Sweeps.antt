@@ -1,4 +1,5 @@
 -- Sweeps over the ranks that were reached, until no step is left to take.
+use Rattle.proof_text.specs.Positions.{configuration_positions}
 use Rattle.std.proofs.Common.{◌≡◌, ℕ, zero, suc, ◌+◌, ◌<◌, ◌≤◌, cond, inl, inr, Bool, true, false, List, [], length}
 use Rattle.std.proofs.Common.{slice_index_or, slice_set, refl, sym, ap, ◌∙◌, subst, arith}
 use Rattle.std.proofs.lemmas.Bool.{both_ways, cases_Bool, cases_eq, cases_lt}
@@ -7,14 +8,18 @@ use Rattle.positions.specs.Game.{moved}
 use Rattle.positions.specs.Ranks.{configurations, rank_of, configuration_at}
 use Rattle.positions.proofs.Cited.{moved_is_configuration, rank_below, rank_of-configuration_at}
 use Rattle.positions.proofs.Cited.{configuration_at-rank_of}
-use Rattle.strategies.specs.Document.{IsAnswerable, IsAnswerMove, IsRequestMove}
+use Rattle.strategies.specs.Inside.Numbering.{by_rank, AreAll}
+use Rattle.strategies.specs.Inside.ReachedOver.{IsReachedOver}
+use Rattle.strategies.specs.Inside.ReachedRanks.{AnswerLeads, RequestLeads}
+use Rattle.strategies.specs.PositionDocument.{IsAnswerable, IsAnswerMove, IsRequestMove}
 use Rattle.strategies.specs.Inside.Marks.{IsMarked}
-use Rattle.strategies.specs.Inside.ReachedMarks.{ReachedMarks, AreMarksOf, AreReachedWith, NoneIsLeft, none_reached}
+use Rattle.strategies.specs.Inside.ReachedMarks.{ReachedMarks, AreReachedWith, NoneIsLeft, none_reached}
 use Rattle.strategies.specs.Inside.ReachedMarks.{taken_from}
-use Rattle.strategies.specs.Inside.ReachedRanks.{AnswerLeads, RequestLeads, IsReachedBy}
 use Rattle.strategies.proofs.MarkedRanks.{is_cleared, marked_inside, none_is_marked, still_set, was_set}
 use Rattle.strategies.proofs.ReachedByMoves.{moves_stay}
-use Rattle.strategies.proofs.SpreadRanks.{AreMoves, IsFound, IsStart, keeps}
+use Rattle.strategies.proofs.Numberings.{are_ranks}
+use Rattle.strategies.proofs.PositionLaws.{are_plain}
+use Rattle.strategies.proofs.SpreadMoves.{AreMoves, IsFound, IsStart, keeps}
 
 -- P holds of all reached ranks, and the ranks to which those lead from which steps were taken are reached
 pub record IsSwept (P : ℕ → Type 0) (Leads : ℕ → ℕ → Type 0) (marks : ReachedMarks) : Type 0 where
@@ -153,7 +158,7 @@ module _ (board : PlainBoard) (IsMove : List ℕ → ℕ → ℕ → Type 0) (Ho
     (Leads : ℕ → ℕ → Type 0) where
   pub record IsSweptBy (marks : ReachedMarks) : Type 0 where
     pub size : length marks.reached ≡ configurations board
-    pub on : IsSwept (IsFound board IsMove Holds Leads) Leads marks
+    pub on : IsSwept (IsFound board configuration_positions (by_rank board) IsMove Holds Leads) Leads marks
     pub start : Holds board.start → IsMarked marks.reached (rank_of board board.start)
 
   -- a rank that is left is one of the board
@@ -170,7 +175,8 @@ IsSweptByRequests board = IsSweptBy board (IsRequestMove board) (λ c. Unit {0})
 module _ (board : PlainBoard) (IsMove : List ℕ → ℕ → ℕ → Type 0) (Holds : List ℕ → Type 0) (Leads : ℕ → ℕ → Type 0)
     (is : IsConfiguration board board.start) where
   pub sweep_begins : (size : ℕ) (marks : ReachedMarks) → size ≡ configurations board
-      → AreReachedWith (none_reached size) (IsStart board IsMove Holds Leads is) marks
+      → AreReachedWith (none_reached size) (IsStart board configuration_positions (are_plain board) (by_rank board) (are_ranks board)
+      IsMove Holds Leads is) marks
       → length (none_reached size).reached ≡ size
       → IsSweptBy board IsMove Holds Leads marks
   sweep_begins size marks size_is with long = record {
@@ -197,19 +203,21 @@ module _ (board : PlainBoard) (IsMove : List ℕ → ℕ → ℕ → Type 0) (Ho
     start = λ holds. (with.each (rank_of board board.start)).1 (inr (holds, refl));
   }
 
-  module _ (are : AreMoves board IsMove Holds Leads) where
+  module _ (are : AreMoves board configuration_positions (by_rank board) IsMove Holds Leads) where
     pub sweep_more : (marks after : ReachedMarks) (rank : ℕ) → IsSweptBy board IsMove Holds Leads marks
         → IsMarked marks.left rank
         → AreReachedWith (taken_from marks rank) (Leads rank) after → IsSweptBy board IsMove Holds Leads after
     sweep_more marks after rank swept is_left with = record {
       size = with.size ∙ swept.size;
-      on = sweep_step (IsFound board IsMove Holds Leads) Leads marks after rank is_left swept.on with
-          (λ to. keeps board IsMove Holds Leads is are to rank);
+      on = sweep_step (IsFound board configuration_positions (by_rank board) IsMove Holds Leads) Leads marks after rank is_left swept.on with
+          (λ to. keeps board configuration_positions (are_plain board) (by_rank board) (are_ranks board) IsMove Holds Leads is are
+          to rank);
       start = λ holds. (with.each (rank_of board board.start)).1 (inl (swept.start holds));
     }
 
     pub sweep_ends : (marks : ReachedMarks) → IsSweptBy board IsMove Holds Leads marks → NoneIsLeft marks
-        → AreMarksOf board (IsReachedBy board IsMove Holds) marks.reached
+        → AreAll (by_rank board) (IsReachedOver configuration_positions (by_rank board) board IsMove Holds)
+        (IsMarked marks.reached)
     sweep_ends marks swept none rank = (
       swept.on.sound rank,
       λ found. subst (IsMarked marks.reached) (rank_of-configuration_at board rank found.0)
@@ -232,7 +240,7 @@ module _ (board : PlainBoard) (IsMove : List ℕ → ℕ → ℕ → Type 0) (Ho
               swept.on.done (rank_of board c) to there.1 (none (rank_of board c)) leads,
             )
 
-        all : IsReachedBy board IsMove Holds rank → P (configuration_at board rank)
-        all reached = moves_stay IsMove Holds P are.before step board.start reached.moves (configuration_at board rank)
+        all : IsReachedOver configuration_positions (by_rank board) board IsMove Holds rank → P (configuration_at board rank)
+        all reached = moves_stay configuration_positions IsMove Holds P are.before step board.start reached.moves (configuration_at board rank)
             (λ holds. (is, swept.start holds))
             reached.reached reached.holds

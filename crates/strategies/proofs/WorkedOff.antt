@@ -4,13 +4,15 @@ use Rattle.std.specs.List.{AllPairs}
 use Rattle.std.proofs.Math.Nat.{pow-le-pow_left, pow-le-pow_right}
 use Rattle.std.proofs.lemmas.Option.{slice_get_within}
 use Rattle.board_text.specs.PlainBoard.{PlainBoard, IsBoard}
+use Rattle.proof_text.specs.Positions.{normal_positions}
+use Rattle.strategies.specs.Inside.Numbering.{by_order}
 use Rattle.strategies.proofs.AddedRanks.{few_apart}
 use Rattle.strategies.proofs.ClassNumbers.{last_number, number-ends}
-use Rattle.strategies.proofs.SpreadClasses.{IsSpreadBy}
+use Rattle.strategies.proofs.SpreadMoves.{IsSpreadBy}
 
 module _ (board : PlainBoard) (normal : List ℕ → List ℕ) (IsMove : List ℕ → ℕ → ℕ → Type 0)
     (Holds : List ℕ → Type 0) (Leads : ℕ → ℕ → Type 0)
-    (place number : ℕ) (numbers : List ℕ) (spread : IsSpreadBy board normal IsMove Holds Leads place numbers)
+    (place number : ℕ) (numbers : List ℕ) (spread : IsSpreadBy board (normal_positions normal) (by_order board) IsMove Holds Leads place numbers)
     (once : AllPairs (λ first second. first ≢ second) numbers) (there : slice_get numbers place ≡ Some number) where
   pub place_below : place < last_number board
   place_below =

@@ -1,4 +1,6 @@
 -- The lines of rows, as they are written.
+use Rattle.strategies.specs.Inside.Marks.{IsMarked}
+use Rattle.proof_text.specs.Positions.{configuration_positions}
 use Rattle.std.proofs.Common.{◌≡◌, ℕ, ◌+◌, ◌<◌, ◌≤◌, Bool, true, false, true≢false, List, [], ◌∷◌, ◌++◌, codes, length}
 use Rattle.std.proofs.Common.{map, Option, Some, None, refl, sym, ap, ◌∙◌, subst, arith, inl, inr}
 use Rattle.std.specs.List.{flat_map, sum_by}
@@ -13,30 +15,31 @@ use Rattle.board_text.specs.LineForms.{number_line}
 use Rattle.board_text.specs.PlainBoard.{PlainBoard, IsConfiguration}
 use Rattle.positions.specs.declared.claim.Claim.{Claim}
 use Rattle.positions.specs.declared.side.Side.{Side as DocumentSide}
-use Rattle.positions.specs.declared.side.Side.TheVariants.{Adversary, Labeller}
 use Rattle.positions.specs.declared.value.Value.{Value}
-use Rattle.positions.specs.declared.value.Value.TheVariants.{Finite, Forever}
 use Rattle.positions.specs.Value.{HasValue}
 use Rattle.positions.specs.Claim.{claim_of}
 use Rattle.positions.specs.Counts.{IsSmallest}
 use Rattle.positions.specs.Table.{AnswerRow, RequestRow}
 use Rattle.positions.specs.declared.space.TheConstants.{MAX_CONFIGURATIONS}
-use Rattle.positions.specs.Ranks.{configurations}
+use Rattle.positions.specs.Ranks.{configurations, rank_of}
 use Rattle.positions.proofs.Cited.{same_value}
 use Rattle.proof_text.specs.Proof.{PlainProof, answer_row, asks_adversary, asks_labeller, request_row}
 use Rattle.proof_text.specs.ProofText.{answer_line, first_two_lines, proof_version_line, request_line, section_text}
-use Rattle.strategies.specs.Document.{AreExactly, AsksAdversary, IsAdversaryRow, IsDocumentOf, IsLabellerRow}
+use Rattle.strategies.specs.Document.{IsDocumentOf}
+use Rattle.strategies.specs.Inside.Numbering.{by_rank}
+use Rattle.strategies.specs.Inside.Side.{Side, labeller_side, adversary_side, AreOfReached, AreReached, IsRowAt}
+use Rattle.strategies.specs.PositionDocument.{AsksAdversary, IsLabellerRowOver, IsAdversaryRowOver, AreExactlyOver}
 use Rattle.strategies.specs.DocumentTexts.{IsDocumentText}
 use Rattle.strategies.specs.Sides.{HasStrategy, claim_for, document_for}
 use Rattle.strategies.specs.declared.lines.Lines.{Lines}
 use Rattle.strategies.specs.Inside.Lines.{AreLinesAt, AreLinesBetween, AreLinesIf, AreSectionLines, adversary_line}
 use Rattle.strategies.specs.Inside.Lines.{labeller_line, section_lines_text}
-use Rattle.strategies.specs.Inside.Side.{Side, AreOfReached, AreReached, IsRowAt, adversary_side, labeller_side}
 use Rattle.strategies.proofs.DocumentForm.{section}
+use Rattle.strategies.proofs.Numberings.{are_ranks, ranks_end}
 use Rattle.strategies.proofs.OneList.{same_rows}
 use Rattle.strategies.proofs.OneSide.{adversary_is, asks_finite, claim_is, labeller_is}
 use Rattle.strategies.proofs.RowLists.{same_fact}
-use Rattle.strategies.proofs.RowsAtRanks.{rows_push, section_is}
+use Rattle.strategies.proofs.RowsAt.{rows_push, section_of_marks}
 use Rattle.strategies.proofs.SomeDocument.{document_exists}
 
 -- the first below an end is the first of all
@@ -57,11 +60,11 @@ module _ {R : Type 0} (board : PlainBoard) (side : Side R) (line : R → List �
 
   -- the line of the next row
   pub one_line : (ranks bytes more : List ℕ) (count rank : ℕ) (row : R) → AreLinesAt board side line ranks bytes count
-      → IsRowAt board side rank (Some row) → more ≡ bytes ++ line row
+      → IsRowAt (by_rank board) side rank (Some row) → more ≡ bytes ++ line row
       → AreLinesAt board side line (ranks ++ rank ∷ []) more (count + 1)
   one_line ranks bytes more count rank row are is there = record {
     rows = are.rows ++ row ∷ [];
-    are_rows = rows_push board side ranks rank are.rows (Some row) are.are_rows is;
+    are_rows = rows_push board (by_rank board) (are_ranks board) side ranks rank are.rows (Some row) are.are_rows is;
     bytes_are = there ∙ ap (λ l. l ++ line row) are.bytes_are
         ∙ ap (λ l. flat_map line are.rows ++ l) (sym (append-nil (line row)) ∙ sym (flat_map-cons line row []))
         ∙ sym (flat_map-append line are.rows (row ∷ []));
@@ -70,21 +73,21 @@ module _ {R : Type 0} (board : PlainBoard) (side : Side R) (line : R → List �
 
   -- a rank without a row
   pub no_line : (ranks bytes : List ℕ) (count rank : ℕ) → AreLinesAt board side line ranks bytes count
-      → IsRowAt board side rank None → AreLinesAt board side line (ranks ++ rank ∷ []) bytes count
+      → IsRowAt (by_rank board) side rank None → AreLinesAt board side line (ranks ++ rank ∷ []) bytes count
   no_line ranks bytes count rank are none = record {
     rows = are.rows ++ [];
-    are_rows = rows_push board side ranks rank are.rows None are.are_rows none;
+    are_rows = rows_push board (by_rank board) (are_ranks board) side ranks rank are.rows None are.are_rows none;
     bytes_are = are.bytes_are ∙ ap (flat_map line) (sym (append-nil are.rows));
     count_is = are.count_is ∙ ap length (sym (append-nil are.rows));
   }
 
   -- the lines of all ranks are one part
-  pub one_part : (marks : List Bool) (end : ℕ) (lines : Lines) → AreReached board side marks
+  pub one_part : (marks : List Bool) (end : ℕ) (lines : Lines) → AreReached (by_rank board) board side (IsMarked marks)
       → configurations board ≤ end → AreLinesBetween board side line marks 0 end lines
       → AreSectionLines board side line (lines ∷ [])
   one_part marks end lines reached enough are = record {
     rows = are.are_lines.rows;
-    are_rows = section_is board side marks end are.ranks are.are_lines.rows reached enough are.listed
+    are_rows = section_of_marks board (by_rank board) (are_ranks board) side marks end are.ranks are.are_lines.rows reached (ranks_end board end enough) are.listed
         are.are_lines.are_rows;
     bytes_are = flat_map-cons (λ (part : Lines). part.bytes.items) lines [] ∙ append-nil lines.bytes.items
         ∙ are.are_lines.bytes_are;
@@ -92,15 +95,15 @@ module _ {R : Type 0} (board : PlainBoard) (side : Side R) (line : R → List �
   }
 
   -- there are no more rows than configurations
-  pub few_lines : (parts : List Lines) → configurations board ≤ MAX_CONFIGURATIONS → AreOfReached board side
+  pub few_lines : (parts : List Lines) → configurations board ≤ MAX_CONFIGURATIONS → AreOfReached (by_rank board) board side
       → AreSectionLines board side line parts → sum_by (λ (part : Lines). part.rows) parts ≤ MAX_CONFIGURATIONS
   few_lines parts few of_reached are =
       let formed = section board side.IsRow (λ row. Unit {0}) side.at (map side.shown are.rows) few
-      of_reached.is_configuration (λ row is_row. tt) are.are_rows.exactly in
+      of_reached.is (λ row is_row. tt) are.are_rows.exactly in
       omega (arith, are.count_is, length-map are.rows side.shown, formed.0)
 
   pub few_if : (asked : Bool) (parts : List Lines) → asked ≡ true → configurations board ≤ MAX_CONFIGURATIONS
-      → AreOfReached board side → AreLinesIf asked board side line parts
+      → AreOfReached (by_rank board) board side → AreLinesIf asked board side line parts
       → sum_by (λ (part : Lines). part.rows) parts ≤ MAX_CONFIGURATIONS
   few_if true parts is few of_reached are = few_lines parts few of_reached are
   few_if false parts is few of_reached are = absurd (true≢false (sym is))
@@ -173,17 +176,17 @@ module _ (board : PlainBoard) (is_start : IsConfiguration board board.start) (si
       labellers_are : (are : AreSectionLines board (labeller_side board value) (labeller_line board) labeller)
           → asks_labeller claim ≡ true → (document_for side document).labeller ≡ map (answer_row board) are.rows
       labellers_are are asked = labeller_is side value document strategy asked
-          ∙ same_rows board (IsLabellerRow board value) (λ (row : AnswerRow). row.at) document.labeller
+          ∙ same_rows (rank_of board) (IsLabellerRowOver configuration_positions board value) (λ (row : AnswerRow). row.at) document.labeller
           (map (answer_row board) are.rows)
-          (subst (λ (v : Value). AreExactly board (IsLabellerRow board v) (λ (row : AnswerRow). row.at)
+          (subst (λ (v : Value). AreExactlyOver (rank_of board) (IsLabellerRowOver configuration_positions board v) (λ (row : AnswerRow). row.at)
           document.labeller) same is_document.labeller) are.are_rows.exactly
 
       adversarys_are : (are : AreSectionLines board (adversary_side board value) (adversary_line board) adversary)
           → asks_adversary claim ≡ true → (document_for side document).adversary ≡ map (request_row board) are.rows
       adversarys_are are asked = adversary_is side value document strategy asked
-          ∙ same_rows board (IsAdversaryRow board) (λ (row : RequestRow). row.at) document.adversary
+          ∙ same_rows (rank_of board) (IsAdversaryRowOver configuration_positions board) (λ (row : RequestRow). row.at) document.adversary
           (map (request_row board) are.rows)
-          (same_fact board (λ (row : RequestRow). row.at) _ _ document.adversary
+          (same_fact (rank_of board) (λ (row : RequestRow). row.at) _ _ document.adversary
           (λ row. ((λ is. is.1), (λ is. (subst AsksAdversary (sym same) (asks_finite side value asked), is))))
           is_document.adversary) are.are_rows.exactly
 

@@ -1,87 +1,11 @@
--- The strategy document of a board: the value of the start, and the rows that show it.
-use Rattle.std.specs.Prelude.{◌≡◌, ℕ, ◌<◌, ◌↔◌, min, List, [], ◌∷◌, length, slice_index, AllPairs}
-use Rattle.std.specs.Prelude.{Contains}
+-- The strategy document of a board: the value of the start, and the rows that show it, one for each
+-- configuration that is reached.
 use Rattle.board_text.specs.PlainBoard.{PlainBoard}
-use Rattle.positions.specs.declared.value.Value.{Value}
-use Rattle.positions.specs.declared.value.Value.TheVariants.{Finite, Forever}
-use Rattle.positions.specs.declared.turns.Turns.{Turns}
-use Rattle.positions.specs.declared.turns.Turns.TheVariants.{Count, Always}
-use Rattle.positions.specs.Game.{Legal, moved}
-use Rattle.positions.specs.Value.{HasValue}
-use Rattle.positions.specs.Claim.{claim_of}
-use Rattle.positions.specs.Table.{AnswerRow, RequestRow}
-use Rattle.proof_text.specs.Proof.{PlainProof, IsBefore}
-use Rattle.strategies.specs.Best.{IsLess, IsBestAnswer, IsBestRequest}
+use Rattle.positions.specs.Ranks.{rank_of}
+use Rattle.proof_text.specs.Positions.{configuration_positions}
+use Rattle.proof_text.specs.Proof.{PlainProof}
+use Rattle.strategies.specs.PositionDocument.{IsDocumentOver}
 
--- the configuration's value is 1 or more
-pub record IsAnswerable (board : PlainBoard) (configuration : List ℕ) : Type 0 where
-  pub value : Value
-  pub has_value : HasValue board configuration value
-  pub some : IsLess (Finite 0) value
-
--- the pebble is asked at a value of 1 or more, and the label is the best answer
-pub record IsAnswerMove (board : PlainBoard) (configuration : List ℕ)
-    (pebble label : ℕ) : Type 0 where
-  pub is_pebble : pebble < board.pebbles
-  pub answerable : IsAnswerable board configuration
-  pub best : IsBestAnswer board configuration pebble label
-
--- the pebble is the best request, and the label is a legal answer
-pub record IsRequestMove (board : PlainBoard) (configuration : List ℕ)
-    (pebble label : ℕ) : Type 0 where
-  pub best : IsBestRequest board configuration pebble
-  pub legal : Legal board configuration pebble label
-
--- these moves of pebbles to labels, each of the kind, lead from one configuration to another
-abbrev pub LeadsBy : (List ℕ → ℕ → ℕ → Type 0) → List ℕ → List (ℕ × ℕ) → List ℕ → Type 0
-LeadsBy IsMove from [] to = from ≡ to
-LeadsBy IsMove from ((pebble, label) ∷ moves) to =
-    IsMove from pebble label × LeadsBy IsMove (moved from pebble label) moves to
-
--- the turns for which a configuration of the second value is listed, if the start has the first:
--- always if the start lasts forever, and else the smaller of the two values
-abbrev pub turns_of : Value → Value → Turns
-turns_of Forever value = Always
-turns_of (Finite number) (Finite value) = Count (min value number)
-turns_of (Finite number) Forever = Count number
-
--- a row that the document has for the labeller: a configuration of value 1 or more that best
--- answers lead to from the start, its turns, and the best answer to each request
-pub record IsLabellerRow (board : PlainBoard) (start : Value) (row : AnswerRow) : Type 0 where
-  pub moves : List (ℕ × ℕ)
-  pub reached : LeadsBy (IsAnswerMove board) board.start moves row.at
-  pub value : Value
-  pub has_value : HasValue board row.at value
-  pub some : IsLess (Finite 0) value
-  pub turns : row.turns ≡ turns_of start value
-  pub one_each : length row.answers ≡ board.pebbles
-  pub best : (pebble : ℕ) → pebble < board.pebbles
-      → IsBestAnswer board row.at pebble (slice_index row.answers pebble)
-
--- a row that the document of a start with a finite value has for the adversary: a configuration
--- that answers to best requests lead to from the start, its value, and the best request
-pub record IsAdversaryRow (board : PlainBoard) (row : RequestRow) : Type 0 where
-  pub moves : List (ℕ × ℕ)
-  pub reached : LeadsBy (IsRequestMove board) board.start moves row.at
-  pub has_value : HasValue board row.at (Finite row.left)
-  pub best : IsBestRequest board row.at row.request
-
--- whether a document of a start with the value has rows for the adversary
-abbrev pub AsksAdversary : Value → Type 0
-AsksAdversary (Finite number) = Unit {0}
-AsksAdversary Forever = ⊥
-
--- exactly these rows, in ascending order of the ranks of their configurations
-pub record AreExactly {X : Type 0} (board : PlainBoard) (IsRow : X → Type 0) (at : X → List ℕ)
-    (rows : List X) : Type 0 where
-  pub each : (row : X) → Contains rows row ↔ IsRow row
-  pub ascending : AllPairs (λ first second. IsBefore board (at first) (at second)) rows
-
--- the document of the board
-pub record IsDocumentOf (board : PlainBoard) (proof : PlainProof) : Type 0 where
-  pub value : Value
-  pub has_value : HasValue board board.start value
-  pub claim : proof.claim ≡ claim_of value
-  pub labeller : AreExactly board (IsLabellerRow board value) (λ row. row.at) proof.labeller
-  pub adversary : AreExactly board (λ row. AsksAdversary value × IsAdversaryRow board row)
-      (λ row. row.at) proof.adversary
+-- the document of the board, whose rows ascend by the ranks of their configurations
+abbrev pub IsDocumentOf : PlainBoard → PlainProof → Type 0
+IsDocumentOf board proof = IsDocumentOver configuration_positions (rank_of board) board proof

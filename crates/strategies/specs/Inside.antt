@@ -6,6 +6,8 @@ pub mod RankMoves
 pub mod Walks
 pub mod MovesAt
 pub mod Marks
+pub mod Numbering
+pub mod ReachedOver
 pub mod Side
 pub mod ReachedRanks
 pub mod ReachedMarks

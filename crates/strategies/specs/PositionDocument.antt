@@ -1,18 +1,38 @@
 -- The document of a board, however its rows stand for configurations: one definition for the three
 -- versions.
-use Rattle.std.specs.Prelude.{◌≡◌, ℕ, ◌<◌, ◌↔◌, List, [], ◌∷◌, length, slice_index, AllPairs}
+use Rattle.std.specs.Prelude.{◌≡◌, ℕ, ◌<◌, ◌↔◌, min, List, [], ◌∷◌, length, slice_index, AllPairs}
 use Rattle.std.specs.Prelude.{Contains}
 use Rattle.board_text.specs.PlainBoard.{PlainBoard}
 use Rattle.positions.specs.declared.value.Value.{Value}
-use Rattle.positions.specs.declared.value.Value.TheVariants.{Finite}
-use Rattle.positions.specs.Game.{moved}
+use Rattle.positions.specs.declared.value.Value.TheVariants.{Finite, Forever}
+use Rattle.positions.specs.declared.turns.Turns.{Turns}
+use Rattle.positions.specs.declared.turns.Turns.TheVariants.{Count, Always}
+use Rattle.positions.specs.Game.{Legal, moved}
 use Rattle.positions.specs.Value.{HasValue}
 use Rattle.positions.specs.Claim.{claim_of}
 use Rattle.positions.specs.Table.{AnswerRow, RequestRow}
 use Rattle.proof_text.specs.Proof.{PlainProof}
-use Rattle.strategies.specs.Best.{IsLess, IsBestAnswer, IsBestRequest}
-use Rattle.strategies.specs.Document.{IsAnswerMove, IsRequestMove, turns_of, AsksAdversary}
 use Rattle.proof_text.specs.Positions.{Positions}
+use Rattle.strategies.specs.Best.{IsLess, IsBestAnswer, IsBestRequest}
+
+-- the configuration's value is 1 or more
+pub record IsAnswerable (board : PlainBoard) (configuration : List ℕ) : Type 0 where
+  pub value : Value
+  pub has_value : HasValue board configuration value
+  pub some : IsLess (Finite 0) value
+
+-- the pebble is asked at a value of 1 or more, and the label is the best answer
+pub record IsAnswerMove (board : PlainBoard) (configuration : List ℕ)
+    (pebble label : ℕ) : Type 0 where
+  pub is_pebble : pebble < board.pebbles
+  pub answerable : IsAnswerable board configuration
+  pub best : IsBestAnswer board configuration pebble label
+
+-- the pebble is the best request, and the label is a legal answer
+pub record IsRequestMove (board : PlainBoard) (configuration : List ℕ)
+    (pebble label : ℕ) : Type 0 where
+  pub best : IsBestRequest board configuration pebble
+  pub legal : Legal board configuration pebble label
 
 -- these moves of pebbles to labels, each of the kind, lead from one configuration to another, where
 -- the normal places are taken after each move
@@ -22,6 +42,13 @@ LeadsOver positions IsMove from [] to = from ≡ to
 LeadsOver positions IsMove from ((pebble, label) ∷ moves) to =
     IsMove from pebble label
     × LeadsOver positions IsMove (positions.normal (moved from pebble label)) moves to
+
+-- the turns for which a configuration of the second value is listed, if the start has the first:
+-- always if the start lasts forever, and else the smaller of the two values
+abbrev pub turns_of : Value → Value → Turns
+turns_of Forever value = Always
+turns_of (Finite number) (Finite value) = Count (min value number)
+turns_of (Finite number) Forever = Count number
 
 -- a labeller's row: a normal configuration of value 1 or more that best answers lead to from that
 -- of the start, its turns, and the best answer to each request
@@ -47,6 +74,11 @@ pub record IsAdversaryRowOver (positions : Positions) (board : PlainBoard)
   pub has_value : HasValue board row.at (Finite row.left)
   pub asks : positions.asked row < length row.at
   pub best : IsBestRequest board row.at (positions.asked row)
+
+-- whether a document of a start with the value has rows for the adversary
+abbrev pub AsksAdversary : Value → Type 0
+AsksAdversary (Finite number) = Unit {0}
+AsksAdversary Forever = ⊥
 
 -- exactly these rows, in ascending order of the numbers of their places
 pub record AreExactlyOver {X : Type 0} (number : List ℕ → ℕ) (IsRow : X → Type 0) (at : X → List ℕ)

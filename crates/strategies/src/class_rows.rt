@@ -2,8 +2,9 @@
 
 ghost use Rattle.std.specs.Prelude.{◌≤◌, All, IfErr, IfOk, flat_map};
 ghost use Rattle.strategies.specs.Inside.NormalForm.{IsNormalBy, normal_by};
-ghost use Rattle.strategies.specs.Inside.ClassSide.{AreRowsAtClasses, AreClassSection};
-ghost use Rattle.strategies.specs.Inside.ClassSide.{HasNoSection, MayStandAtClass};
+ghost use Rattle.strategies.specs.Inside.ClassSide.{HasNoSection};
+ghost use Rattle.strategies.specs.Inside.Numbering.{by_order};
+ghost use Rattle.strategies.specs.Inside.Side.{MayStandAt, AreRowsAt, AreSection};
 
 use crate::class_sections::ClassSectionRow;
 use crate::moves::Moves;
@@ -26,7 +27,7 @@ pub(crate) fn section<R: ClassSectionRow, M: Moves>(
 ) -> Result<Vec<R>, Unmade>
     requires { IsNormalBy (M.board moves.now) normal.now }
     ensures ok { IfOk result (λ rows.
-        AreClassSection (M.board moves.now) (R.side (M.board moves.now) (normal_by
+        AreSection (by_order (M.board moves.now)) (R.side (M.board moves.now) (normal_by
         (M.board moves.now) normal.now) start) rows.items) }
     ensures fault { IfErr result (HasNoSection (M.board moves.now) (R.side (M.board moves.now)
         (normal_by (M.board moves.now) normal.now) start) most) }
@@ -50,7 +51,7 @@ pub(crate) fn section_in_parts<R: ClassSectionRow + Send + Sync, M: Moves + Sync
     requires normal { IsNormalBy (M.board moves.now) normal.now }
     requires parts { 1 ≤ parts }
     ensures ok { IfOk result (λ rows.
-        AreClassSection (M.board moves.now) (R.side (M.board moves.now) (normal_by
+        AreSection (by_order (M.board moves.now)) (R.side (M.board moves.now) (normal_by
         (M.board moves.now) normal.now) start) rows.items) }
     ensures fault { IfErr result (HasNoSection (M.board moves.now) (R.side (M.board moves.now)
         (normal_by (M.board moves.now) normal.now) start) most) }
@@ -74,11 +75,11 @@ fn rows_in_parts<R: ClassSectionRow + Send + Sync, M: Moves + Sync>(
     parts: u32,
 ) -> Result<Vec<Vec<R>>, Memory>
     requires numbers { All
-        (MayStandAtClass (M.board moves.now) (R.side (M.board moves.now) (normal_by
+        (MayStandAt (by_order (M.board moves.now)) (R.side (M.board moves.now) (normal_by
         (M.board moves.now) normal.now) start)) numbers.now }
     requires parts { 1 ≤ parts }
     ensures { IfOk result (λ parts.
-        AreRowsAtClasses (M.board moves.now) (R.side (M.board moves.now) (normal_by
+        AreRowsAt (by_order (M.board moves.now)) (R.side (M.board moves.now) (normal_by
         (M.board moves.now) normal.now) start) numbers.now
         (flat_map (λ part. part.items) parts.items)) }
 {
@@ -88,9 +89,9 @@ fn rows_in_parts<R: ClassSectionRow + Send + Sync, M: Moves + Sync>(
         .map(
             |part: &[u64]| -> Result<Vec<R>, Memory>
                 requires { All
-                    (MayStandAtClass (M.board moves.now) (R.side (M.board moves.now)
+                    (MayStandAt (by_order (M.board moves.now)) (R.side (M.board moves.now)
                     (normal_by (M.board moves.now) normal.now) start)) part.now }
-                ensures { IfOk result (λ rows. AreRowsAtClasses (M.board moves.entry.now)
+                ensures { IfOk result (λ rows. AreRowsAt (by_order (M.board moves.entry.now))
                     (R.side (M.board moves.entry.now) (normal_by (M.board moves.entry.now)
                     normal.entry.now) start) part.now rows.items) }
             { rows_at(alloc, moves, normal, start, part) },
@@ -107,10 +108,10 @@ fn rows_at<R: ClassSectionRow, M: Moves>(
     start: Value,
     numbers: &[u64],
 ) -> Result<Vec<R>, Memory>
-    requires { All (MayStandAtClass (M.board moves.now) (R.side (M.board moves.now)
+    requires { All (MayStandAt (by_order (M.board moves.now)) (R.side (M.board moves.now)
         (normal_by (M.board moves.now) normal.now) start)) numbers.now }
     ensures { IfOk result (λ rows.
-        AreRowsAtClasses (M.board moves.now) (R.side (M.board moves.now) (normal_by
+        AreRowsAt (by_order (M.board moves.now)) (R.side (M.board moves.now) (normal_by
         (M.board moves.now) normal.now) start) numbers.now rows.items) }
 {
     let mut rows = Vec::with_capacity(alloc, numbers.len())?;

@@ -1,23 +1,22 @@
 //! The sections of a document over normal places: a row for each of those that were reached.
 
-ghost use Rattle.std.specs.Prelude.{◌≡◌, ℕ, List, IfErr, IfOk};
+ghost use Rattle.std.specs.Prelude.{ℕ, List, Contains, IfErr, IfOk};
 ghost use Rattle.board_text.specs.PlainBoard.{PlainBoard};
 ghost use Rattle.positions.specs.declared.value.Value.{Value as ValueData};
-ghost use Rattle.strategies.specs.Document.{turns_of};
-ghost use Rattle.strategies.specs.Inside.Side.{Side};
+ghost use Rattle.strategies.specs.Inside.ClassSide.{class_labeller_side, class_adversary_side};
+ghost use Rattle.strategies.specs.Inside.ClassSide.{HasNoSection};
+ghost use Rattle.strategies.specs.Inside.Numbering.{by_order};
+ghost use Rattle.strategies.specs.Inside.Side.{Side, AreReached, IsRowAt, MayStandAt};
 ghost use Rattle.strategies.specs.Inside.NormalForm.{IsNormalBy, normal_by};
-ghost use Rattle.strategies.specs.Inside.ClassSide.{AreClassesReached, IsClassRowAt};
-ghost use Rattle.strategies.specs.Inside.ClassSide.{HasNoSection, MayStandAtClass};
-ghost use Rattle.strategies.specs.Inside.ClassSide.{class_adversary_side};
-ghost use Rattle.strategies.specs.Inside.ClassSide.{class_labeller_side};
 
 use crate::class_steps::{add_answers, add_results};
 use crate::moves::Moves;
 use crate::normal::Normal;
 use crate::reached_classes::ReachedClasses;
+use crate::sections::turns;
 use crate::unmade::Unmade;
 use board_text::MAX_PEBBLES;
-use positions::{Turns, Value};
+use positions::Value;
 use proof_text::{AdversaryClassRow, LabellerClassRow, places_at};
 use std::alloc::Global;
 
@@ -33,9 +32,9 @@ pub(crate) trait ClassSectionRow: Copy {
         most: usize,
     ) -> Result<ReachedClasses, Unmade>
         requires { IsNormalBy (M.board moves.now) normal.now }
-        ensures ok { IfOk result (λ reached. (start : ValueData) → AreClassesReached
-            (M.board moves.now) (side (M.board moves.now) (normal_by (M.board moves.now)
-            normal.now) start) reached) }
+        ensures ok { IfOk result (λ reached. (start : ValueData) → AreReached
+            (by_order (M.board moves.now)) (M.board moves.now) (side (M.board moves.now)
+            (normal_by (M.board moves.now) normal.now) start) (Contains reached)) }
         ensures fault { IfErr result (λ fault. (start : ValueData) → HasNoSection
             (M.board moves.now) (side (M.board moves.now) (normal_by (M.board moves.now)
             normal.now) start) most fault) };
@@ -43,9 +42,9 @@ pub(crate) trait ClassSectionRow: Copy {
     /// The row at the reached places of `number`, if they have one. The start has the value
     /// `start`.
     fn at<M: Moves>(moves: &M, normal: &Normal, start: Value, number: u64) -> Option<Self>
-        requires { MayStandAtClass (M.board moves.now) (side (M.board moves.now) (normal_by
+        requires { MayStandAt (by_order (M.board moves.now)) (side (M.board moves.now) (normal_by
             (M.board moves.now) normal.now) start) number }
-        ensures { IsClassRowAt (M.board moves.now) (side (M.board moves.now) (normal_by
+        ensures { IsRowAt (by_order (M.board moves.now)) (side (M.board moves.now) (normal_by
             (M.board moves.now) normal.now) start) number result };
 }
 
@@ -139,16 +138,5 @@ impl ClassSectionRow for AdversaryClassRow {
         let pebble = request?;
         let ask = held[pebble as usize];
         Some(AdversaryClassRow { at, left, ask })
-    }
-}
-
-/// The turns for which places with `value` are listed, if the start has the value `start`.
-fn turns(start: Value, value: Value) -> Turns
-    ensures { result ≡ turns_of start value }
-{
-    match (start, value) {
-        (Value::Forever, _) => Turns::Always,
-        (Value::Finite(number), Value::Finite(value)) => Turns::Count(value.min(number)),
-        (Value::Finite(number), Value::Forever) => Turns::Count(number),
     }
 }

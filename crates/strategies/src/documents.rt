@@ -10,7 +10,8 @@ ghost use Rattle.proof_text.specs.Proof.{answer_rows, plain_proof, request_rows}
 ghost use Rattle.proof_text.specs.Positions.{configuration_positions};
 ghost use Rattle.proof_text.specs.Rules.{BreaksNoRule};
 ghost use Rattle.strategies.specs.Document.{IsDocumentOf};
-ghost use Rattle.strategies.specs.Inside.Side.{AreAdversaryRows, AreSection, labeller_side};
+ghost use Rattle.strategies.specs.Inside.Numbering.{by_rank};
+ghost use Rattle.strategies.specs.Inside.Side.{labeller_side, AreSection, AreAdversaryRows};
 
 use crate::best_moves::BestMoves;
 use crate::moves::Moves;
@@ -78,7 +79,7 @@ impl RankMoves<'_> {
         requires value { HasValue self.now self.now.start value }
         requires start { IsConfiguration self.now self.now.start }
         requires few { configurations self.now ≤ MAX_CONFIGURATIONS }
-        requires labeller { AreSection self.now (labeller_side self.now value) labeller.items }
+        requires labeller { AreSection (by_rank self.now) (labeller_side self.now value) labeller.items }
         requires adversary { AreAdversaryRows self.now value adversary.items }
         ensures document { IsDocumentOf self.now (plain_proof self.now result) }
         ensures form { IsDocument self.now result }

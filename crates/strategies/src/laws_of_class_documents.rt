@@ -14,9 +14,6 @@ ghost use Rattle.proof_text.specs.Positions.{class_positions, configuration_posi
 ghost use Rattle.proof_text.specs.Rules.{BreaksNoRule};
 ghost use Rattle.proof_text.specs.Arranged.{order_number};
 ghost use Rattle.strategies.specs.ClassDocument.{IsClassDocumentOf, FitsFormat};
-ghost use Rattle.strategies.specs.PositionDocument.{IsDocumentOver};
-ghost use Rattle.strategies.specs.Document.{IsDocumentOf};
-ghost use Rattle.positions.specs.Ranks.{rank_of};
 
 use proof_text::{MAX_CLASS_ROWS, MOST_TURNS};
 
@@ -39,16 +36,6 @@ pub fn class_documents_have_the_form()
     ensures short { (board : PlainBoard) → (proof : PlainProof) → IsClassDocumentOf board proof
         → ways (board.pebbles - 1) (places board) ≤ MOST_TURNS
         → length (class_text board proof) ≤ 8 * MAX_CLASS_ROWS → FitsFormat board proof }
-{}
-
-/// The documents of both versions are documents over positions: with each configuration for itself,
-/// and with classes.
-pub fn both_documents_are_documents_over_positions()
-    ensures plain { (board : PlainBoard) → (proof : PlainProof) → IsConfiguration board board.start
-        → IsDocumentOf board proof
-        ↔ IsDocumentOver configuration_positions (rank_of board) board proof }
-    ensures classes { (board : PlainBoard) → (proof : PlainProof) → IsClassDocumentOf board proof
-        ↔ IsDocumentOver (class_positions board.labels) (order_number board.labels) board proof }
 {}
 
 /// Each board has a document by classes.

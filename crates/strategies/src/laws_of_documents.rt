@@ -11,7 +11,8 @@ ghost use Rattle.proof_text.specs.Proof.{PlainProof};
 ghost use Rattle.proof_text.specs.Documents.{IsProof};
 ghost use Rattle.proof_text.specs.Positions.{configuration_positions};
 ghost use Rattle.proof_text.specs.Rules.{BreaksNoRule};
-ghost use Rattle.strategies.specs.Document.{IsLabellerRow, IsAdversaryRow, IsDocumentOf};
+ghost use Rattle.strategies.specs.Document.{IsDocumentOf};
+ghost use Rattle.strategies.specs.PositionDocument.{IsLabellerRowOver, IsAdversaryRowOver};
 ghost use Rattle.strategies.specs.Meaning.{Means};
 ghost use Rattle.strategies.specs.Example.{small_board, small_document, lone_board, lone_document};
 
@@ -67,10 +68,10 @@ pub fn one_document_of_a_board()
         → IsDocumentOf board first → IsDocumentOf board second → first ≡ second }
     ensures labeller { (board : PlainBoard) → (start : ValueData) → (first : AnswerRow)
         → (second : AnswerRow)
-        → IsLabellerRow board start first → IsLabellerRow board start second
+        → IsLabellerRowOver configuration_positions board start first → IsLabellerRowOver configuration_positions board start second
         → first.at ≡ second.at → first ≡ second }
     ensures adversary { (board : PlainBoard) → (first : RequestRow) → (second : RequestRow)
-        → IsAdversaryRow board first → IsAdversaryRow board second → first.at ≡ second.at
+        → IsAdversaryRowOver configuration_positions board first → IsAdversaryRowOver configuration_positions board second → first.at ≡ second.at
         → first ≡ second }
 {}
 

@@ -46,8 +46,8 @@ pub use gap_best::Best;
 pub use gap_moves::GapMoves;
 pub use laws::{best_answers_last, best_requests_end, one_best_answer, one_best_request};
 pub use laws_of_class_documents::{
-    both_documents_are_documents_over_positions, claims_hold_where_class_documents_show_them,
-    class_documents_break_no_rule, class_documents_have_the_form, each_board_has_a_class_document,
+    claims_hold_where_class_documents_show_them, class_documents_break_no_rule,
+    class_documents_have_the_form, each_board_has_a_class_document,
     finite_values_are_less_than_the_number_of_gaps, one_class_document_of_a_board,
 };
 pub use laws_of_documents::{

@@ -5,7 +5,7 @@ ghost use Rattle.positions.specs.Gaps.{gaps};
 ghost use Rattle.positions.specs.Ranks.{configurations, configuration_at};
 ghost use Rattle.strategies.specs.Inside.MovesAt.{position};
 ghost use Rattle.strategies.specs.Inside.ReachedMarks.{AreExpanded, AreReachedWith};
-ghost use Rattle.strategies.specs.Inside.ReachedRanks.{AnswerLeads, IsAnswerOf, RequestLeads};
+ghost use Rattle.strategies.specs.Inside.ReachedRanks.{AnswerLeads, RequestLeads, IsAnswerOf};
 
 use crate::gap_walk::GapWalk;
 use crate::marks::Marks;

@@ -1,6 +1,8 @@
 //! The rows of a section, made one after the other.
 
+ghost use Rattle.strategies.specs.Inside.Marks.{IsMarked};
 ghost use Rattle.std.specs.Prelude.{IfOk};
+ghost use Rattle.strategies.specs.Inside.Numbering.{by_rank};
 ghost use Rattle.strategies.specs.Inside.Side.{AreReached, AreSection};
 
 use crate::marks::Marks;
@@ -17,7 +19,7 @@ pub(crate) fn section<R: SectionRow>(
     moves: &RankMoves<'_>,
     start: Value,
 ) -> Result<Vec<R>, Memory>
-    ensures { IfOk result (λ rows. AreSection moves.now (R.side moves.now start) rows.items) }
+    ensures { IfOk result (λ rows. AreSection (by_rank moves.now) (R.side moves.now start) rows.items) }
 {
     let marks = R::reached(moves, alloc)?;
     rows_at(alloc, moves, start, &marks)
@@ -30,8 +32,8 @@ fn rows_at<R: SectionRow>(
     start: Value,
     marks: &Marks,
 ) -> Result<Vec<R>, Memory>
-    requires { AreReached moves.now (R.side moves.now start) marks.now }
-    ensures { IfOk result (λ rows. AreSection moves.now (R.side moves.now start) rows.items) }
+    requires { AreReached (by_rank moves.now) moves.now (R.side moves.now start) (IsMarked marks.now) }
+    ensures { IfOk result (λ rows. AreSection (by_rank moves.now) (R.side moves.now start) rows.items) }
 {
     let mut walk = Walk::at(moves, moves.start());
     let mut rows = Vec::new(alloc);

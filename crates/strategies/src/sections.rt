@@ -1,13 +1,15 @@
 //! The sections of a document: a row for each configuration that was reached.
 
+ghost use Rattle.strategies.specs.Inside.Marks.{IsMarked};
 ghost use Rattle.std.specs.Prelude.{◌≡◌, ◌++◌, ℕ, List, IfOk, OnOk};
 ghost use Rattle.board_text.specs.PlainBoard.{PlainBoard};
 ghost use Rattle.positions.specs.Ranks.{configuration_at};
 ghost use Rattle.positions.specs.declared.value.Value.{Value as ValueData};
-ghost use Rattle.strategies.specs.Document.{turns_of};
+ghost use Rattle.strategies.specs.Inside.Numbering.{by_rank};
+ghost use Rattle.strategies.specs.Inside.Side.{Side, labeller_side, adversary_side, AreReached};
+ghost use Rattle.strategies.specs.Inside.Side.{IsRowAt, MayStandAt};
+ghost use Rattle.strategies.specs.PositionDocument.{turns_of};
 ghost use Rattle.strategies.specs.Inside.Lines.{adversary_line, labeller_line};
-ghost use Rattle.strategies.specs.Inside.Side.{Side, AreReached, IsRowAt, MayStandAt};
-ghost use Rattle.strategies.specs.Inside.Side.{adversary_side, labeller_side};
 
 use crate::marks::Marks;
 use crate::moves_here::MovesHere;
@@ -29,14 +31,14 @@ pub(crate) trait SectionRow: Copy {
     /// Marks of the configurations that a row may stand at.
     fn reached(moves: &RankMoves<'_>, alloc: Global) -> Result<Marks, Memory>
         ensures { IfOk result (λ marks. (start : ValueData)
-            → AreReached moves.now (side moves.now start) marks) };
+            → AreReached (by_rank moves.now) moves.now (side moves.now start) (IsMarked marks)) };
 
     /// The row of the reached configuration of `rank`, where `here` is, if it has one. The start
     /// has the value `start`.
     fn at(here: &Walk<'_>, rank: u32, start: Value) -> Option<Self>
         requires here { here.now.held ≡ configuration_at here.now.board rank }
-        requires may_stand { MayStandAt here.now.board (side here.now.board start) rank }
-        ensures { IsRowAt here.now.board (side here.now.board start) rank result };
+        requires may_stand { MayStandAt (by_rank here.now.board) (side here.now.board start) rank }
+        ensures { IsRowAt (by_rank here.now.board) (side here.now.board start) rank result };
 
     /// Appends the row's line to `text`. The row is at the configuration where `here` is, and the
     /// `words` are those of the board's places.
@@ -144,9 +146,8 @@ impl SectionRow for AdversaryRow {
     }
 }
 
-/// The turns for which a configuration with `value` is listed,
-/// if the start has the value `start`.
-fn turns(start: Value, value: Value) -> Turns
+/// The turns for which places with `value` are listed, if the start has the value `start`.
+pub(crate) fn turns(start: Value, value: Value) -> Turns
     ensures { result ≡ turns_of start value }
 {
     match (start, value) {

@@ -9,6 +9,7 @@ use Rattle.proof_text.specs.Proof.{answer_row, request_row}
 use Rattle.proof_text.specs.ProofText.{answer_line, request_line}
 use Rattle.strategies.specs.declared.lines.Lines.{Lines}
 use Rattle.strategies.specs.Inside.Marks.{AreListed, IsMarked}
+use Rattle.strategies.specs.Inside.Numbering.{by_rank}
 use Rattle.strategies.specs.Inside.Side.{Side, AreRowsAt, AreSection}
 
 -- the line of a labeller's row
@@ -23,7 +24,7 @@ adversary_line board row = request_line board (request_row board row)
 pub record AreLinesAt {R : Type 0} (board : PlainBoard) (side : Side R) (line : R → List ℕ)
     (ranks bytes : List ℕ) (count : ℕ) : Type 0 where
   pub rows : List R
-  pub are_rows : AreRowsAt board side ranks rows
+  pub are_rows : AreRowsAt (by_rank board) side ranks rows
   pub bytes_are : bytes ≡ flat_map line rows
   pub count_is : count ≡ length rows
 
@@ -38,7 +39,7 @@ pub record AreLinesBetween {R : Type 0} (board : PlainBoard) (side : Side R) (li
 pub record AreSectionLines {R : Type 0} (board : PlainBoard) (side : Side R) (line : R → List ℕ)
     (parts : List Lines) : Type 0 where
   pub rows : List R
-  pub are_rows : AreSection board side rows
+  pub are_rows : AreSection (by_rank board) side rows
   pub bytes_are : flat_map (λ part. part.bytes.items) parts ≡ flat_map line rows
   pub count_is : sum_by (λ part. part.rows) parts ≡ length rows
 

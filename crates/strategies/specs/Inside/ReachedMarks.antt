@@ -3,7 +3,6 @@ use Rattle.std.specs.Prelude.{◌≡◌, ℕ, ◌<◌, ◌↔◌, ◌⊎◌, Boo
 use Rattle.std.specs.Prelude.{slice_set}
 use Rattle.board_text.specs.PlainBoard.{PlainBoard}
 use Rattle.positions.specs.Gaps.{gaps}
-use Rattle.positions.specs.Ranks.{configurations}
 use Rattle.strategies.specs.Inside.Marks.{IsMarked}
 use Rattle.strategies.specs.Inside.ReachedRanks.{IsAnswerOf}
 
@@ -46,11 +45,6 @@ pub record AreReachedWith (before : ReachedMarks) (P : ℕ → Type 0) (after : 
   pub only : (rank : ℕ) → IsMarked after.left rank
       → IsMarked before.left rank
       ⊎ ((¬ IsMarked before.reached rank) × IsMarked after.reached rank)
-
--- exactly the ranks of which the fact holds are marked
-abbrev pub AreMarksOf : PlainBoard → (ℕ → Type 0) → List Bool → Type 0
-AreMarksOf board P marks =
-    (rank : ℕ) → IsMarked marks rank ↔ ((rank < configurations board) × P rank)
 
 -- the results of all answers of each expanded gap are among the marked ranks
 pub record AreExpanded (board : PlainBoard) (expanded marks : List Bool) : Type 0 where

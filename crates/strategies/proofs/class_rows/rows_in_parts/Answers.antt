@@ -2,7 +2,8 @@ use Rattle.std.proofs.Common.{◌<◌, ℕ, max, arith, sym, subst}
 use Rattle.std.specs.List.{All}
 use Rattle.proof_text.proofs.PartedLines.{parts_too}
 use Rattle.strategies.specs.Inside.NormalForm.{normal_by}
-use Rattle.strategies.specs.Inside.ClassSide.{MayStandAtClass}
+use Rattle.strategies.specs.Inside.Numbering.{by_order}
+use Rattle.strategies.specs.Inside.Side.{MayStandAt}
 use Rattle.strategies.proofs.RowsInParts.{rows_joined}
 use Rattle.strategies.proofs.class_rows.rows_in_parts.Goals as goal
 
@@ -11,7 +12,7 @@ some size = omega arith
 
 pub collect-requires-clause-ready : goal.collect-requires-clause-ready
 collect-requires-clause-ready g c = λ κs lives.
-    let stands = MayStandAtClass (g.M.Moves.board c.args.moves.now) (g.R.ClassSectionRow.side
+    let stands = MayStandAt (by_order (g.M.Moves.board c.args.moves.now)) (g.R.ClassSectionRow.side
     (g.M.Moves.board c.args.moves.now) (normal_by (g.M.Moves.board c.args.moves.now) c.args.normal.now) c.args.start) in
     rw (c.map.ensures.base, c.map.ensures.f, c.par_chunks.ensures.slice, c.par_chunks.ensures.size) (λ k d low x same. (
       subst (All stands) (sym same)

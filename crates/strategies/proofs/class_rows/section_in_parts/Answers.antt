@@ -3,8 +3,10 @@ use Rattle.std.specs.List.{flat_map}
 use Rattle.std.proofs.lemmas.List.{take_all}
 use Rattle.std.proofs.lemmas.Result.{err_from_is_err_and}
 use Rattle.strategies.specs.Inside.NormalForm.{normal_by}
-use Rattle.strategies.specs.Inside.ClassSide.{AreRowsAtClasses}
-use Rattle.strategies.proofs.RowsAtClasses.{may_stand, section_is}
+use Rattle.strategies.specs.Inside.Numbering.{by_order}
+use Rattle.strategies.specs.Inside.Side.{AreRowsAt}
+use Rattle.strategies.proofs.Numberings.{are_orders}
+use Rattle.strategies.proofs.RowsAt.{may_stand, section_in_order}
 use Rattle.strategies.proofs.class_rows.section_in_parts.Goals as goal
 
 pub rows_in_parts-requires-clause-numbers : goal.rows_in_parts-requires-clause-numbers
@@ -12,7 +14,7 @@ rows_in_parts-requires-clause-numbers g c = λ κs lives.
     let board = g.M.Moves.board c.args.moves.now in
     let side = g.R.ClassSectionRow.side board (normal_by board c.args.normal.now) c.args.start in
     rw c.deref.ensures.value
-    (may_stand board side _ _ (c.in_ok-reached.ensures.ok c.args.start) c.in_ok-numbers.ensures)
+    (may_stand board (by_order board) (are_orders board) side _ _ (c.in_ok-reached.ensures.ok c.args.start) c.in_ok-numbers.ensures)
 
 pub returns-clause-ok : goal.returns-clause-ok
 returns-clause-ok g c =
@@ -24,9 +26,9 @@ returns-clause-ok g c =
     take_all c.loop-part.part-index c.deref-part-items.result.now past ∙ c.deref-part-items.ensures.value in
     let rows : c.loop-part.rows.items ≡ flat_map (λ part. part.items) c.in_ok-rows_in_parts.field-0.items =
     c.loop-part.invariant ∙ ap (flat_map (λ part. part.items)) all in
-    section_is board side _ _ c.loop-part.rows.items (c.in_ok-reached.ensures.ok c.args.start)
+    section_in_order board (by_order board) (are_orders board) side _ _ c.loop-part.rows.items (c.in_ok-reached.ensures.ok c.args.start)
     c.in_ok-numbers.ensures
-    (subst (AreRowsAtClasses board side c.in_ok-numbers.numbers.items) (sym rows) made)
+    (subst (AreRowsAt (by_order board) side c.in_ok-numbers.numbers.items) (sym rows) made)
 
 pub returns-in_err-reached-clause-fault : goal.returns-in_err-reached-clause-fault
 returns-in_err-reached-clause-fault g c =

@@ -1,7 +1,8 @@
 use Rattle.std.proofs.Common.{arith}
 use Rattle.strategies.specs.Inside.NormalForm.{normal_by}
 use Rattle.strategies.proofs.AddedRanks.{added_more, added_start}
-use Rattle.strategies.specs.Inside.ReachedClasses.{class_numbered, IsClassAnswerStep}
+use Rattle.strategies.specs.Inside.Numbering.{class_numbered}
+use Rattle.strategies.specs.Inside.ReachedClasses.{IsClassAnswerStep}
 use Rattle.strategies.proofs.AddedClasses.{answers_added}
 use Rattle.strategies.proofs.class_steps.add_answers.Goals as goal
 

@@ -1,6 +1,7 @@
+use Rattle.strategies.specs.Inside.Numbering.{class_numbered}
+use Rattle.strategies.specs.Inside.ReachedClasses.{IsClassAnswerStep, AreAnsweredClasses}
 use Rattle.strategies.specs.Inside.ReachedRanks.{IsWithAll}
 use Rattle.strategies.specs.Inside.NormalForm.{normal_by}
-use Rattle.strategies.specs.Inside.ReachedClasses.{class_numbered, AreAnsweredClasses, IsClassAnswerStep}
 use Rattle.strategies.proofs.AddedRanks.{Below}
 use Rattle.strategies.proofs.class_steps.add_answers.Given as goal
 

@@ -2,7 +2,8 @@ use Rattle.std.proofs.Common.{◌≡◌}
 use Rattle.board_text.specs.PlainBoard.{IsConfiguration}
 use Rattle.strategies.specs.Best.{IsBestRequest}
 use Rattle.positions.specs.Game.{moved}
-use Rattle.strategies.specs.Inside.ReachedClasses.{class_numbered, number_of_class_at}
+use Rattle.strategies.specs.Inside.Numbering.{class_numbered}
+use Rattle.strategies.specs.Inside.ReachedClasses.{number_of_class_at}
 use Rattle.strategies.proofs.AddedClasses.{no_request_added}
 use Rattle.strategies.proofs.ExpandedClasses.{expanded_more, results_added, results_known, results_of_gaps}
 use Rattle.strategies.proofs.class_steps.add_results.Given.{Over}

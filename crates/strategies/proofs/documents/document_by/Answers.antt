@@ -1,4 +1,4 @@
-use Rattle.strategies.proofs.SpreadRanks.{start_value}
+use Rattle.strategies.proofs.StartRanks.{start_value}
 use Rattle.strategies.proofs.documents.document_by.Goals as goal
 
 pub document_of-requires-clause-value : goal.document_of-requires-clause-value

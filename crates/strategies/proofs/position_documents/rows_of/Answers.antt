@@ -1,4 +1,4 @@
-use Rattle.strategies.specs.Inside.ClassSide.{class_adversary_side, class_labeller_side}
+use Rattle.strategies.specs.Inside.ClassSide.{class_labeller_side, class_adversary_side}
 use Rattle.strategies.specs.Inside.NormalForm.{normal_by}
 use Rattle.strategies.proofs.AskedClassRows.{filled_if, made_is}
 use Rattle.strategies.proofs.position_documents.rows_of.Goals as goal

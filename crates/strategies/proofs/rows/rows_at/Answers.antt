@@ -4,10 +4,12 @@ use Rattle.std.proofs.lemmas.List.{append-nil}
 use Rattle.positions.specs.Ranks.{configurations}
 use Rattle.strategies.specs.Inside.Marks.{IsMarked}
 use Rattle.strategies.specs.Inside.MovesAt.{HeldPosition}
+use Rattle.strategies.specs.Inside.Numbering.{by_rank}
 use Rattle.strategies.specs.Inside.Side.{AreRowsAt}
 use Rattle.strategies.proofs.ListedNumbers.{all_listed, next_listed, none_listed}
 use Rattle.strategies.proofs.MarkedRanks.{marked_inside}
-use Rattle.strategies.proofs.RowsAtRanks.{rows_push, section_is}
+use Rattle.strategies.proofs.Numberings.{are_ranks, ranks_end}
+use Rattle.strategies.proofs.RowsAt.{rows_push, section_of_marks}
 use Rattle.strategies.proofs.rows.rows_at.Goals as goal
 use Rattle.strategies.proofs.rows.rows_at.Goals.{in-Some-at+in_ok-push, in_default-at}
 
@@ -52,7 +54,7 @@ loop-rank-preserved g c =
             here = here;
             ranks = ranks;
             listed = listed;
-            rows = rw (w.rows-is, items) (rows_push board side was.ranks c.in-Some.rank c.loop-rank.rows.items
+            rows = rw (w.rows-is, items) (rows_push board (by_rank board) (are_ranks board) side was.ranks c.in-Some.rank c.loop-rank.rows.items
                 (Some w.in-Some-at.row) was.rows (rw here at w.in-Some-at.ensures));
           }
       | in_default-at w ↦
@@ -60,8 +62,8 @@ loop-rank-preserved g c =
             here = here;
             ranks = ranks;
             listed = listed;
-            rows = rw w.rows-is (subst (AreRowsAt board side ranks) (append-nil c.loop-rank.rows.items)
-                (rows_push board side was.ranks c.in-Some.rank c.loop-rank.rows.items None was.rows
+            rows = rw w.rows-is (subst (AreRowsAt (by_rank board) side ranks) (append-nil c.loop-rank.rows.items)
+                (rows_push board (by_rank board) (are_ranks board) side was.ranks c.in-Some.rank c.loop-rank.rows.items None was.rows
                 (rw here at w.in_default-at.ensures)));
           }
     ]
@@ -72,6 +74,7 @@ returns g c =
     let side = g.R.SectionRow.side board c.args.start in
     let was = c.loop-rank.invariant in
     let end : ℕ = c.loop-rank.from + configurations board in
-    section_is board side c.args.marks.now end was.ranks c.loop-rank.rows.items c.requires (omega arith)
+    section_of_marks board (by_rank board) (are_ranks board) side c.args.marks.now end was.ranks c.loop-rank.rows.items c.requires
+    (ranks_end board end (omega arith))
     (all_listed (IsMarked c.args.marks.now) 0 c.loop-rank.from end was.ranks (omega arith) was.listed
     (λ number above below is. c.in_default.ensures.first number (above, is))) was.rows

@@ -1,5 +1,5 @@
 use Rattle.std.proofs.lemmas.Result.{IfOk-weaker}
-use Rattle.strategies.proofs.SpreadRanks.{start_value}
+use Rattle.strategies.proofs.StartRanks.{start_value}
 use Rattle.strategies.proofs.text.document_text_in_parts.Goals as goal
 
 pub text_of-requires-clause-value : goal.text_of-requires-clause-value

@@ -1,6 +1,6 @@
 use Rattle.std.proofs.Common.{◌≡◌, take}
-use Rattle.strategies.specs.Inside.ReachedClasses.{class_numbered}
-use Rattle.strategies.proofs.MadeClassRows.{adversary_row_is, no_request}
+use Rattle.strategies.specs.Inside.Numbering.{class_numbered}
+use Rattle.strategies.proofs.MadeClassRows.{adversary_row_is, no_request_there}
 use Rattle.strategies.proofs.class_sections.AdversaryClassRowClassSectionRow.at.Given.{Over}
 use Rattle.strategies.proofs.class_sections.AdversaryClassRowClassSectionRow.at.Goals as goal
 use Rattle.strategies.proofs.class_sections.AdversaryClassRowClassSectionRow.at.Goals.{After-pebbles}
@@ -18,7 +18,7 @@ size g c = rw c.board-board.ensures at c.pebbles.ensures.value
 pub returns-in_default : goal.returns-in_default
 returns-in_default g c =
     let at = (goal.at.returns-in_default g c).After-pebbles in
-    no_request (g.M.Moves.board c.args.moves.now) _ c.args.number c.pebbles.result c.places_at-at.result
+    no_request_there (g.M.Moves.board c.args.moves.now) _ c.args.number c.pebbles.result c.places_at-at.result
     (size g at) (here g at)
     (rw c.in_default.is at c.request-value.ensures.value)
 
@@ -26,7 +26,7 @@ pub returns-in_err-pebble : goal.returns-in_err-pebble
 returns-in_err-pebble g c =
     let at = (goal.at.returns-in_err-pebble g c).After-pebbles in
     rw c.from_residual.ensures
-    (no_request (g.M.Moves.board c.args.moves.now) _ c.args.number c.pebbles.result c.places_at-at.result
+    (no_request_there (g.M.Moves.board c.args.moves.now) _ c.args.number c.pebbles.result c.places_at-at.result
     (size g at) (here g at)
     (c.request-value.ensures.request.none.0 c.in_err-pebble.was))
 

@@ -5,8 +5,10 @@ use Rattle.strategies.proofs.AddedRanks.{added_one}
 use Rattle.strategies.specs.Inside.NormalForm.{normal_by}
 use Rattle.strategies.specs.Inside.ReachedClasses.{normal_number}
 use Rattle.strategies.proofs.ExpandedClasses.{none_expanded}
-use Rattle.strategies.proofs.OneClassList.{adversarys}
-use Rattle.strategies.proofs.SpreadClasses.{spread_begins, spread_more, spread_ends, spread_found, request_moves}
+use Rattle.strategies.proofs.GatheredRows.{adversarys}
+use Rattle.strategies.proofs.SpreadMoves.{spread_begins, spread_more, spread_ends, spread_found, request_moves}
+use Rattle.strategies.proofs.Numberings.{are_orders}
+use Rattle.strategies.proofs.PositionLaws.{are_normal}
 use Rattle.strategies.proofs.WorkedOff.{place_below, fewer_left, last_few}
 use Rattle.strategies.proofs.class_sections.AdversaryClassRowClassSectionRow.reached.Given.{Over}
 use Rattle.strategies.proofs.class_sections.AdversaryClassRowClassSectionRow.reached.Goals as goal
@@ -23,14 +25,14 @@ loop-number-init g c =
     let number_is : c.order.result ≡ normal_number b normal b.start =
     rw (c.start.ensures.value, c.board-board.ensures) at c.order.ensures in
     record {
-      spread = spread_begins b normal c.requires.form _ _ _ (is_start g (goal.at.loop-number-init g c).After-start) _
+      spread = spread_begins b _ (are_normal b normal c.requires.form) _ (are_orders b) _ _ _ (is_start g (goal.at.loop-number-init g c).After-start) _
           (added_one _ _ _ _ (rw (c.new-reached.ensures, number_is) at c.in_ok-add.ensures) (tt, refl)
           (λ number starts. starts.1));
       expanded = rw c.new-expanded.ensures (none_expanded b _ _);
     }
 
 pub add_results-requires-clause-number : goal.add_results-requires-clause-number
-add_results-requires-clause-number g c = spread_found _ _ _ _ _ _ _ _ c.loop-number.invariant.spread
+add_results-requires-clause-number g c = spread_found _ _ _ _ _ _ _ _ _ c.loop-number.invariant.spread
     (sym c.in-Some.ensures.number)
 
 pub overflow_add-index : goal.overflow_add-index
@@ -54,10 +56,10 @@ loop-number-smaller g c =
 pub loop-number-preserved : goal.loop-number-preserved
 loop-number-preserved g c =
     record {
-      spread = spread_more (g.M.Moves.board c.args.moves.now) (normal_by (g.M.Moves.board c.args.moves.now)
-          c.args.normal.now)
-          c.requires.form _ _ _ (is_start g (goal.at.loop-number-preserved g c).After-start)
-          (request_moves (g.M.Moves.board c.args.moves.now) _) c.loop-number.index c.in-Some.number _ _
+      spread = spread_more (g.M.Moves.board c.args.moves.now) _
+          (are_normal (g.M.Moves.board c.args.moves.now) _ c.requires.form) _
+          (are_orders (g.M.Moves.board c.args.moves.now)) _ _ _ (is_start g (goal.at.loop-number-preserved g c).After-start)
+          (request_moves (g.M.Moves.board c.args.moves.now) _ _) c.loop-number.index c.in-Some.number _ _
           c.loop-number.invariant.spread (sym c.in-Some.ensures.number) c.in_ok-add_results.ensures.added;
       expanded = c.in_ok-add_results.ensures.expanded;
     }
@@ -68,9 +70,9 @@ returns-clause-ok g c = λ start.
     let b = g.M.Moves.board c.args.moves.now in
     let normal = normal_by b c.args.normal.now in
     record {
-      each = spread_ends b normal c.requires.form _ _ _ is (request_moves b normal) c.loop-number.index _
+      each = spread_ends b _ (are_normal b normal c.requires.form) _ (are_orders b) _ _ _ is (request_moves b _ _) c.loop-number.index _
           c.loop-number.invariant.spread (sym c.in_default.ensures.number);
-      rows = adversarys b normal c.requires.form start is;
+      rows = adversarys b _ (are_normal b normal c.requires.form) _ is _ _;
     }
 
 pub returns-then-len-most-clause-fault : goal.returns-then-len-most-clause-fault

@@ -2,7 +2,7 @@ use Rattle.std.proofs.Common.{◌-◌}
 use Rattle.strategies.specs.Inside.NormalForm.{normal_by}
 use Rattle.strategies.specs.Inside.ReachedClasses.{AreExpandedClasses}
 use Rattle.strategies.proofs.ClassNumbers.{last_number}
-use Rattle.strategies.proofs.SpreadClasses.{IsSpreadByRequests}
+use Rattle.strategies.proofs.SpreadMoves.{IsSpreadByRequests}
 use Rattle.strategies.proofs.class_sections.AdversaryClassRowClassSectionRow.reached.Given as goal
 
 abbrev pub invariant-loop-number : goal.invariant-loop-number

@@ -3,8 +3,8 @@ use Rattle.board_text.specs.declared.board.TheConstants.{MAX_PEBBLES}
 use Rattle.strategies.specs.Best.{IsBestAnswer}
 use Rattle.strategies.proofs.MadeRows.{taken_more}
 use Rattle.strategies.specs.Inside.NormalForm.{normal_by}
-use Rattle.strategies.specs.Inside.ReachedClasses.{class_numbered}
-use Rattle.strategies.proofs.MadeClassRows.{held_is, has_answer, labeller_row_is}
+use Rattle.strategies.specs.Inside.Numbering.{class_numbered}
+use Rattle.strategies.proofs.MadeClassRows.{held_is, has_answer_there, labeller_row_there}
 use Rattle.strategies.proofs.class_sections.LabellerClassRowClassSectionRow.at.Given.{Over}
 use Rattle.strategies.proofs.class_sections.LabellerClassRowClassSectionRow.at.Goals as goal
 use Rattle.strategies.proofs.class_sections.LabellerClassRowClassSectionRow.at.Goals.{After-pebbles, in-Some}
@@ -37,7 +37,7 @@ loop-pebble-preserved g c =
           (subst (λ (l : List ℕ). IsBestAnswer b l pebble w.in-Some.best.label)
           (held_is b (normal_by b c.args._normal.now) c.args.number c.pebbles.result c.places_at-at.result (size g at)
           (here g at)) (rw w.in-Some.is at best).0))
-      | in_default w ↦ absurd (has_answer b (normal_by b c.args._normal.now) c.args.number c.pebbles.result
+      | in_default w ↦ absurd (has_answer_there b (normal_by b c.args._normal.now) c.args.number c.pebbles.result
           c.places_at-at.result (size g at) (here g at)
           c.requires.1 pebble is_pebble (rw w.in_default.is at best))
     ]
@@ -49,7 +49,7 @@ returns g c =
     let end = rw c.board-board.ensures at c.pebbles-pebble-end.ensures.value in
     let past : b.pebbles ≤ c.loop-pebble.pebble = omega (arith, end, c.loop-pebble-test.false) in
     rw c.turns-turns.ensures (
-      labeller_row_is b _ c.args.number c.pebbles.result c.places_at-at.result (size g at) (here g at) c.args.start
+      labeller_row_there b _ c.args.number c.pebbles.result c.places_at-at.result (size g at) (here g at) c.args.start
           c.answers-value.result.0 c.loop-pebble.pebble c.loop-pebble.take
           (rw c.board-board.ensures at c.pebbles.ensures.is_board)
           past c.requires.1 c.answers-value.ensures.value c.loop-pebble.invariant,

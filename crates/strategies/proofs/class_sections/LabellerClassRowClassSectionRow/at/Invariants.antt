@@ -1,5 +1,5 @@
 use Rattle.strategies.proofs.MadeRows.{AreTaken}
-use Rattle.strategies.specs.Inside.ReachedClasses.{class_numbered}
+use Rattle.strategies.specs.Inside.Numbering.{class_numbered}
 use Rattle.strategies.proofs.class_sections.LabellerClassRowClassSectionRow.at.Given as goal
 
 abbrev pub invariant-loop-pebble : goal.invariant-loop-pebble

@@ -7,8 +7,10 @@ use Rattle.strategies.proofs.ValueOrder.{worthless}
 use Rattle.strategies.specs.Inside.NormalForm.{normal_by}
 use Rattle.strategies.specs.Inside.ReachedClasses.{normal_number}
 use Rattle.strategies.proofs.ExpandedClasses.{none_expanded}
-use Rattle.strategies.proofs.OneClassList.{labellers}
-use Rattle.strategies.proofs.SpreadClasses.{spread_begins, spread_more, spread_ends, spread_found, answer_moves}
+use Rattle.strategies.proofs.GatheredRows.{labellers}
+use Rattle.strategies.proofs.SpreadMoves.{spread_begins, spread_more, spread_ends, spread_found, answer_moves}
+use Rattle.strategies.proofs.Numberings.{are_orders}
+use Rattle.strategies.proofs.PositionLaws.{are_normal}
 use Rattle.strategies.proofs.WorkedOff.{place_below, fewer_left, last_few}
 use Rattle.strategies.proofs.class_sections.LabellerClassRowClassSectionRow.reached.Given.{Over}
 use Rattle.strategies.proofs.class_sections.LabellerClassRowClassSectionRow.reached.Goals as goal
@@ -33,19 +35,19 @@ loop-number-init g c =
         | then-lt+in_ok-add w ↦
             let number_is : w.order.result ≡ normal_number b normal b.start =
             rw (w.start-then-lt.ensures.value, c.board-board.ensures) at w.order.ensures in
-            rw w.reached-is (spread_begins b normal c.requires.form _ _ _ is _
+            rw w.reached-is (spread_begins b _ (are_normal b normal c.requires.form) _ (are_orders b) _ _ _ is _
             (added_one _ _ _ _ (rw (c.new-reached.ensures, number_is) at w.in_ok-add.ensures)
             (record { value = c.value.result; has_value = has_normal; some = search rules }, refl)
             (λ number starts. starts.1)))
         | else-lt w ↦ rw (w.reached-is, c.new-reached.ensures)
-            (spread_begins b normal c.requires.form _ _ _ is [] (added_known [] _ (λ number starts. absurd
+            (spread_begins b _ (are_normal b normal c.requires.form) _ (are_orders b) _ _ _ is [] (added_known [] _ (λ number starts. absurd
             (worthless b _ c.value.result has_normal (search rules) starts.0))))
       ];
       expanded = rw c.new-expanded.ensures (none_expanded b _ _);
     }
 
 pub add_answers-requires-clause-number : goal.add_answers-requires-clause-number
-add_answers-requires-clause-number g c = spread_found _ _ _ _ _ _ _ _ c.loop-number.invariant.spread
+add_answers-requires-clause-number g c = spread_found _ _ _ _ _ _ _ _ _ c.loop-number.invariant.spread
     (sym c.in-Some.ensures.number)
 
 pub overflow_add-index : goal.overflow_add-index
@@ -69,10 +71,10 @@ loop-number-smaller g c =
 pub loop-number-preserved : goal.loop-number-preserved
 loop-number-preserved g c =
     record {
-      spread = spread_more (g.M.Moves.board c.args.moves.now) (normal_by (g.M.Moves.board c.args.moves.now)
-          c.args.normal.now)
-          c.requires.form _ _ _ (is_start g (goal.at.loop-number-preserved g c).After-start)
-          (answer_moves (g.M.Moves.board c.args.moves.now) _) c.loop-number.index c.in-Some.number _ _
+      spread = spread_more (g.M.Moves.board c.args.moves.now) _
+          (are_normal (g.M.Moves.board c.args.moves.now) _ c.requires.form) _
+          (are_orders (g.M.Moves.board c.args.moves.now)) _ _ _ (is_start g (goal.at.loop-number-preserved g c).After-start)
+          (answer_moves (g.M.Moves.board c.args.moves.now) _ _) c.loop-number.index c.in-Some.number _ _
           c.loop-number.invariant.spread (sym c.in-Some.ensures.number) c.in_ok-add_answers.ensures.added;
       expanded = c.in_ok-add_answers.ensures.expanded;
     }
@@ -83,9 +85,9 @@ returns-clause-ok g c = λ start.
     let b = g.M.Moves.board c.args.moves.now in
     let normal = normal_by b c.args.normal.now in
     record {
-      each = spread_ends b normal c.requires.form _ _ _ is (answer_moves b normal) c.loop-number.index _
+      each = spread_ends b _ (are_normal b normal c.requires.form) _ (are_orders b) _ _ _ is (answer_moves b _ _) c.loop-number.index _
           c.loop-number.invariant.spread (sym c.in_default.ensures.number);
-      rows = labellers b normal c.requires.form start is;
+      rows = labellers b _ (are_normal b normal c.requires.form) _ is _ _ start;
     }
 
 pub returns-then-len-most-clause-fault : goal.returns-then-len-most-clause-fault

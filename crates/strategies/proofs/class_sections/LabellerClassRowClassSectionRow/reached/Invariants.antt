@@ -2,7 +2,7 @@ use Rattle.std.proofs.Common.{◌-◌}
 use Rattle.strategies.specs.Inside.NormalForm.{normal_by}
 use Rattle.strategies.specs.Inside.ReachedClasses.{AreAnsweredClasses}
 use Rattle.strategies.proofs.ClassNumbers.{last_number}
-use Rattle.strategies.proofs.SpreadClasses.{IsSpreadByAnswers}
+use Rattle.strategies.proofs.SpreadMoves.{IsSpreadByAnswers}
 use Rattle.strategies.proofs.class_sections.LabellerClassRowClassSectionRow.reached.Given as goal
 
 abbrev pub invariant-loop-number : goal.invariant-loop-number

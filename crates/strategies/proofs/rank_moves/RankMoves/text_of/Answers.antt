@@ -6,9 +6,10 @@ use Rattle.positions.specs.Claim.{claim_of}
 use Rattle.proof_text.specs.Proof.{asks_adversary, asks_labeller}
 use Rattle.proof_text.specs.ProofText.{first_two_lines, proof_version_line}
 use Rattle.strategies.specs.Inside.Lines.{adversary_line, labeller_line}
-use Rattle.strategies.specs.Inside.Side.{adversary_side, labeller_side}
+use Rattle.strategies.specs.Inside.Side.{labeller_side, adversary_side}
 use Rattle.strategies.specs.Sides.{claim_for}
 use Rattle.strategies.proofs.GatheredRows.{adversarys, labellers}
+use Rattle.strategies.proofs.PositionLaws.{are_plain}
 use Rattle.strategies.proofs.WrittenLines.{few_if, lines_if, lines_then, no_lines_then, parts_written, whole_text}
 use Rattle.strategies.proofs.rank_moves.RankMoves.text_of.Goals as goal
 use Rattle.strategies.proofs.rank_moves.RankMoves.text_of.Goals.{then-asks_labeller+in_ok-add_section}
@@ -22,7 +23,7 @@ add_section-requires c =
     let asked : asks_labeller (claim_for c.args.side (claim_of c.args.value)) ≡ true =
     ap asks_labeller (sym c.claim_for-claim.ensures) ∙ sym c.asks_labeller.ensures ∙ c.if-asks_labeller.true in
     let few = few_if board (labeller_side board c.args.value) (labeller_line board) _ c.args.labeller.items asked
-    c.requires.few (labellers board c.args.value c.requires.start) c.requires.labeller in
+    c.requires.few (labellers board _ (are_plain board) _ c.requires.start _ _ c.args.value) c.requires.labeller in
     record { few = omega (arith, few) }
 
 pub add_section-requires-then-asks_adversary : goal.add_section-requires-then-asks_adversary
@@ -31,7 +32,7 @@ add_section-requires-then-asks_adversary c =
     let asked : asks_adversary (claim_for c.args.side (claim_of c.args.value)) ≡ true =
     ap asks_adversary (sym c.claim_for-claim.ensures) ∙ sym c.asks_adversary.ensures ∙ c.if-asks_adversary.true in
     let few = few_if board (adversary_side board c.args.value) (adversary_line board) _ c.args.adversary.items asked
-    c.requires.few (adversarys board c.args.value c.requires.start) c.requires.adversary in
+    c.requires.few (adversarys board _ (are_plain board) _ c.requires.start _ _) c.requires.adversary in
     record { few = omega (arith, few) }
 
 pub returns-clause-text : goal.returns-clause-text

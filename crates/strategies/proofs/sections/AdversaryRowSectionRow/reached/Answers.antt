@@ -6,7 +6,8 @@ use Rattle.strategies.specs.Inside.ReachedMarks.{none_reached}
 use Rattle.strategies.proofs.AddedSteps.{none_expanded}
 use Rattle.strategies.proofs.GatheredRows.{adversarys}
 use Rattle.strategies.proofs.MarkedRanks.{reached_one}
-use Rattle.strategies.proofs.SpreadRanks.{request_moves}
+use Rattle.strategies.proofs.PositionLaws.{are_plain}
+use Rattle.strategies.proofs.SpreadMoves.{request_moves}
 use Rattle.strategies.proofs.Sweeps.{left_below, sweep_begins, sweep_ends, sweep_more, sweep_smaller}
 use Rattle.strategies.proofs.sections.AdversaryRowSectionRow.reached.Goals as goal
 
@@ -44,7 +45,7 @@ loop-rank-preserved c =
     record {
       here = ap (λ (p : HeldPosition). p.board) c.move_to.ensures ∙ c.loop-rank.invariant.here;
       expanded = c.add_results.ensures.expanded;
-      swept = sweep_more b _ _ _ c.start-start.ensures.is_board.start (request_moves b) c.loop-rank.reached
+      swept = sweep_more b _ _ _ c.start-start.ensures.is_board.start (request_moves b _ _) c.loop-rank.reached
           c.add_results.new.reached c.in-Some.rank c.loop-rank.invariant.swept taken.0
           (rw taken.1 at c.add_results.ensures.added);
     }
@@ -56,6 +57,6 @@ returns c = λ start.
     let taken = c.in_default.ensures.taken in
     record {
       each = rw (c.into_marks.ensures, taken.1)
-          (sweep_ends b _ _ _ is (request_moves b) c.loop-rank.reached c.loop-rank.invariant.swept taken.0);
-      rows = adversarys b start is;
+          (sweep_ends b _ _ _ is (request_moves b _ _) c.loop-rank.reached c.loop-rank.invariant.swept taken.0);
+      rows = adversarys b _ (are_plain b) _ is _ _;
     }

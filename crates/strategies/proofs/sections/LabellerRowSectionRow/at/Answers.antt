@@ -15,7 +15,7 @@ loop-pebble-preserved c =
           rw w.take-is
           (taken_more b _ c.loop-pebble.pebble w.in-Some.best.label c.loop-pebble.take low c.loop-pebble.invariant
           (rw c.requires.here at w.in-Some.ensures.0))
-      | in_default w ↦ absurd (has_answer b c.args.rank c.loop-pebble.pebble c.requires.may_stand.1 is_pebble
+      | in_default w ↦ absurd (has_answer b _ _ c.args.rank c.requires.may_stand.1 c.loop-pebble.pebble is_pebble
           (rw c.requires.here at w.in_default.ensures))
     ]
 
@@ -25,9 +25,8 @@ returns c =
     let pebbles = c.pebbles-pebble-end.ensures in
     let end : b.pebbles ≤ c.loop-pebble.pebble = omega (arith, pebbles.value, c.loop-pebble-test.false) in
     rw c.turns.ensures (
-      labeller_row_is b c.args.start c.value.result c.args.rank c.loop-pebble.pebble c.loop-pebble.take
-          pebbles.is_board end
-          c.requires.may_stand.1 (rw c.requires.here at c.value.ensures) c.loop-pebble.invariant,
+      labeller_row_is b _ _ c.args.rank c.requires.may_stand.1 c.args.start c.value.result c.loop-pebble.pebble
+          c.loop-pebble.take pebbles.is_board end (rw c.requires.here at c.value.ensures) c.loop-pebble.invariant,
       refl,
       λ pebble above. c.loop-pebble.invariant.rest pebble (omega (arith, pebbles.value)),
     )

@@ -5,7 +5,9 @@ use Rattle.strategies.specs.Inside.MovesAt.{HeldPosition}
 use Rattle.strategies.specs.Inside.ReachedMarks.{none_reached}
 use Rattle.strategies.proofs.GatheredRows.{labellers}
 use Rattle.strategies.proofs.MarkedRanks.{reached_known, reached_one}
-use Rattle.strategies.proofs.SpreadRanks.{answer_moves, start_answerable, start_value}
+use Rattle.strategies.proofs.PositionLaws.{are_plain}
+use Rattle.strategies.proofs.SpreadMoves.{answer_moves}
+use Rattle.strategies.proofs.StartRanks.{start_answerable, start_value}
 use Rattle.strategies.proofs.Sweeps.{left_below, sweep_begins, sweep_ends, sweep_more, sweep_smaller}
 use Rattle.strategies.proofs.ValueOrder.{worthless}
 use Rattle.strategies.proofs.sections.LabellerRowSectionRow.reached.Goals as goal
@@ -56,7 +58,7 @@ loop-rank-preserved c =
     let taken = c.in-Some.ensures.taken in
     record {
       here = ap (λ (p : HeldPosition). p.board) c.move_to.ensures ∙ c.loop-rank.invariant.here;
-      swept = sweep_more b _ _ _ c.start-start.ensures.is_board.start (answer_moves b) c.loop-rank.reached
+      swept = sweep_more b _ _ _ c.start-start.ensures.is_board.start (answer_moves b _ _) c.loop-rank.reached
           c.add_answers.new.reached c.in-Some.rank c.loop-rank.invariant.swept taken.0
           (rw taken.1 at c.add_answers.ensures);
     }
@@ -68,6 +70,6 @@ returns c = λ start.
     let taken = c.in_default.ensures.taken in
     record {
       each = rw (c.into_marks.ensures, taken.1)
-          (sweep_ends b _ _ _ is (answer_moves b) c.loop-rank.reached c.loop-rank.invariant.swept taken.0);
-      rows = labellers b start is;
+          (sweep_ends b _ _ _ is (answer_moves b _ _) c.loop-rank.reached c.loop-rank.invariant.swept taken.0);
+      rows = labellers b _ (are_plain b) _ is _ _ start;
     }

@@ -1,0 +1,43 @@
+-- Laws of the numbers of places.
+use Rattle.std.proofs.Common.{◌≡◌, ℕ, ◌<◌, ◌≤◌, List, arith}
+use Rattle.board_text.specs.PlainBoard.{PlainBoard, IsConfiguration}
+use Rattle.positions.specs.Ranks.{configurations}
+use Rattle.positions.proofs.Cited.{configuration_at_is, configuration_at-rank_of, rank_below, rank_of-configuration_at}
+use Rattle.strategies.specs.Inside.Numbering.{Numbering, by_rank, by_order}
+use Rattle.strategies.proofs.ClassNumbers.{class_numbered-order, last_number, number-ends, number-of}
+
+-- each configuration has a number, which has its places again, and all numbers are below one
+pub record IsNumbering (board : PlainBoard) (numbering : Numbering) : Type 0 where
+  pub is : (number : ℕ) → numbering.IsNumber number → IsConfiguration board (numbering.places number)
+  pub again : (number : ℕ) → numbering.IsNumber number → numbering.number (numbering.places number) ≡ number
+  pub number_is : (places : List ℕ) → IsConfiguration board places → numbering.IsNumber (numbering.number places)
+  pub places_are : (places : List ℕ) → IsConfiguration board places → numbering.places (numbering.number places)
+      ≡ places
+  pub end : ℕ
+  pub below : (number : ℕ) → numbering.IsNumber number → number < end
+
+pub are_ranks : (board : PlainBoard) → IsNumbering board (by_rank board)
+are_ranks board = record {
+  is = configuration_at_is board;
+  again = rank_of-configuration_at board;
+  number_is = rank_below board;
+  places_are = configuration_at-rank_of board;
+  end = configurations board;
+  below = λ rank is. is;
+}
+
+-- an end past all configurations is past all ranks
+pub ranks_end : (board : PlainBoard) (end : ℕ) → configurations board ≤ end → (rank : ℕ)
+    → (by_rank board).IsNumber rank → rank < end
+ranks_end board end enough rank is =
+    let below : rank < configurations board = is in omega (arith, below, enough)
+
+pub are_orders : (board : PlainBoard) → IsNumbering board (by_order board)
+are_orders board = record {
+  is = λ number is. is.is;
+  again = λ number is. is.number_is;
+  number_is = number-of board;
+  places_are = class_numbered-order board;
+  end = last_number board;
+  below = number-ends board;
+}
