@@ -17,7 +17,8 @@ use Rattle.proof_text.specs.declared.proof.AdversaryRow.{AdversaryRow}
 use Rattle.proof_text.specs.Documents.{IsProof, IsClassProof}
 use Rattle.proof_text.specs.Proof.{PlainProof, IsAnswerRow, IsRequestRow, IsBefore, AreTurns, answer_row}
 use Rattle.proof_text.specs.Proof.{request_row, answer_rows, request_rows}
-use Rattle.proof_text.specs.RowForm.{RowForm, AreRows}
+use Rattle.proof_text.specs.Arranged.{order_number}
+use Rattle.proof_text.specs.RowForm.{AreRows}
 use Rattle.proof_text.specs.Versions.{answers_by_configurations, requests_by_configurations}
 use Rattle.positions.specs.declared.space.TheConstants.{MAX_CONFIGURATIONS}
 use Rattle.proof_text.proofs.Cited.{rank_small}
@@ -31,24 +32,21 @@ use Rattle.proof_check.proofs.PlainTables.{shows_plainly}
 use Rattle.proof_check.proofs.AdversaryTables as stopping
 
 -- rows of which each has a number above that of the row before it are apart
-apart : {X : Type 0} {form : RowForm X} {rows : List X} → form.strict ≡ true → AreRows form rows
-    → AreApart form.at rows
-apart {X} {form} {rows} strict are i j d less below same =
-    let number : X → ℕ = λ row. form.number (form.at row) in
-    let lower : number (get_or rows i d) < number (get_or rows j d) =
-    subst (λ (b : Bool). cond b (suc (number (get_or rows i d))) (number (get_or rows i d)) ≤ number (get_or rows j d))
-    strict (are.ascending i j d less below) in
-    omega (arith, lower, ap form.number same)
+apart : {X : Type 0} (number : List ℕ → ℕ) (at : X → List ℕ) (rows : List X)
+    → AllPairs (λ first second. number (at first) < number (at second)) rows → AreApart at rows
+apart number at rows ascending i j d less below same =
+    let lower : number (at (get_or rows i d)) < number (at (get_or rows j d)) = ascending i j d less below in
+    omega (arith, lower, ap number same)
 
 turns_always : (turns : Turns) → AreTurns Forever turns → turns ≡ Always
 turns_always Always are = refl
 turns_always (Count n) are = absurd are
 
--- rows that ascend, each as the format has it
+-- rows that are apart, which list configurations always if the claim is forever
 record AreShown (board : PlainBoard) (proof : PlainProof) : Type 0 where
   labeller : AreApart (λ (r : AnswerRow). r.at) proof.labeller
   adversary : AreApart (λ (r : RequestRow). r.at) proof.adversary
-  turns : All (IsAnswerRow board proof.claim) proof.labeller
+  turns : proof.claim ≡ Forever → All (λ (r : AnswerRow). r.turns ≡ Always) proof.labeller
   places : All (λ (r : RequestRow). IsConfiguration board r.at) proof.adversary
 
 shows_over : (positions : Positions) (board : PlainBoard) (proof : PlainProof) → AreShown board proof
@@ -67,7 +65,7 @@ shows_over positions board proof are rules = by proof.claim are.turns rules.star
         stopping.stops_below positions board proof.adversary are.adversary are.places rules.adversary
         (positions.normal board.start) number listed
 
-    by : (claim : Claim) → All (IsAnswerRow board claim) proof.labeller
+    by : (claim : Claim) → (claim ≡ Forever → All (λ (r : AnswerRow). r.turns ≡ Always) proof.labeller)
         → Serves proof.labeller (positions.normal board.start) (wanted_of claim)
         → StartIsBelow proof.adversary (positions.normal board.start) claim
         → ShowsOver positions board proof.labeller proof.adversary claim
@@ -79,33 +77,49 @@ shows_over positions board proof are rules = by proof.claim are.turns rules.star
         let own = answering.listed_by_row positions board proof.labeller are.labeller rules.labeller listed.row
         listed.among in (
           answering.closed_by_rows positions board proof.labeller are.labeller rules.labeller
-              (λ k d lt. turns_always (get_or proof.labeller k d).turns (each k d lt).turns),
+              (each refl),
           subst (IsListed proof.labeller) listed.at own,
         )
+
+-- rows as the format has them list configurations always if the claim is forever
+always : (board : PlainBoard) (claim : Claim) (rows : List AnswerRow) → All (IsAnswerRow board claim) rows
+    → claim ≡ Forever → All (λ (r : AnswerRow). r.turns ≡ Always) rows
+always board claim rows each same k d lt =
+    turns_always (get_or rows k d).turns (subst (λ c. AreTurns c (get_or rows k d).turns) same (each k d lt).turns)
 
 -- the rows of a document with arranged places show its claim, whatever they stand for
 pub shows_normally : (normal : List ℕ → List ℕ) (board : PlainBoard) (proof : PlainProof) → IsClassProof board proof
     → BreaksNoRule (normal_positions normal) board proof
     → ShowsOver (normal_positions normal) board proof.labeller proof.adversary proof.claim
 shows_normally normal board proof is rules = shows_over (normal_positions normal) board proof (record {
-  labeller = apart refl is.labeller;
-  adversary = apart refl is.adversary;
-  turns = is.labeller.each;
+  labeller = apart (order_number board.labels) (λ r. r.at) proof.labeller is.labeller.ascending;
+  adversary = apart (order_number board.labels) (λ r. r.at) proof.adversary is.adversary.ascending;
+  turns = always board proof.claim proof.labeller is.labeller.each;
   places = λ k d lt. (is.adversary.each k d lt).at;
 }) rules
+
+-- the rows of a document by configurations that ascend by any numbers show its claim
+pub shows_ascending : (number : List ℕ → ℕ) (board : PlainBoard) (proof : PlainProof)
+    → AllPairs (λ (first second : AnswerRow). number first.at < number second.at) proof.labeller
+    → AllPairs (λ (first second : RequestRow). number first.at < number second.at) proof.adversary
+    → (proof.claim ≡ Forever → All (λ (r : AnswerRow). r.turns ≡ Always) proof.labeller)
+    → All (λ (r : RequestRow). IsConfiguration board r.at) proof.adversary
+    → BreaksNoRule configuration_positions board proof → Shows board proof.labeller proof.adversary proof.claim
+shows_ascending number board proof labeller adversary turns places rules =
+    shows_plainly board proof.labeller proof.adversary proof.claim (shows_over configuration_positions board proof
+    (record {
+      labeller = apart number (λ r. r.at) proof.labeller labeller;
+      adversary = apart number (λ r. r.at) proof.adversary adversary;
+      turns = turns;
+      places = places;
+    })
+    rules)
 
 pub shows : (board : PlainBoard) (proof : PlainProof) → IsProof board proof
     → BreaksNoRule configuration_positions board proof
     → Shows board proof.labeller proof.adversary proof.claim
-shows board proof is rules =
-    shows_plainly board proof.labeller proof.adversary proof.claim (shows_over configuration_positions board proof
-    (record {
-      labeller = apart refl is.labeller;
-      adversary = apart refl is.adversary;
-      turns = is.labeller.each;
-      places = λ k d lt. (is.adversary.each k d lt).at;
-    })
-    rules)
+shows board proof is = shows_ascending (rank_of board) board proof is.labeller.ascending is.adversary.ascending
+    (always board proof.claim proof.labeller is.labeller.each) (λ k d lt. (is.adversary.each k d lt).at)
 
 -- ---- rows with ranks
 

@@ -27,9 +27,9 @@ use Rattle.strategies.specs.Inside.Side.{Side}
 use Rattle.strategies.specs.PositionDocument.{AsksAdversary, IsLabellerRowOver, IsAdversaryRowOver, AreExactlyOver}
 use Rattle.strategies.specs.PositionDocument.{IsDocumentOver}
 use Rattle.strategies.specs.Sides.{HasStrategy, claim_for, document_for}
-use Rattle.strategies.proofs.ClassDocumentForm.{adversary_asked}
+use Rattle.strategies.proofs.FormedRows.{always_asked, no_adversary}
 use Rattle.strategies.proofs.OneList.{same_rows}
-use Rattle.strategies.proofs.OneSide.{adversary_is, always_asked, asks_finite, claim_is, labeller_is}
+use Rattle.strategies.proofs.OneSide.{adversary_is, asks_finite, claim_is, labeller_is}
 use Rattle.strategies.proofs.Numberings.{are_orders}
 use Rattle.strategies.proofs.PositionLaws.{are_normal}
 use Rattle.strategies.proofs.SomeDocument.{document_exists_over}
@@ -44,16 +44,11 @@ labeller_none (Some Adversary) value document none = refl
 
 module _ (board : PlainBoard) (normal : List ℕ → List ℕ) (document : PlainProof)
     (is : IsDocumentOver (normal_positions normal) (order_number board.labels) board document) where
-  unasked : asks_adversary document.claim ≡ false → document.adversary ≡ []
-  unasked none = elim (adversary_asked (normal_positions normal) board document is) [
-    | inl asked ↦ absurd (true≢false (sym asked ∙ none))
-    | inr empty ↦ empty
-  ]
-
   adversary_none : (side : Option DocumentSide) (value : Value) → is.value ≡ value → HasStrategy side value
       → asks_adversary (claim_for side (claim_of value)) ≡ false → (document_for side document).adversary ≡ []
   adversary_none None value same strategy none =
-      unasked (ap asks_adversary (is.claim ∙ ap claim_of same) ∙ none)
+      no_adversary (normal_positions normal) (order_number board.labels) board document is
+      (ap asks_adversary (is.claim ∙ ap claim_of same) ∙ none)
   adversary_none (Some Labeller) value same strategy none = refl
   adversary_none (Some Adversary) (Finite number) same strategy none = absurd (true≢false none)
   adversary_none (Some Adversary) Forever same strategy none = absurd strategy
@@ -119,7 +114,8 @@ module _ (board : PlainBoard) (normal : List ℕ → List ℕ) (form : IsNormalF
       (labeller_none side value document) in
       let adversarys : class_request_rows board adversary ≡ (document_for side document).adversary =
       rows_if board (class_adversary_side board normal value) _ (asks_adversary claim) adversary _ requests
-      (λ asked are. same_rows (order_number board.labels) (IsAdversaryRowOver (normal_positions normal) board) (λ (row : RequestRow). row.at)
+      (λ asked are. same_rows (order_number board.labels) (IsAdversaryRowOver (normal_positions normal) board)
+      (λ (row : RequestRow). row.at)
       (class_request_rows board adversary) document.adversary are.exactly (all_asked asked)
       ∙ sym (adversary_is side value document strategy asked))
       (adversary_none board normal document is side value same strategy) in

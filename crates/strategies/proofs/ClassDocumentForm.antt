@@ -19,8 +19,8 @@ use Rattle.proof_text.specs.declared.proof.TheConstants.{MOST_TURNS}
 use Rattle.proof_text.specs.Proof.{PlainProof, IsClaim, IsAnswerRow, AreTurns, asks_labeller, asks_adversary}
 use Rattle.strategies.specs.Best.{IsLess}
 use Rattle.strategies.specs.Inside.Numbering.{by_order}
-use Rattle.strategies.specs.PositionDocument.{IsAnswerMove, IsRequestMove, turns_of, AsksAdversary, LeadsOver}
-use Rattle.strategies.specs.PositionDocument.{IsLabellerRowOver, IsAdversaryRowOver, IsDocumentOver}
+use Rattle.strategies.specs.PositionDocument.{IsRequestMove, AsksAdversary, LeadsOver, IsAdversaryRowOver}
+use Rattle.strategies.specs.PositionDocument.{IsDocumentOver}
 use Rattle.strategies.proofs.ValueOrder.{at_least, less_than_finite}
 use Rattle.classes.specs.Numbers.{class_count, ways}
 use Rattle.classes.proofs.Cited.{ways-within}
@@ -35,8 +35,9 @@ use Rattle.proof_text.proofs.Cited.{asked_is}
 use Rattle.strategies.specs.ClassDocument.{IsClassDocumentOf, FitsFormat}
 use Rattle.strategies.specs.Inside.NormalForm.{IsNormalForm}
 use Rattle.strategies.proofs.EveryClass.{IsArrangedAt}
-use Rattle.strategies.proofs.PositionLaws.{are_normal}
+use Rattle.strategies.proofs.PositionLaws.{ArePositions, are_normal}
 use Rattle.strategies.proofs.FewValues.{few_values}
+use Rattle.strategies.proofs.FormedRows.{answer_form, asked_at, claim_form, no_adversary, no_labeller, row_at}
 use Rattle.strategies.proofs.KeptRules.{start_is, start_value, answered_is, requested_is}
 use Rattle.strategies.proofs.NormalForms.{arranged_form}
 use Rattle.strategies.proofs.GatheredRows.{adversarys_normal, labellers_normal}
@@ -58,49 +59,6 @@ no_more board normal form from ((pebble, label) ∷ moves) to number after is ha
     let most : after ≤ less.0 = no_more board normal form (normal next) moves to less.0 after
     (form.is next is_next) (form.same_value next is_next (Finite less.0) less.2) leads.1 other in
     let below : less.0 < number = less.1 in omega arith
-
--- where best answers lead to a value of 1 or more, the first value is 1 or more
-some_before : (board : PlainBoard) (normal : List ℕ → List ℕ) (from : List ℕ) (moves : List (ℕ × ℕ)) (to : List ℕ)
-    → LeadsOver (normal_positions normal) (IsAnswerMove board) from moves to
-    → (value : Value) → HasValue board to value → IsLess (Finite 0) value
-    → (first : Value) → HasValue board from first → IsLess (Finite 0) first
-some_before board normal from [] to leads value has some first has_first =
-    subst (IsLess (Finite 0))
-    (same_value board to value first has (subst (λ (c : List ℕ). HasValue board c first) leads has_first)) some
-some_before board normal from ((pebble, label) ∷ moves) to leads value has some first has_first =
-    let answerable = leads.0.answerable in
-    subst (IsLess (Finite 0)) (same_value board from answerable.value first answerable.has_value has_first)
-    answerable.some
-
-turns_fit : (start : Value) → IsClaim (claim_of start) → IsLess (Finite 0) start → (value : Value)
-    → IsLess (Finite 0) value → AreTurns (claim_of start) (turns_of start value)
-turns_fit (Finite number) small some (Finite value) positive = (omega (arith, some, positive), omega (arith, small))
-turns_fit (Finite number) small some Forever positive = (omega (arith, some), omega (arith, small))
-turns_fit Forever small some value positive = tt
-
-empty : (rows : List RequestRow) → ((row : RequestRow) → Contains rows row → ⊥) → rows ≡ []
-empty [] none = refl
-empty (row ∷ rows) none = absurd (none row (Contains-get_or (row ∷ rows) 0 row (omega arith)))
-
-always_asked : (value : Value) → asks_labeller (claim_of value) ≡ true
-always_asked (Finite number) = refl
-always_asked Forever = refl
-
-asked_or_none : (value : Value) (rows : List RequestRow) → ((row : RequestRow) → Contains rows row → AsksAdversary
-    value)
-    → (asks_adversary (claim_of value) ≡ true) ⊎ (rows ≡ [])
-asked_or_none (Finite number) rows asks = inl refl
-asked_or_none Forever rows asks = inr (empty rows asks)
-
-module _ (positions : Positions) (board : PlainBoard) (proof : PlainProof)
-    (is : IsDocumentOver positions (order_number board.labels) board proof) where
-  pub labeller_asked : asks_labeller proof.claim ≡ true
-  labeller_asked = subst (λ (claim : Claim). asks_labeller claim ≡ true) (sym is.claim) (always_asked is.value)
-
-  pub adversary_asked : (asks_adversary proof.claim ≡ true) ⊎ (proof.adversary ≡ [])
-  adversary_asked =
-      subst (λ (claim : Claim). (asks_adversary claim ≡ true) ⊎ (proof.adversary ≡ [])) (sym is.claim)
-      (asked_or_none is.value proof.adversary (λ row among. ((is.adversary.each row).0 among).0))
 
 -- a board has no more gaps than classes
 gaps_few : (board : PlainBoard) → IsConfiguration board board.start
@@ -128,44 +86,34 @@ module _ (board : PlainBoard) (normal : List ℕ → List ℕ) (form : IsNormalF
   abbrev start : List ℕ
   start = normal board.start
 
+  abbrev positions : Positions
+  positions = normal_positions normal
+
+  are : ArePositions board (normal_positions normal)
+  are = are_normal board normal form
+
   has_start : HasValue board start is.value
-  has_start = start_value board (normal_positions normal) (are_normal board normal form) (order_number board.labels)
+  has_start = start_value board positions are (order_number board.labels)
       proof is_start is
-
-  answers_are : (row : AnswerRow) → IsLabellerRowOver (normal_positions normal) board is.value row
-      → AreNumbers board.pebbles board.labels row.answers
-  answers_are row is_row = (
-    is_row.one_each,
-    λ k d low.
-        let label : slice_index row.answers k < board.labels =
-        (is_row.best k (omega (arith, low, is_row.one_each))).0.legal.is_label in
-        subst (λ n. n < board.labels) (get_or_default row.answers k 0 d low) label,
-  )
-
-  row_at : (k : ℕ) (d : AnswerRow) → k < length proof.labeller
-      → IsLabellerRowOver (normal_positions normal) board is.value (get_or proof.labeller k d)
-  row_at k d low = (is.labeller.each (get_or proof.labeller k d)).0 (Contains-get_or proof.labeller k d low)
-
-  asked_at : (k : ℕ) (d : RequestRow) → k < length proof.adversary
-      → AsksAdversary is.value × IsAdversaryRowOver (normal_positions normal) board (get_or proof.adversary k d)
-  asked_at k d low = (is.adversary.each (get_or proof.adversary k d)).0 (Contains-get_or proof.adversary k d low)
 
   answers_placed : All (λ (row : AnswerRow). IsArrangedAt board row.at) proof.labeller
   answers_placed k d low =
-      let is_row = row_at k d low in record {
-        is = answered_is board (normal_positions normal) (are_normal board normal form) (order_number board.labels) proof
+      let is_row = row_at positions (order_number board.labels) board proof is k d low in record {
+        is = answered_is board positions are (order_number board.labels)
+            proof
             is_start is is_row.moves (get_or proof.labeller k d).at is_row.reached;
-        arranged_is = labellers_normal board (normal_positions normal) (are_normal board normal form) (by_order board)
+        arranged_is = labellers_normal board positions are (by_order board)
             is_start (λ c. arranged board.labels c ≡ c) form.placed is.value (get_or proof.labeller k d) is_row;
       }
 
   requests_placed : All (λ (row : RequestRow). IsArrangedAt board row.at) proof.adversary
   requests_placed k d low =
-      let is_row = (asked_at k d low).1 in record {
-        is = requested_is board (normal_positions normal) (are_normal board normal form) (order_number board.labels) proof
+      let is_row = (asked_at positions (order_number board.labels) board proof is k d low).1 in record {
+        is = requested_is board positions are (order_number board.labels)
+            proof
             is_start is is_row.moves (get_or proof.adversary k d).at
             is_row.reached;
-        arranged_is = adversarys_normal board (normal_positions normal) (are_normal board normal form) (by_order board)
+        arranged_is = adversarys_normal board positions are (by_order board)
             is_start (λ c. arranged board.labels c ≡ c) form.placed (get_or proof.adversary k d) is_row;
       }
 
@@ -189,47 +137,33 @@ module _ (board : PlainBoard) (normal : List ℕ → List ℕ) (form : IsNormalF
     small : IsClaim (claim_of is.value)
     small = claim_fits board is.value is_start gaps is.has_value
 
-    answer_form : (row : AnswerRow) → IsLabellerRowOver (normal_positions normal) board is.value row → IsAnswerRow
-        board proof.claim row
-    answer_form row is_row = record {
-      at = answered_is board (normal_positions normal) (are_normal board normal form) (order_number board.labels) proof
-          is_start is is_row.moves row.at is_row.reached;
-      turns = subst (λ (claim : Claim). AreTurns claim row.turns) (sym is.claim)
-          (subst (AreTurns (claim_of is.value)) (sym is_row.turns)
-          (turns_fit is.value small
-          (some_before board normal start is_row.moves row.at is_row.reached is_row.value is_row.has_value
-          is_row.some is.value
-          has_start)
-          is_row.value is_row.some));
-      answers = answers_are row is_row;
-    }
-
     left_few : (value : Value) → IsClaim (claim_of value) → HasValue board start value → AsksAdversary value
-        → (row : RequestRow) → IsAdversaryRowOver (normal_positions normal) board row → row.left ≤ MOST_TURNS
+        → (row : RequestRow) → IsAdversaryRowOver positions board row → row.left ≤ MOST_TURNS
     left_few (Finite number) most has asks row is_row =
         let below : row.left ≤ number = no_more board normal form start is_row.moves row.at number row.left
-        (start_is board (normal_positions normal) (are_normal board normal form) (order_number board.labels) proof
+        (start_is board positions are (order_number board.labels) proof
         is_start is) has is_row.reached is_row.has_value in
         omega (arith, most, below)
     left_few Forever most has asks row is_row = absurd asks
 
-    request_form : (row : RequestRow) → AsksAdversary is.value → IsAdversaryRowOver (normal_positions normal) board row
+    request_form : (row : RequestRow) → AsksAdversary is.value → IsAdversaryRowOver positions board row
         → IsClassRequestRow board row
     request_form row asks is_row = record {
-      at = requested_is board (normal_positions normal) (are_normal board normal form) (order_number board.labels) proof
+      at = requested_is board positions are (order_number board.labels) proof
           is_start is is_row.moves row.at is_row.reached;
       left = left_few is.value small has_start asks row is_row;
       request = asked_is row is_row.asks;
     }
 
-    pub claim_form : IsClaim proof.claim
-    claim_form = subst IsClaim (sym is.claim) small
+    pub claim_fits_form : IsClaim proof.claim
+    claim_fits_form = claim_form board positions are (order_number board.labels) proof is_start is small
 
     pub labeller_form : length proof.labeller ≤ MAX_CLASS_ROWS
         → AreRows (answers_by_classes board proof.claim) proof.labeller
     labeller_form few = record {
       few = few;
-      each = λ k d low. answer_form (get_or proof.labeller k d) (row_at k d low);
+      each = λ k d low. answer_form board positions are (order_number board.labels) proof is_start is small
+          (get_or proof.labeller k d) (row_at positions (order_number board.labels) board proof is k d low);
       in_order = λ k d low. (answers_placed k d low).arranged_is;
       ascending = is.labeller.ascending;
     }
@@ -239,21 +173,18 @@ module _ (board : PlainBoard) (normal : List ℕ → List ℕ) (form : IsNormalF
     adversary_form few = record {
       few = few;
       each = λ k d low.
-          let asked = asked_at k d low in request_form (get_or proof.adversary k d) asked.0 asked.1;
+          let asked = asked_at positions (order_number board.labels) board proof is k d low in request_form (get_or proof.adversary k d) asked.0 asked.1;
       in_order = λ k d low. (requests_placed k d low).arranged_is;
       ascending = is.adversary.ascending;
     }
 
   pub has_form : FitsFormat board proof → IsClassProof board proof
   has_form fits = record {
-    claim = claim_form fits.gaps;
+    claim = claim_fits_form fits.gaps;
     labeller = labeller_form fits.gaps fits.labeller;
     adversary = adversary_form fits.gaps fits.adversary;
-    no_labeller = λ e. absurd (true≢false (sym (labeller_asked (normal_positions normal) board proof is) ∙ e));
-    no_adversary = λ e. elim (adversary_asked (normal_positions normal) board proof is) [
-      | inl asked ↦ absurd (true≢false (sym asked ∙ e))
-      | inr none ↦ none
-    ];
+    no_labeller = no_labeller positions (order_number board.labels) board proof is;
+    no_adversary = no_adversary positions (order_number board.labels) board proof is;
   }
 
 -- ---- by classes

@@ -19,13 +19,14 @@ use Rattle.proof_text.specs.Proof.{asks_labeller, asks_adversary}
 use Rattle.proof_text.specs.Documents.{IsProof}
 use Rattle.strategies.specs.Best.{IsLess}
 use Rattle.strategies.specs.Document.{IsDocumentOf}
-use Rattle.strategies.specs.PositionDocument.{IsAnswerable, IsAnswerMove, turns_of, AsksAdversary, LeadsOver}
-use Rattle.strategies.specs.PositionDocument.{IsLabellerRowOver, IsAdversaryRowOver, AreExactlyOver}
+use Rattle.strategies.specs.PositionDocument.{IsAnswerable, AsksAdversary, IsLabellerRowOver, IsAdversaryRowOver}
+use Rattle.strategies.specs.PositionDocument.{AreExactlyOver}
 use Rattle.positions.specs.Claim.{claim_of}
 use Rattle.strategies.proofs.ValueOrder.{worthless}
 use Rattle.proof_text.specs.Positions.{Positions, configuration_positions}
-use Rattle.strategies.proofs.PositionLaws.{are_plain}
-use Rattle.strategies.proofs.ReachedByMoves.{answers_lead_to, requests_lead_to}
+use Rattle.strategies.proofs.FormedRows.{answer_form, claim_form, no_adversary, no_labeller}
+use Rattle.strategies.proofs.KeptRules.{requested_is}
+use Rattle.strategies.proofs.PositionLaws.{ArePositions, are_plain}
 
 -- a finite value is smaller than the number of configurations
 value_below : (board : PlainBoard) (configuration : List ℕ) (number : ℕ) → IsConfiguration board configuration
@@ -75,20 +76,6 @@ section {X} board IsRow IsFormed at rows few are formed exactly =
     (λ k d inside. rank_below board (at (get_or rows k d)) (are (get_or rows k d) (is k d inside))) in
     (omega (arith, size, few), λ k d inside. formed (get_or rows k d) (is k d inside))
 
--- the turns of a row are as the claim asks
-turns_formed : (start value : Value) → IsClaim (claim_of start) → (start ≡ Finite 0 → ⊥) → IsLess (Finite 0) value
-    → AreTurns (claim_of start) (turns_of start value)
-turns_formed Forever value low some here = tt
-turns_formed (Finite zero) value low some here = absurd (some refl)
-turns_formed (Finite (suc number)) (Finite value) low some here = (omega (arith, here), omega (arith, low))
-turns_formed (Finite (suc number)) Forever low some here = (omega arith, omega (arith, low))
-
--- if best answers lead to a configuration of value 1 or more, they lead from one
-pub start_answerable : (board : PlainBoard) (positions : Positions) (from : List ℕ) (moves : List (ℕ × ℕ)) (to : List ℕ)
-    → LeadsOver positions (IsAnswerMove board) from moves to → IsAnswerable board to → IsAnswerable board from
-start_answerable board positions from [] to leads some = subst (IsAnswerable board) (sym leads) some
-start_answerable board positions from (move ∷ moves) to leads some = leads.0.answerable
-
 pub not_answerable : (board : PlainBoard) (configuration : List ℕ) → IsAnswerable board configuration
     → HasValue board configuration (Finite 0) → ⊥
 not_answerable board configuration is has =
@@ -101,35 +88,24 @@ module _ (board : PlainBoard) (proof : PlainProof) (is_start : IsConfiguration b
   claim_formed (Finite number) has = let low = value_below board board.start number is_start has in omega (arith, low)
   claim_formed Forever has = tt
 
-  -- ---- rows
+  small : IsClaim (claim_of is.value)
+  small = claim_formed is.value is.has_value
 
-  answers_configuration : (row : AnswerRow) → IsLabellerRowOver configuration_positions board is.value row → IsConfiguration board row.at
-  answers_configuration row is_row = answers_lead_to board configuration_positions (are_plain board) board.start is_row.moves row.at is_start is_row.reached
+  are : ArePositions board configuration_positions
+  are = are_plain board
 
-  answers_formed : (row : AnswerRow) → IsLabellerRowOver configuration_positions board is.value row → IsAnswerRow board (claim_of is.value) row
-  answers_formed row is_row =
-      let some : IsAnswerable board board.start = start_answerable board configuration_positions board.start is_row.moves row.at is_row.reached
-      (record { value = is_row.value; has_value = is_row.has_value; some = is_row.some }) in
-      let not_zero : is.value ≡ Finite 0 → ⊥ = λ same. not_answerable board board.start some
-      (subst (HasValue board board.start) same is.has_value) in
-      record {
-        at = answers_configuration row is_row;
-        turns = subst (AreTurns (claim_of is.value)) (sym is_row.turns)
-            (turns_formed is.value is_row.value (claim_formed is.value is.has_value) not_zero is_row.some);
-        answers = (
-          is_row.one_each,
-          λ k d inside.
-              let best = is_row.best k (omega (arith, inside, is_row.one_each)) in
-              subst (λ n. n < board.labels) (get_or_default row.answers k 0 d inside) best.0.legal.is_label,
-        );
-      }
+  formed : (row : AnswerRow) → IsLabellerRowOver configuration_positions board is.value row
+      → IsAnswerRow board proof.claim row
+  formed = answer_form board configuration_positions are (rank_of board) proof is_start is small
 
-  requests_configuration : (row : RequestRow) → AsksAdversary is.value × IsAdversaryRowOver configuration_positions board row
-      → IsConfiguration board row.at
+  requests_configuration : (row : RequestRow)
+      → AsksAdversary is.value × IsAdversaryRowOver configuration_positions board row → IsConfiguration board row.at
   requests_configuration row (asks, is_row) =
-      requests_lead_to board configuration_positions (are_plain board) board.start is_row.moves row.at is_start is_row.reached
+      requested_is board configuration_positions are (rank_of board) proof is_start is is_row.moves row.at
+      is_row.reached
 
-  requests_formed : (row : RequestRow) → AsksAdversary is.value × IsAdversaryRowOver configuration_positions board row → IsRequestRow board row
+  requests_formed : (row : RequestRow) → AsksAdversary is.value × IsAdversaryRowOver configuration_positions board row
+      → IsRequestRow board row
   requests_formed row (asks, is_row) =
       let low = value_below board row.at row.left (requests_configuration row (asks, is_row)) is_row.has_value in
       record {
@@ -138,25 +114,10 @@ module _ (board : PlainBoard) (proof : PlainProof) (is_start : IsConfiguration b
         request = is_row.best.0.is_pebble;
       }
 
-  -- ---- the document
-
-  always_labeller : (start : Value) → asks_labeller (claim_of start) ≡ false → proof.labeller ≡ []
-  always_labeller (Finite number) same = absurd cc
-  always_labeller Forever same = absurd cc
-
-  sometimes_adversary : (start : Value) (rows : List RequestRow)
-      → ((row : RequestRow) → Contains rows row → AsksAdversary start)
-      → asks_adversary (claim_of start) ≡ false → rows ≡ []
-  sometimes_adversary (Finite number) rows asks same = absurd cc
-  sometimes_adversary Forever [] asks same = refl
-  sometimes_adversary Forever (row ∷ rows) asks same =
-      absurd (asks row (Contains-get_or (row ∷ rows) 0 row (omega arith)))
-
-  answers : (length proof.labeller ≤ MAX_CONFIGURATIONS) × All (IsAnswerRow board (claim_of is.value)) proof.labeller
+  answers : (length proof.labeller ≤ MAX_CONFIGURATIONS) × All (IsAnswerRow board proof.claim) proof.labeller
   answers =
-      section board (IsLabellerRowOver configuration_positions board is.value) (IsAnswerRow board (claim_of is.value))
-      (λ (row : AnswerRow). row.at) proof.labeller few
-      answers_configuration answers_formed is.labeller
+      section board (IsLabellerRowOver configuration_positions board is.value) (IsAnswerRow board proof.claim)
+      (λ (row : AnswerRow). row.at) proof.labeller few (λ row is_row. (formed row is_row).at) formed is.labeller
 
   requests : (length proof.adversary ≤ MAX_CONFIGURATIONS) × All (IsRequestRow board) proof.adversary
   requests =
@@ -165,10 +126,10 @@ module _ (board : PlainBoard) (proof : PlainProof) (is_start : IsConfiguration b
 
   pub is_formed : IsProof board proof
   is_formed = record {
-    claim = subst IsClaim (sym is.claim) (claim_formed is.value is.has_value);
+    claim = claim_form board configuration_positions are (rank_of board) proof is_start is small;
     labeller = record {
       few = answers.0;
-      each = subst (λ (claim : Claim). All (IsAnswerRow board claim) proof.labeller) (sym is.claim) answers.1;
+      each = answers.1;
       in_order = λ k d low. tt;
       ascending = is.labeller.ascending;
     };
@@ -178,9 +139,6 @@ module _ (board : PlainBoard) (proof : PlainProof) (is_start : IsConfiguration b
       in_order = λ k d low. tt;
       ascending = is.adversary.ascending;
     };
-    no_labeller =
-        λ none. always_labeller is.value (subst (λ (claim : Claim). asks_labeller claim ≡ false) is.claim none);
-    no_adversary =
-        λ none. sometimes_adversary is.value proof.adversary (λ row among. ((is.adversary.each row).0 among).0)
-        (subst (λ (claim : Claim). asks_adversary claim ≡ false) is.claim none);
+    no_labeller = no_labeller configuration_positions (rank_of board) board proof is;
+    no_adversary = no_adversary configuration_positions (rank_of board) board proof is;
   }

@@ -107,7 +107,8 @@ module _ {R : Type 0} (board : PlainBoard) (side : Side R) (line : R → List �
     ranks = one.ranks ++ others.ranks;
     listed = listed_on (IsMarked marks) first mid end one.ranks others.ranks before after one.listed others.listed;
     rows = one.are_lines.rows ++ others.rows;
-    are_rows = rows_append board (by_rank board) (are_ranks board) side one.ranks others.ranks one.are_lines.rows others.rows one.are_lines.are_rows
+    are_rows = rows_append board (by_rank board) (are_ranks board) side one.ranks others.ranks one.are_lines.rows
+        others.rows one.are_lines.are_rows
         others.are_rows;
     bytes_are = flat_map-cons (λ (p : Lines). p.bytes.items) part parts
         ∙ (λ i. one.are_lines.bytes_are i ++ others.bytes_are i)
@@ -153,7 +154,8 @@ module _ {R : Type 0} (board : PlainBoard) (side : Side R) (line : R → List �
       let whole : AreSpanLines 0 (count * size) parts = subst (λ n. AreSpanLines n (count * size) parts) none
       (subst (λ n. AreSpanLines (0 * size) (n * size) parts) all (spans size count 0 parts are)) in record {
         rows = whole.rows;
-        are_rows = section_of_marks board (by_rank board) (are_ranks board) side marks (count * size) whole.ranks whole.rows reached
+        are_rows = section_of_marks board (by_rank board) (are_ranks board) side marks (count * size) whole.ranks
+            whole.rows reached
             (ranks_end board (count * size) enough) whole.listed
             whole.are_rows;
         bytes_are = whole.bytes_are;
@@ -168,7 +170,8 @@ module _ {R : Type 0} (board : PlainBoard) (side : Side R) (line : R → List �
   made_of E Is (span ∷ numbers) (part ∷ parts) are = (are.0, made_of E Is numbers parts are.1)
 
   -- the lines that were made of each span, unless one was refused memory
-  pub joined : {E V : Type 0} (items : V → List Lines) (size count : ℕ) → AreReached (by_rank board) board side (IsMarked marks)
+  pub joined : {E V : Type 0} (items : V → List Lines) (size count : ℕ) → AreReached (by_rank board) board side
+      (IsMarked marks)
       → configurations board ≤ count * size → (made : List (Result Lines E))
       → AllZip (λ span (lines : Result Lines E). IfOk lines
       (AreLinesBetween board side line marks (span * size) (span * size + size))) (range_with_len 0 count) made

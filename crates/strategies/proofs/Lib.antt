@@ -7,13 +7,13 @@ pub mod ReachedByMoves
 pub mod RowTurns
 pub mod DocumentRows
 pub mod KeptRules
+pub mod FormedRows
 pub mod Meanings
 pub mod DocumentForm
 pub mod OneList
 pub mod SmallBoard
 pub mod RowLists
 pub mod BitSearch
-pub mod FirstRows
 pub mod FoundAnswers
 pub mod ShownClaims
 pub mod LonePebble

@@ -79,19 +79,24 @@ is_row = record {
     best zero below = best_answer
     best (suc pebble) below = absurd (omega arith)
 
-only_start : (moves : List (ℕ × ℕ)) (to : List ℕ) → LeadsOver configuration_positions (IsAnswerMove lone_board) start moves to → start ≡ to
+only_start : (moves : List (ℕ × ℕ)) (to : List ℕ) → LeadsOver configuration_positions (IsAnswerMove lone_board) start
+    moves to → start ≡ to
 only_start [] to leads = leads
 only_start ((zero, label) ∷ moves) to leads =
-    only_start moves to (subst (λ (l : ℕ). LeadsOver configuration_positions (IsAnswerMove lone_board) (moved start 0 l) moves to)
+    only_start moves to (subst
+    (λ (l : ℕ). LeadsOver configuration_positions (IsAnswerMove lone_board) (moved start 0 l) moves to)
     (only_label label leads.0.best.0.legal) leads.1)
 only_start ((suc pebble, label) ∷ moves) to leads = absurd (omega (arith, leads.0.is_pebble))
 
 labeller_rows : AreExactlyOver (rank_of lone_board) (IsLabellerRowOver configuration_positions lone_board Forever)
     (λ (row : AnswerRow). row.at) lone_document.labeller
-labeller_rows = one_row (rank_of lone_board) (λ (row : AnswerRow). row.at) (IsLabellerRowOver configuration_positions lone_board Forever) answers is_row
-    (λ row is. one_answer_row lone_board configuration_positions Forever answers row is_row is (only_start is.moves row.at is.reached))
+labeller_rows = one_row (rank_of lone_board) (λ (row : AnswerRow). row.at)
+    (IsLabellerRowOver configuration_positions lone_board Forever) answers is_row
+    (λ row is. one_answer_row lone_board configuration_positions Forever answers row is_row is
+    (only_start is.moves row.at is.reached))
 
-adversary_rows : AreExactlyOver (rank_of lone_board) (λ (row : RequestRow). AsksAdversary Forever × IsAdversaryRowOver configuration_positions lone_board row)
+adversary_rows : AreExactlyOver (rank_of lone_board)
+    (λ (row : RequestRow). AsksAdversary Forever × IsAdversaryRowOver configuration_positions lone_board row)
     (λ (row : RequestRow). row.at) lone_document.adversary
 adversary_rows = no_rows (rank_of lone_board) (λ (row : RequestRow). row.at) _ (λ row asked. asked.0)
 

@@ -124,7 +124,8 @@ module _ (board : PlainBoard) (normal : List ℕ → List ℕ) (form : IsNormalF
   answers_long : (start : Value) (row : AnswerRow) → IsLabellerRowOver (normal_positions normal) board start row
       → 13 + 4 * board.pebbles ≤ length (answer_line board row)
   answers_long start row is =
-      let at_is = (labellers board (normal_positions normal) (are_normal board normal form) (by_order board) is_board.start
+      let at_is = (labellers board (normal_positions normal) (are_normal board normal form) (by_order board)
+      is_board.start
       (λ (r : AnswerRow). r) (λ r. Unit {0}) start).is row is in
       let at_long = places_long board.labels (places board) row.at few at_is.each_place in
       let answers_long = places_long board.labels board.labels row.answers (omega (arith, is_board.labels.1))
@@ -150,7 +151,8 @@ module _ (board : PlainBoard) (normal : List ℕ → List ℕ) (form : IsNormalF
   requests_long : (start : Value) (row : RequestRow) → IsAdversaryRowOver (normal_positions normal) board row
       → 13 + 2 * board.pebbles ≤ length (class_request_line board row)
   requests_long start row is =
-      let at_is = (adversarys board (normal_positions normal) (are_normal board normal form) (by_order board) is_board.start
+      let at_is = (adversarys board (normal_positions normal) (are_normal board normal form) (by_order board)
+      is_board.start
       (λ (r : RequestRow). r) (λ r. Unit {0})).is row is in
       let at_long = places_long board.labels (places board) row.at few at_is.each_place in
       let word : length (codes " ask") ≡ 4 = refl in
@@ -186,7 +188,8 @@ module _ (board : PlainBoard) (normal : List ℕ → List ℕ) (form : IsNormalF
       λ number among.
       let found : IsClassNumber board number × IsClassReachedByAnswers board normal number =
       All-contains (λ m. IsClassNumber board m × IsClassReachedByAnswers board normal m) numbers number each among in
-      let row = answer_row_for board (normal_positions normal) is.value found.1.holds.value found.1.moves (class_numbered board number)
+      let row = answer_row_for board (normal_positions normal) is.value found.1.holds.value found.1.moves
+      (class_numbered board number)
       found.0.is
       found.1.reached found.1.holds.has_value found.1.holds.some in
       subst (Contains (map number_of proof.labeller)) (ap (order_number board.labels) row.2 ∙ found.0.number_is)
@@ -247,7 +250,8 @@ module _ (board : PlainBoard) (normal : List ℕ → List ℕ) (form : IsNormalF
       let found : IsClassNumber board n × IsClassReachedByRequests board normal n =
       All-contains (λ m. IsClassNumber board m × IsClassReachedByRequests board normal m) numbers n each among in
       let left = stays_finite from number found.1.moves (class_numbered board n) start_is start_has found.1.reached in
-      let row = request_row_for board (normal_positions normal) (are_normal board normal form) left.0 found.1.moves (class_numbered board n) found.0.is found.1.reached
+      let row = request_row_for board (normal_positions normal) (are_normal board normal form) left.0 found.1.moves
+      (class_numbered board n) found.0.is found.1.reached
       left.1 in
       subst (Contains (map number_of proof.adversary)) (ap (order_number board.labels) row.2 ∙ found.0.number_is)
       (contains_map number_of proof.adversary row.0 ((is.adversary.each row.0).1 (asks, row.1))) in

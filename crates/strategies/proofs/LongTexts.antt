@@ -22,7 +22,7 @@ use Rattle.proof_text.specs.declared.class_proof.TheConstants.{MAX_CLASS_ROWS}
 use Rattle.proof_text.specs.declared.proof.TheConstants.{MOST_TURNS}
 use Rattle.strategies.specs.ClassDocument.{IsClassDocumentOf, FitsFormat}
 use Rattle.strategies.specs.PositionDocument.{IsDocumentOver}
-use Rattle.strategies.proofs.ClassDocumentForm.{labeller_asked, adversary_asked}
+use Rattle.strategies.proofs.FormedRows.{labeller_asked, adversary_asked}
 
 -- ---- the lines of rows
 
@@ -94,12 +94,12 @@ module _ (positions : Positions) (board : PlainBoard) (proof : PlainProof)
   pub labeller_long : 8 * length proof.labeller ≤ length (class_sections_text board proof)
   labeller_long = omega (
     arith,
-    labeller_section board proof (labeller_asked positions board proof is),
+    labeller_section board proof (labeller_asked positions (order_number board.labels) board proof is),
     long_lines (answer_line board) (answers_long board) proof.labeller,
   )
 
   pub adversary_long : 8 * length proof.adversary ≤ length (class_sections_text board proof)
-  adversary_long = elim (adversary_asked positions board proof is) [
+  adversary_long = elim (adversary_asked positions (order_number board.labels) board proof is) [
     | inl asked ↦ omega (
       arith,
       adversary_section board proof asked,

@@ -158,7 +158,8 @@ one_request_row board positions are first second one other at =
     finite_is first.left second.left (same_value board second.at (Finite first.left) (Finite second.left)
     (subst (λ (c : List ℕ). HasValue board c (Finite first.left)) at one.has_value) other.has_value) in
     let pebble : positions.asked first ≡ positions.asked second = same_request board second.at (positions.asked first)
-    (positions.asked second) (subst (λ (c : List ℕ). IsBestRequest board c (positions.asked first)) at one.best) other.best in
+    (positions.asked second) (subst (λ (c : List ℕ). IsBestRequest board c (positions.asked first)) at one.best)
+    other.best in
     let request : first.request ≡ second.request = are.one first second one.asks other.asks at pebble in
     let same : ◌≡◌ {A = RequestRow} (record { at = first.at; left = first.left; request = first.request }) second =
     rw (at, left, request) refl in

@@ -31,7 +31,8 @@ use Rattle.strategies.specs.PositionDocument.{AsksAdversary, IsDocumentOver}
 use Rattle.strategies.specs.Inside.NormalForm.{IsNormalForm}
 use Rattle.strategies.specs.Sides.{HasStrategy, claim_for, document_for, part_of}
 use Rattle.strategies.specs.SymmetricDocument.{IsSymmetryDocumentOf, symmetric_document_for}
-use Rattle.strategies.proofs.ClassDocumentForm.{adversary_form, claim_form, has_form, labeller_asked, labeller_form}
+use Rattle.strategies.proofs.ClassDocumentForm.{adversary_form, claim_fits_form, has_form, labeller_form}
+use Rattle.strategies.proofs.FormedRows.{always_asked, labeller_asked}
 use Rattle.strategies.proofs.NormalForms.{arranged_form, least_form}
 
 -- ---- the rows
@@ -184,7 +185,7 @@ module _ (board : PlainBoard) (normal : List ℕ → List ℕ) (form : IsNormalF
       → IsClassProof board (document_for (Some Labeller) proof)
   labeller_has_form fits =
       let rows = labeller_form board normal form proof start is fits.gaps fits.labeller in record {
-        claim = claim_part Labeller proof.claim (claim_form board normal form proof start is fits.gaps);
+        claim = claim_part Labeller proof.claim (claim_fits_form board normal form proof start is fits.gaps);
         labeller = record {
           few = fits.labeller;
           each = answers_part board proof.claim proof.labeller rows.each;
@@ -193,7 +194,7 @@ module _ (board : PlainBoard) (normal : List ℕ → List ℕ) (form : IsNormalF
         };
         adversary = no_formed (requests_by_classes board (part_of Labeller proof.claim));
         no_labeller = λ none. absurd (true≢false (sym (labeller_asked_part proof.claim
-            (labeller_asked (normal_positions normal) board proof is)) ∙ none));
+            (labeller_asked (normal_positions normal) (order_number board.labels) board proof is)) ∙ none));
         no_adversary = λ none. refl;
       }
 
@@ -202,7 +203,7 @@ module _ (board : PlainBoard) (normal : List ℕ → List ℕ) (form : IsNormalF
       → IsClassProof board (document_for (Some Adversary) proof)
   adversary_has_form asked fits =
       let rows = adversary_form board normal form proof start is fits.gaps fits.adversary in record {
-        claim = claim_part Adversary proof.claim (claim_form board normal form proof start is fits.gaps);
+        claim = claim_part Adversary proof.claim (claim_fits_form board normal form proof start is fits.gaps);
         labeller = no_formed (answers_by_classes board (part_of Adversary proof.claim));
         adversary = record {
           few = fits.adversary;
@@ -283,10 +284,6 @@ holds_part board values.Forever (Some Adversary) holds = holds
 asked_of_value : (value : Value) → HasStrategy (Some Adversary) value → asks_adversary (claim_of value) ≡ true
 asked_of_value (Finite number) strategy = refl
 asked_of_value values.Forever strategy = absurd strategy
-
-pub always_asked : (value : Value) → asks_labeller (claim_of value) ≡ true
-always_asked (Finite number) = refl
-always_asked values.Forever = refl
 
 module _ (board : PlainBoard) (proof : PlainProof) (value : Value) (claim_is_of : proof.claim ≡ claim_of value) where
   labeller_asks : asks_labeller proof.claim ≡ true

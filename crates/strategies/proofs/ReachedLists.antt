@@ -93,7 +93,8 @@ add_all P bound low one numbers apart =
 -- ---- a list that is worked off comes to an end
 
 module _ (board : PlainBoard) (positions : Positions) (are_positions : ArePositions board positions)
-    (numbering : Numbering) (are_numbers : IsNumbering board numbering) (IsMove : List ℕ → ℕ → ℕ → Type 0) (Holds : List ℕ → Type 0) (Leads : ℕ → ℕ → Type 0)
+    (numbering : Numbering) (are_numbers : IsNumbering board numbering) (IsMove : List ℕ → ℕ → ℕ → Type 0)
+    (Holds : List ℕ → Type 0) (Leads : ℕ → ℕ → Type 0)
     (is : IsConfiguration board board.start) (are : AreMoves board positions numbering IsMove Holds Leads)
     (add : (number : ℕ) → numbering.IsNumber number → Holds (numbering.places number)
     → (numbers : List ℕ) → AreApart numbers → CanAdd numbers (Leads number)) where
@@ -102,19 +103,28 @@ module _ (board : PlainBoard) (positions : Positions) (are_positions : ArePositi
       → AreApart numbers → (all : List ℕ) × AreAll numbering (IsReachedOver positions numbering board IsMove Holds)
       (Contains all)
   works_off zero place numbers enough spread apart = elim (slice_get_cases numbers place).1 [
-    | inr end ↦ (numbers, spread_ends board positions are_positions numbering are_numbers IsMove Holds Leads is are place numbers spread end.1)
+    | inr end ↦ (
+      numbers,
+      spread_ends board positions are_positions numbering are_numbers IsMove Holds Leads is are
+          place numbers spread end.1,
+    )
     | inl there ↦
         let few = few_apart numbers (are_numbers.end) apart
         (λ number among. are_numbers.below number (spread.on.sound number among).0) in
         absurd (omega (arith, few, there.1, enough))
   ]
   works_off (suc left) place numbers enough spread apart = elim (slice_get_cases numbers place).1 [
-    | inr end ↦ (numbers, spread_ends board positions are_positions numbering are_numbers IsMove Holds Leads is are place numbers spread end.1)
+    | inr end ↦ (
+      numbers,
+      spread_ends board positions are_positions numbering are_numbers IsMove Holds Leads is are
+          place numbers spread end.1,
+    )
     | inl there ↦
         let found = spread.on.sound there.0 (get_there numbers place there.0 there.2) in
         let added = add there.0 found.0 found.1.holds numbers apart in
         works_off left (place + 1) added.0 (omega (arith, enough))
-        (spread_more board positions are_positions numbering are_numbers IsMove Holds Leads is are place there.0 numbers added.0 spread there.2
+        (spread_more board positions are_positions numbering are_numbers IsMove Holds Leads is are place there.0 numbers
+        added.0 spread there.2
         added.1) added.2
   ]
 
@@ -122,11 +132,13 @@ module _ (board : PlainBoard) (positions : Positions) (are_positions : ArePositi
       → (all : List ℕ) × AreAll numbering (IsReachedOver positions numbering board IsMove Holds)
       (Contains all)
   all_reached either =
-      let one : OneOrNone (IsStart board positions are_positions numbering are_numbers IsMove Holds Leads is) = elim either [
+      let one : OneOrNone (IsStart board positions are_positions numbering are_numbers IsMove Holds Leads is) = elim
+      either [
         | inl holds ↦ inl (number_over positions numbering board.start, (holds, refl), λ number starts. starts.1)
         | inr not ↦ inr (λ number starts. not starts.0)
       ] in
-      let begun = add_one (IsStart board positions are_positions numbering are_numbers IsMove Holds Leads is) one [] none_apart in
+      let begun = add_one (IsStart board positions are_positions numbering are_numbers IsMove Holds Leads is) one []
+      none_apart in
       works_off (are_numbers.end) 0 begun.0 (omega arith)
       (spread_begins board positions are_positions numbering are_numbers IsMove Holds Leads is begun.0 begun.1) begun.2
 
@@ -166,13 +178,15 @@ answer_step board positions are numbering c pebble is some is_pebble =
           step.some))
     ]
 
-pub answers_reach : (board : PlainBoard) (positions : Positions) → ArePositions board positions → (numbering : Numbering)
+pub answers_reach : (board : PlainBoard) (positions : Positions) → ArePositions board positions
+    → (numbering : Numbering)
     → IsNumbering board numbering → IsConfiguration board board.start
     → (numbers : List ℕ) × AreAll numbering (IsReachedByAnswersOver positions numbering board) (Contains numbers)
 answers_reach board positions are numbering are_numbers is =
     all_reached board positions are numbering are_numbers _ (IsAnswerable board)
     (AnswerLeadsOver positions numbering board) is (answer_moves board positions numbering)
-    (λ number is_number some. add_all (IsAnswerStepOver positions numbering board (numbering.places number)) board.pebbles
+    (λ number is_number some. add_all (IsAnswerStepOver positions numbering board (numbering.places number))
+    board.pebbles
     (λ pebble to step. step.is_pebble)
     (λ pebble. answer_step board positions are numbering (numbering.places number) pebble
     (are_numbers.is number is_number) some))
@@ -181,7 +195,8 @@ answers_reach board positions are numbering are_numbers is =
 -- ---- best requests
 
 -- a label leads to one class, or to none
-request_step : (board : PlainBoard) (positions : Positions) (numbering : Numbering) (c : List ℕ) (label : ℕ) → IsConfiguration board c →
+request_step : (board : PlainBoard) (positions : Positions) (numbering : Numbering) (c : List ℕ) (label : ℕ)
+    → IsConfiguration board c →
     label < board.labels
     → OneOrNone (IsRequestStepOver positions numbering board c label)
 request_step board positions numbering c label is is_label = let value = some_value board c is in by value.0 value.1
@@ -208,12 +223,15 @@ request_step board positions numbering c label is is_label = let value = some_va
               (subst (λ (p : ℕ). Legal board c p label) (one step.pebble step.best) step.legal).dominates)
         ]
 
-pub requests_reach : (board : PlainBoard) (positions : Positions) → ArePositions board positions → (numbering : Numbering)
+pub requests_reach : (board : PlainBoard) (positions : Positions) → ArePositions board positions
+    → (numbering : Numbering)
     → IsNumbering board numbering → IsConfiguration board board.start
     → (numbers : List ℕ) × AreAll numbering (IsReachedByRequestsOver positions numbering board) (Contains numbers)
 requests_reach board positions are numbering are_numbers is =
     all_reached board positions are numbering are_numbers _ (λ c. Unit {0})
     (RequestLeadsOver positions numbering board) is (request_moves board positions numbering)
-    (λ number is_number holds. add_all (IsRequestStepOver positions numbering board (numbering.places number)) board.labels
+    (λ number is_number holds. add_all (IsRequestStepOver positions numbering board (numbering.places number))
+    board.labels
     (λ label to step. step.legal.is_label)
-    (λ label. request_step board positions numbering (numbering.places number) label (are_numbers.is number is_number))) (inl tt)
+    (λ label. request_step board positions numbering (numbering.places number) label (are_numbers.is number is_number)))
+    (inl tt)

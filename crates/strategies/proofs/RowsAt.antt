@@ -89,7 +89,8 @@ module _ {R : Type 0} (board : PlainBoard) (numbering : Numbering) (are : IsNumb
   pub rows_ascend : (numbers : List ℕ) (rows : List R) → AreRowsAt numbering side numbers rows
       → AllPairs (λ first second. first < second) numbers → ((number : ℕ) → Contains numbers number
       → numbering.IsNumber number)
-      → AllPairs (λ first second. numbering.number (side.at first) < numbering.number (side.at second)) (map side.shown rows)
+      → AllPairs (λ first second. numbering.number (side.at first) < numbering.number (side.at second))
+      (map side.shown rows)
   rows_ascend [] rows none ascend below = subst
       (λ (l : List R). AllPairs (λ first second. numbering.number (side.at first) < numbering.number (side.at second))
       (map side.shown l))

@@ -15,9 +15,11 @@ use Rattle.strategies.proofs.RowsAt.{rows_append}
 module _ {R : Type 0} (board : PlainBoard) (side : Side R) {S : Type 0} (items : S → List R) where
   -- the rows that were made of each part are, side by side, those of all parts
   side_by_side : (E : Type 0) (parts : List (Bor (List ℕ))) (made : List S)
-      → AllZip (λ (x : Bor (List ℕ)) (y : Result S E). IfOk y (λ s. AreRowsAt (by_order board) side x.now (items s))) parts
+      → AllZip (λ (x : Bor (List ℕ)) (y : Result S E). IfOk y (λ s. AreRowsAt (by_order board) side x.now (items s)))
+      parts
       (map Ok made)
-      → AreRowsAt (by_order board) side (flat_map (λ l. l) (map (λ (x : Bor (List ℕ)). x.now) parts)) (flat_map items made)
+      → AreRowsAt (by_order board) side (flat_map (λ l. l) (map (λ (x : Bor (List ℕ)). x.now) parts))
+      (flat_map items made)
   side_by_side E [] [] are = refl
   side_by_side E [] (s ∷ made) are = absurd are
   side_by_side E (x ∷ parts) [] are = absurd are
@@ -27,7 +29,8 @@ module _ {R : Type 0} (board : PlainBoard) (side : Side R) {S : Type 0} (items :
       (sym (flat_map-cons items s made))
       (subst (λ (l : List ℕ). AreRowsAt (by_order board) side l (items s ++ flat_map items made))
       (sym (flat_map-cons (λ l. l) x.now (map (λ (y : Bor (List ℕ)). y.now) parts)))
-      (rows_append board (by_order board) (are_orders board) side x.now (flat_map (λ l. l) (map (λ (y : Bor (List ℕ)). y.now) parts)) (items s)
+      (rows_append board (by_order board) (are_orders board) side x.now
+      (flat_map (λ l. l) (map (λ (y : Bor (List ℕ)). y.now) parts)) (items s)
       (flat_map items made)
       are.0 (side_by_side E parts made are.1)))
 
@@ -48,4 +51,5 @@ module _ {R : Type 0} (board : PlainBoard) (side : Side R) {S : Type 0} (items :
       let whole : flat_map (λ l. l) (map (λ (x : Bor (List ℕ)). x.now) parts) ≡ numbers =
       ap (λ (l : List (List ℕ)). flat_map (λ x. x) l) parts_are ∙ chunks_of-concat size numbers some in
       subst (λ (l : List S). AreRowsAt (by_order board) side numbers (flat_map items l)) (sym gathered.2)
-      (subst (λ (l : List ℕ). AreRowsAt (by_order board) side l (flat_map items all)) whole (side_by_side E parts all each))
+      (subst (λ (l : List ℕ). AreRowsAt (by_order board) side l (flat_map items all)) whole
+      (side_by_side E parts all each))

@@ -21,7 +21,8 @@ use Rattle.strategies.specs.PositionDocument.{IsLabellerRowOver, IsAdversaryRowO
 use Rattle.strategies.specs.Example.{small_board, small_document}
 use Rattle.strategies.proofs.ValueOrder.{not_less}
 use Rattle.strategies.proofs.BestRequests as requests
-use Rattle.strategies.proofs.DocumentForm.{start_answerable, not_answerable}
+use Rattle.strategies.proofs.DocumentForm.{not_answerable}
+use Rattle.strategies.proofs.FormedRows.{start_answerable}
 use Rattle.strategies.proofs.OneList.{one_answer_row, one_request_row}
 use Rattle.strategies.proofs.PositionLaws.{are_plain}
 use Rattle.strategies.proofs.RowLists.{one_row}
@@ -196,7 +197,8 @@ only_start ((pebble, label) ∷ moves) to leads some =
 labeller_rows : AreExactlyOver (rank_of small_board) (IsLabellerRowOver configuration_positions small_board (Finite 1))
     (λ (row : AnswerRow). row.at) small_document.labeller
 labeller_rows =
-    one_row (rank_of small_board) (λ (row : AnswerRow). row.at) (IsLabellerRowOver configuration_positions small_board (Finite 1)) answers is_labeller_row
+    one_row (rank_of small_board) (λ (row : AnswerRow). row.at)
+    (IsLabellerRowOver configuration_positions small_board (Finite 1)) answers is_labeller_row
     (λ row is. one_answer_row small_board configuration_positions (Finite 1) answers row is_labeller_row is
     (only_start is.moves row.at is.reached (record { value = is.value; has_value = is.has_value; some = is.some })))
 
@@ -237,14 +239,23 @@ one_of_two row is = by is.moves is.reached
   where
     by : (moves : List (ℕ × ℕ)) → Leads (IsRequestMove small_board) start moves row.at
         → Contains (first_request ∷ second_request ∷ []) row
-    by [] leads = (0, omega arith, one_request_row small_board configuration_positions (are_plain small_board) first_request row is_first is leads)
+    by [] leads = (
+      0,
+      omega arith,
+      one_request_row small_board configuration_positions (are_plain small_board)
+          first_request row is_first is leads,
+    )
     by ((pebble, label) ∷ moves) leads =
         let asked : pebble ≡ 0 = requests.same_request small_board start pebble 0 leads.0.best best_at_start in
         let taken : label ≡ 1 = (legal_is start pebble (start_held pebble) label leads.0.legal).0 in
         let rest : Leads (IsRequestMove small_board) (after 0) moves row.at =
         subst (λ (l : ℕ). Leads (IsRequestMove small_board) (moved start 0 l) moves row.at) taken
-        (subst (λ (p : ℕ). Leads (IsRequestMove small_board) (moved start p label) moves row.at) asked leads.1) in
-        (1, omega arith, one_request_row small_board configuration_positions (are_plain small_board) second_request row is_second is (then_after moves row.at rest))
+        (subst (λ (p : ℕ). Leads (IsRequestMove small_board) (moved start p label) moves row.at) asked leads.1) in (
+          1,
+          omega arith,
+          one_request_row small_board configuration_positions (are_plain small_board) second_request row
+              is_second is (then_after moves row.at rest),
+        )
 
 adversary_rows : AreExactlyOver (rank_of small_board)
     (λ (row : RequestRow). AsksAdversary (Finite 1) × IsAsked row)

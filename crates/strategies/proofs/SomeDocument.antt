@@ -41,7 +41,8 @@ module _ {R : Type 0} (board : PlainBoard) (numbering : Numbering) (are : IsNumb
       ⊎ ((row : side.Row) → side.IsRow row → numbering.number (side.at row) ≡ number → ⊥)
 
   module _ (numbers : List ℕ) (all : AreAll numbering side.IsReached (Contains numbers))
-      (stands : (number : ℕ) → numbering.IsNumber number → side.IsReached number → StandsOrNot (numbering.places number))
+      (stands : (number : ℕ) → numbering.IsNumber number → side.IsReached number
+      → StandsOrNot (numbering.places number))
     where
       at_places : (number : ℕ) (row : side.Row) → side.IsRow row → numbering.number (side.at row) ≡ number
           → side.at row ≡ numbering.places number

@@ -72,7 +72,8 @@ module _ (P : ℕ → Type 0) (Leads : ℕ → ℕ → Type 0) where
 -- ---- the places that moves of one kind lead to
 
 -- `Leads` says that a move of the kind, and to normal places with the property, leads from places to others
-pub record AreMoves (board : PlainBoard) (positions : Positions) (numbering : Numbering) (IsMove : List ℕ → ℕ → ℕ → Type 0)
+pub record AreMoves (board : PlainBoard) (positions : Positions) (numbering : Numbering)
+    (IsMove : List ℕ → ℕ → ℕ → Type 0)
     (Holds : List ℕ → Type 0) (Leads : ℕ → ℕ → Type 0) : Type 0 where
   pub is_label : (c : List ℕ) (pebble label : ℕ) → IsMove c pebble label → label < board.labels
   pub before : (c : List ℕ) (pebble label : ℕ) → IsMove c pebble label → Holds c
@@ -85,7 +86,8 @@ pub record AreMoves (board : PlainBoard) (positions : Positions) (numbering : Nu
       × Holds (positions.normal (moved (numbering.places number) pebble label))
 
 pub answer_moves : (board : PlainBoard) (positions : Positions) (numbering : Numbering)
-    → AreMoves board positions numbering (IsAnswerMove board) (IsAnswerable board) (AnswerLeadsOver positions numbering board)
+    → AreMoves board positions numbering (IsAnswerMove board) (IsAnswerable board)
+    (AnswerLeadsOver positions numbering board)
 answer_moves board positions numbering = record {
   is_label = λ c pebble label move. move.best.0.legal.is_label;
   before = λ c pebble label move. move.answerable;
@@ -101,7 +103,8 @@ answer_moves board positions numbering = record {
 }
 
 pub request_moves : (board : PlainBoard) (positions : Positions) (numbering : Numbering)
-    → AreMoves board positions numbering (IsRequestMove board) (λ c. Unit {0}) (RequestLeadsOver positions numbering board)
+    → AreMoves board positions numbering (IsRequestMove board) (λ c. Unit {0})
+    (RequestLeadsOver positions numbering board)
 request_moves board positions numbering = record {
   is_label = λ c pebble label move. move.legal.is_label;
   before = λ c pebble label move. tt;
@@ -133,7 +136,8 @@ IsSpreadByRequests board normal = IsSpreadBy board (normal_positions normal) (by
     (λ c. Unit {0}) (ClassRequestLeads board normal)
 
 module _ (board : PlainBoard) (positions : Positions) (are_positions : ArePositions board positions)
-    (numbering : Numbering) (are_numbers : IsNumbering board numbering) (IsMove : List ℕ → ℕ → ℕ → Type 0) (Holds : List ℕ → Type 0) (Leads : ℕ → ℕ → Type 0)
+    (numbering : Numbering) (are_numbers : IsNumbering board numbering) (IsMove : List ℕ → ℕ → ℕ → Type 0)
+    (Holds : List ℕ → Type 0) (Leads : ℕ → ℕ → Type 0)
     (is : IsConfiguration board board.start) where
   abbrev start : List ℕ
   start = positions.normal board.start
@@ -142,7 +146,8 @@ module _ (board : PlainBoard) (positions : Positions) (are_positions : ArePositi
   abbrev pub IsStart : ℕ → Type 0
   IsStart number = Holds start × (number ≡ number_over positions numbering board.start)
 
-  pub spread_begins : (numbers : List ℕ) → IsWithAll [] IsStart numbers → IsSpreadBy board positions numbering IsMove Holds Leads
+  pub spread_begins : (numbers : List ℕ) → IsWithAll [] IsStart numbers → IsSpreadBy board positions numbering IsMove
+      Holds Leads
       0 numbers
   spread_begins numbers begun = record {
     on = record {
@@ -172,7 +177,8 @@ module _ (board : PlainBoard) (positions : Positions) (are_positions : ArePositi
         (are_numbers.is number found.0) in
         let here : numbering.places to ≡ positions.normal next =
         ap numbering.places to_is ∙ are_numbers.places_are (positions.normal next) (are_positions.is next is_next) in (
-          subst numbering.IsNumber (sym to_is) (are_numbers.number_is (positions.normal next) (are_positions.is next is_next)),
+          subst numbering.IsNumber (sym to_is)
+              (are_numbers.number_is (positions.normal next) (are_positions.is next is_next)),
           record {
             moves = found.1.moves ++ (pebble, label) ∷ [];
             reached = subst (LeadsOver positions IsMove start (found.1.moves ++ (pebble, label) ∷ []))
@@ -182,17 +188,21 @@ module _ (board : PlainBoard) (positions : Positions) (are_positions : ArePositi
           },
         )
 
-    pub spread_more : (place number : ℕ) (numbers more : List ℕ) → IsSpreadBy board positions numbering IsMove Holds Leads place
+    pub spread_more : (place number : ℕ) (numbers more : List ℕ) → IsSpreadBy board positions numbering IsMove Holds
+        Leads place
         numbers
         → slice_get numbers place ≡ Some number
-        → IsWithAll numbers (Leads number) more → IsSpreadBy board positions numbering IsMove Holds Leads (place + 1) more
+        → IsWithAll numbers (Leads number) more → IsSpreadBy board positions numbering IsMove Holds Leads (place + 1)
+        more
     spread_more place number numbers more spread here added = record {
-      on = spread_step (IsFound board positions numbering IsMove Holds Leads) Leads place number numbers more spread.on here added
+      on = spread_step (IsFound board positions numbering IsMove Holds Leads) Leads place number numbers more spread.on
+          here added
           (λ to. keeps to number);
       start = λ holds. (added.each (number_over positions numbering board.start)).1 (inl (spread.start holds));
     }
 
-    pub spread_ends : (place : ℕ) (numbers : List ℕ) → IsSpreadBy board positions numbering IsMove Holds Leads place numbers
+    pub spread_ends : (place : ℕ) (numbers : List ℕ) → IsSpreadBy board positions numbering IsMove Holds Leads place
+        numbers
         → slice_get numbers place ≡ None
         → AreAll numbering (IsReachedOver positions numbering board IsMove Holds) (Contains numbers)
     spread_ends place numbers spread end number = (

@@ -175,7 +175,8 @@ IsSweptByRequests board = IsSweptBy board (IsRequestMove board) (λ c. Unit {0})
 module _ (board : PlainBoard) (IsMove : List ℕ → ℕ → ℕ → Type 0) (Holds : List ℕ → Type 0) (Leads : ℕ → ℕ → Type 0)
     (is : IsConfiguration board board.start) where
   pub sweep_begins : (size : ℕ) (marks : ReachedMarks) → size ≡ configurations board
-      → AreReachedWith (none_reached size) (IsStart board configuration_positions (are_plain board) (by_rank board) (are_ranks board)
+      → AreReachedWith (none_reached size)
+      (IsStart board configuration_positions (are_plain board) (by_rank board) (are_ranks board)
       IsMove Holds Leads is) marks
       → length (none_reached size).reached ≡ size
       → IsSweptBy board IsMove Holds Leads marks
@@ -209,8 +210,10 @@ module _ (board : PlainBoard) (IsMove : List ℕ → ℕ → ℕ → Type 0) (Ho
         → AreReachedWith (taken_from marks rank) (Leads rank) after → IsSweptBy board IsMove Holds Leads after
     sweep_more marks after rank swept is_left with = record {
       size = with.size ∙ swept.size;
-      on = sweep_step (IsFound board configuration_positions (by_rank board) IsMove Holds Leads) Leads marks after rank is_left swept.on with
-          (λ to. keeps board configuration_positions (are_plain board) (by_rank board) (are_ranks board) IsMove Holds Leads is are
+      on = sweep_step (IsFound board configuration_positions (by_rank board) IsMove Holds Leads) Leads marks after rank
+          is_left swept.on with
+          (λ to. keeps board configuration_positions (are_plain board) (by_rank board) (are_ranks board) IsMove Holds
+          Leads is are
           to rank);
       start = λ holds. (with.each (rank_of board board.start)).1 (inl (swept.start holds));
     }
@@ -240,7 +243,9 @@ module _ (board : PlainBoard) (IsMove : List ℕ → ℕ → ℕ → Type 0) (Ho
               swept.on.done (rank_of board c) to there.1 (none (rank_of board c)) leads,
             )
 
-        all : IsReachedOver configuration_positions (by_rank board) board IsMove Holds rank → P (configuration_at board rank)
-        all reached = moves_stay configuration_positions IsMove Holds P are.before step board.start reached.moves (configuration_at board rank)
+        all : IsReachedOver configuration_positions (by_rank board) board IsMove Holds rank
+            → P (configuration_at board rank)
+        all reached = moves_stay configuration_positions IsMove Holds P are.before step board.start reached.moves
+            (configuration_at board rank)
             (λ holds. (is, swept.start holds))
             reached.reached reached.holds

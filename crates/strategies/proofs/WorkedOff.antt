@@ -12,7 +12,8 @@ use Rattle.strategies.proofs.SpreadMoves.{IsSpreadBy}
 
 module _ (board : PlainBoard) (normal : List ℕ → List ℕ) (IsMove : List ℕ → ℕ → ℕ → Type 0)
     (Holds : List ℕ → Type 0) (Leads : ℕ → ℕ → Type 0)
-    (place number : ℕ) (numbers : List ℕ) (spread : IsSpreadBy board (normal_positions normal) (by_order board) IsMove Holds Leads place numbers)
+    (place number : ℕ) (numbers : List ℕ)
+    (spread : IsSpreadBy board (normal_positions normal) (by_order board) IsMove Holds Leads place numbers)
     (once : AllPairs (λ first second. first ≢ second) numbers) (there : slice_get numbers place ≡ Some number) where
   pub place_below : place < last_number board
   place_below =

@@ -87,7 +87,8 @@ module _ {R : Type 0} (board : PlainBoard) (side : Side R) (line : R → List �
       → AreSectionLines board side line (lines ∷ [])
   one_part marks end lines reached enough are = record {
     rows = are.are_lines.rows;
-    are_rows = section_of_marks board (by_rank board) (are_ranks board) side marks end are.ranks are.are_lines.rows reached (ranks_end board end enough) are.listed
+    are_rows = section_of_marks board (by_rank board) (are_ranks board) side marks end are.ranks are.are_lines.rows
+        reached (ranks_end board end enough) are.listed
         are.are_lines.are_rows;
     bytes_are = flat_map-cons (λ (part : Lines). part.bytes.items) lines [] ∙ append-nil lines.bytes.items
         ∙ are.are_lines.bytes_are;
@@ -95,7 +96,8 @@ module _ {R : Type 0} (board : PlainBoard) (side : Side R) (line : R → List �
   }
 
   -- there are no more rows than configurations
-  pub few_lines : (parts : List Lines) → configurations board ≤ MAX_CONFIGURATIONS → AreOfReached (by_rank board) board side
+  pub few_lines : (parts : List Lines) → configurations board ≤ MAX_CONFIGURATIONS → AreOfReached (by_rank board) board
+      side
       → AreSectionLines board side line parts → sum_by (λ (part : Lines). part.rows) parts ≤ MAX_CONFIGURATIONS
   few_lines parts few of_reached are =
       let formed = section board side.IsRow (λ row. Unit {0}) side.at (map side.shown are.rows) few
@@ -176,15 +178,18 @@ module _ (board : PlainBoard) (is_start : IsConfiguration board board.start) (si
       labellers_are : (are : AreSectionLines board (labeller_side board value) (labeller_line board) labeller)
           → asks_labeller claim ≡ true → (document_for side document).labeller ≡ map (answer_row board) are.rows
       labellers_are are asked = labeller_is side value document strategy asked
-          ∙ same_rows (rank_of board) (IsLabellerRowOver configuration_positions board value) (λ (row : AnswerRow). row.at) document.labeller
+          ∙ same_rows (rank_of board) (IsLabellerRowOver configuration_positions board value)
+          (λ (row : AnswerRow). row.at) document.labeller
           (map (answer_row board) are.rows)
-          (subst (λ (v : Value). AreExactlyOver (rank_of board) (IsLabellerRowOver configuration_positions board v) (λ (row : AnswerRow). row.at)
+          (subst (λ (v : Value). AreExactlyOver (rank_of board) (IsLabellerRowOver configuration_positions board v)
+          (λ (row : AnswerRow). row.at)
           document.labeller) same is_document.labeller) are.are_rows.exactly
 
       adversarys_are : (are : AreSectionLines board (adversary_side board value) (adversary_line board) adversary)
           → asks_adversary claim ≡ true → (document_for side document).adversary ≡ map (request_row board) are.rows
       adversarys_are are asked = adversary_is side value document strategy asked
-          ∙ same_rows (rank_of board) (IsAdversaryRowOver configuration_positions board) (λ (row : RequestRow). row.at) document.adversary
+          ∙ same_rows (rank_of board) (IsAdversaryRowOver configuration_positions board) (λ (row : RequestRow). row.at)
+          document.adversary
           (map (request_row board) are.rows)
           (same_fact (rank_of board) (λ (row : RequestRow). row.at) _ _ document.adversary
           (λ row. ((λ is. is.1), (λ is. (subst AsksAdversary (sym same) (asks_finite side value asked), is))))

@@ -79,7 +79,8 @@ impl RankMoves<'_> {
         requires value { HasValue self.now self.now.start value }
         requires start { IsConfiguration self.now self.now.start }
         requires few { configurations self.now ≤ MAX_CONFIGURATIONS }
-        requires labeller { AreSection (by_rank self.now) (labeller_side self.now value) labeller.items }
+        requires labeller { AreSection (by_rank self.now) (labeller_side self.now value)
+            labeller.items }
         requires adversary { AreAdversaryRows self.now value adversary.items }
         ensures document { IsDocumentOf self.now (plain_proof self.now result) }
         ensures form { IsDocument self.now result }

@@ -68,10 +68,12 @@ pub fn one_document_of_a_board()
         → IsDocumentOf board first → IsDocumentOf board second → first ≡ second }
     ensures labeller { (board : PlainBoard) → (start : ValueData) → (first : AnswerRow)
         → (second : AnswerRow)
-        → IsLabellerRowOver configuration_positions board start first → IsLabellerRowOver configuration_positions board start second
+        → IsLabellerRowOver configuration_positions board start first
+        → IsLabellerRowOver configuration_positions board start second
         → first.at ≡ second.at → first ≡ second }
     ensures adversary { (board : PlainBoard) → (first : RequestRow) → (second : RequestRow)
-        → IsAdversaryRowOver configuration_positions board first → IsAdversaryRowOver configuration_positions board second → first.at ≡ second.at
+        → IsAdversaryRowOver configuration_positions board first
+        → IsAdversaryRowOver configuration_positions board second → first.at ≡ second.at
         → first ≡ second }
 {}
 

@@ -94,7 +94,8 @@ fn lines_of_spans<R: SectionRow + Send + Sync>(
         .map(
             |span: u32| -> Result<Lines, Memory>
                 requires words { words.now ≡ moves.now.labels }
-                requires reached { AreReached (by_rank moves.now) moves.now (R.side moves.now start) (IsMarked marks) }
+                requires reached { AreReached (by_rank moves.now) moves.now (R.side moves.now start)
+                    (IsMarked marks) }
                 requires end { span * size + size < 2 ^ 32 }
                 ensures { IfOk result (AreLinesBetween moves.entry.now
                     (R.side moves.entry.now start) (R.line moves.entry.now) marks
@@ -119,7 +120,8 @@ fn lines_between<R: SectionRow>(
     span: Range<u32>,
 ) -> Result<Lines, Memory>
     requires words { words.now ≡ moves.now.labels }
-    requires reached { AreReached (by_rank moves.now) moves.now (R.side moves.now start) (IsMarked marks.now) }
+    requires reached { AreReached (by_rank moves.now) moves.now (R.side moves.now start)
+        (IsMarked marks.now) }
     requires span { span.start ≤ span.end }
     ensures { IfOk result (AreLinesBetween moves.now (R.side moves.now start) (R.line moves.now)
         marks.now span.start span.end) }

@@ -19,7 +19,8 @@ pub(crate) fn section<R: SectionRow>(
     moves: &RankMoves<'_>,
     start: Value,
 ) -> Result<Vec<R>, Memory>
-    ensures { IfOk result (λ rows. AreSection (by_rank moves.now) (R.side moves.now start) rows.items) }
+    ensures { IfOk result
+        (λ rows. AreSection (by_rank moves.now) (R.side moves.now start) rows.items) }
 {
     let marks = R::reached(moves, alloc)?;
     rows_at(alloc, moves, start, &marks)
@@ -32,8 +33,10 @@ fn rows_at<R: SectionRow>(
     start: Value,
     marks: &Marks,
 ) -> Result<Vec<R>, Memory>
-    requires { AreReached (by_rank moves.now) moves.now (R.side moves.now start) (IsMarked marks.now) }
-    ensures { IfOk result (λ rows. AreSection (by_rank moves.now) (R.side moves.now start) rows.items) }
+    requires { AreReached (by_rank moves.now) moves.now (R.side moves.now start)
+        (IsMarked marks.now) }
+    ensures { IfOk result
+        (λ rows. AreSection (by_rank moves.now) (R.side moves.now start) rows.items) }
 {
     let mut walk = Walk::at(moves, moves.start());
     let mut rows = Vec::new(alloc);

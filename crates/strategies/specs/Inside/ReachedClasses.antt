@@ -6,7 +6,8 @@ use Rattle.positions.specs.Game.{Legal, moved}
 use Rattle.proof_text.specs.Arranged.{arranged, order_number}
 use Rattle.proof_text.specs.Positions.{normal_positions}
 use Rattle.strategies.specs.Inside.Numbering.{by_order}
-use Rattle.strategies.specs.Inside.ReachedOver.{number_over, IsAnswerStepOver, AnswerLeadsOver, RequestLeadsOver}
+use Rattle.strategies.specs.Inside.ReachedOver.{number_over, IsAnswerStepOver, AnswerLeadsOver}
+use Rattle.strategies.specs.Inside.ReachedOver.{RequestLeadsOver}
 use Rattle.strategies.specs.Inside.ReachedOver.{IsReachedByAnswersOver, IsReachedByRequestsOver}
 
 -- the number of the class of a configuration

@@ -8,8 +8,8 @@ use Rattle.strategies.specs.Inside.Numbering.{by_rank}
 use Rattle.strategies.specs.Inside.ReachedOver.{IsAnswerStepOver, AnswerLeadsOver, RequestLeadsOver}
 use Rattle.strategies.specs.Inside.ReachedOver.{IsReachedByAnswersOver}
 
--- the best answer to a request of the pebble leads from one rank to the other, which has a value of 1
--- or more
+-- the best answer to a request of the pebble leads from one rank to the other, which has a value of
+-- 1 or more
 abbrev pub IsAnswerStep : PlainBoard → ℕ → ℕ → ℕ → Type 0
 IsAnswerStep board from =
     IsAnswerStepOver configuration_positions (by_rank board) board (configuration_at board from)

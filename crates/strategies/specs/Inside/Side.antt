@@ -71,7 +71,8 @@ pub record AreOfReached {R : Type 0} (numbering : Numbering) (board : PlainBoard
   pub one : (first second : side.Row) → side.IsRow first → side.IsRow second
       → side.at first ≡ side.at second → first ≡ second
 
--- exactly the numbers of places that a row may stand at are among these, and rows stand at no others
+-- exactly the numbers of places that a row may stand at are among these, and rows stand at no
+-- others
 pub record AreReached {R : Type 0} (numbering : Numbering) (board : PlainBoard) (side : Side R)
     (Among : ℕ → Type 0) : Type 0 where
   pub each : AreAll numbering side.IsReached Among

@@ -12,7 +12,7 @@ use Rattle.strategies.specs.Sides.{claim_for}
 use Rattle.strategies.proofs.ClassesMade.{class_form_made, class_rules_made, whole_made}
 use Rattle.strategies.proofs.LongDocuments.{adversary_unmade, class_unmade, labeller_unmade}
 use Rattle.strategies.proofs.NormalForms.{arranged_form, by_none}
-use Rattle.strategies.proofs.OneSide.{always_asked}
+use Rattle.strategies.proofs.FormedRows.{always_asked}
 use Rattle.strategies.proofs.class_documents.document_by_classes.Goals as goal
 
 pub section-requires : goal.section-requires

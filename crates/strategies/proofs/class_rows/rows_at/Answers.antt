@@ -18,12 +18,15 @@ loop-number-preserved g c =
     elim c.match-at.branch [
       | in-Some+in_ok-push w ↦
           let items : w.push.new.self.items ≡ c.loop-number.rows.items ++ w.in-Some.row ∷ [] = search rules in
-          rw (w.rows-is, items, more) (rows_push board (by_order board) (are_orders board) side (take index numbers) (get_or numbers index 0)
+          rw (w.rows-is, items, more)
+          (rows_push board (by_order board) (are_orders board) side (take index numbers) (get_or numbers index 0)
           c.loop-number.rows.items
           (Some w.in-Some.row) c.loop-number.invariant w.in-Some.ensures)
       | in_default w ↦
-          rw (w.rows-is, more) (subst (AreRowsAt (by_order board) side (take index numbers ++ get_or numbers index 0 ∷ []))
+          rw (w.rows-is, more) (subst
+          (AreRowsAt (by_order board) side (take index numbers ++ get_or numbers index 0 ∷ []))
           (append-nil c.loop-number.rows.items)
-          (rows_push board (by_order board) (are_orders board) side (take index numbers) (get_or numbers index 0) c.loop-number.rows.items None
+          (rows_push board (by_order board) (are_orders board) side (take index numbers) (get_or numbers index 0)
+          c.loop-number.rows.items None
           c.loop-number.invariant w.in_default.ensures))
     ]

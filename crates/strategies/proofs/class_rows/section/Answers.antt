@@ -10,13 +10,15 @@ rows_at-requires g c =
     let board = g.M.Moves.board c.args.moves.now in
     let side = g.R.ClassSectionRow.side board (normal_by board c.args.normal.now) c.args.start in
     rw c.deref.ensures.value
-    (may_stand board (by_order board) (are_orders board) side _ _ (c.in_ok-reached.ensures.ok c.args.start) c.in_ok-numbers.ensures)
+    (may_stand board (by_order board) (are_orders board) side _ _ (c.in_ok-reached.ensures.ok c.args.start)
+    c.in_ok-numbers.ensures)
 
 pub returns-clause-ok : goal.returns-clause-ok
 returns-clause-ok g c =
     let board = g.M.Moves.board c.args.moves.now in
     let side = g.R.ClassSectionRow.side board (normal_by board c.args.normal.now) c.args.start in
-    section_in_order board (by_order board) (are_orders board) side _ _ c.in_ok-rows.rows.items (c.in_ok-reached.ensures.ok c.args.start)
+    section_in_order board (by_order board) (are_orders board) side _ _ c.in_ok-rows.rows.items
+    (c.in_ok-reached.ensures.ok c.args.start)
     c.in_ok-numbers.ensures (rw c.deref.ensures.value at c.in_ok-rows.ensures)
 
 pub returns-in_err-reached-clause-fault : goal.returns-in_err-reached-clause-fault

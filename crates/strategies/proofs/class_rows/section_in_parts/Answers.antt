@@ -14,7 +14,8 @@ rows_in_parts-requires-clause-numbers g c = λ κs lives.
     let board = g.M.Moves.board c.args.moves.now in
     let side = g.R.ClassSectionRow.side board (normal_by board c.args.normal.now) c.args.start in
     rw c.deref.ensures.value
-    (may_stand board (by_order board) (are_orders board) side _ _ (c.in_ok-reached.ensures.ok c.args.start) c.in_ok-numbers.ensures)
+    (may_stand board (by_order board) (are_orders board) side _ _ (c.in_ok-reached.ensures.ok c.args.start)
+    c.in_ok-numbers.ensures)
 
 pub returns-clause-ok : goal.returns-clause-ok
 returns-clause-ok g c =
@@ -26,7 +27,8 @@ returns-clause-ok g c =
     take_all c.loop-part.part-index c.deref-part-items.result.now past ∙ c.deref-part-items.ensures.value in
     let rows : c.loop-part.rows.items ≡ flat_map (λ part. part.items) c.in_ok-rows_in_parts.field-0.items =
     c.loop-part.invariant ∙ ap (flat_map (λ part. part.items)) all in
-    section_in_order board (by_order board) (are_orders board) side _ _ c.loop-part.rows.items (c.in_ok-reached.ensures.ok c.args.start)
+    section_in_order board (by_order board) (are_orders board) side _ _ c.loop-part.rows.items
+    (c.in_ok-reached.ensures.ok c.args.start)
     c.in_ok-numbers.ensures
     (subst (AreRowsAt (by_order board) side c.in_ok-numbers.numbers.items) (sym rows) made)
 

@@ -54,7 +54,8 @@ loop-rank-preserved g c =
             here = here;
             ranks = ranks;
             listed = listed;
-            rows = rw (w.rows-is, items) (rows_push board (by_rank board) (are_ranks board) side was.ranks c.in-Some.rank c.loop-rank.rows.items
+            rows = rw (w.rows-is, items)
+                (rows_push board (by_rank board) (are_ranks board) side was.ranks c.in-Some.rank c.loop-rank.rows.items
                 (Some w.in-Some-at.row) was.rows (rw here at w.in-Some-at.ensures));
           }
       | in_default-at w ↦
@@ -63,7 +64,8 @@ loop-rank-preserved g c =
             ranks = ranks;
             listed = listed;
             rows = rw w.rows-is (subst (AreRowsAt (by_rank board) side ranks) (append-nil c.loop-rank.rows.items)
-                (rows_push board (by_rank board) (are_ranks board) side was.ranks c.in-Some.rank c.loop-rank.rows.items None was.rows
+                (rows_push board (by_rank board) (are_ranks board) side was.ranks c.in-Some.rank c.loop-rank.rows.items
+                None was.rows
                 (rw here at w.in_default-at.ensures)));
           }
     ]
@@ -74,7 +76,8 @@ returns g c =
     let side = g.R.SectionRow.side board c.args.start in
     let was = c.loop-rank.invariant in
     let end : ℕ = c.loop-rank.from + configurations board in
-    section_of_marks board (by_rank board) (are_ranks board) side c.args.marks.now end was.ranks c.loop-rank.rows.items c.requires
+    section_of_marks board (by_rank board) (are_ranks board) side c.args.marks.now end was.ranks c.loop-rank.rows.items
+    c.requires
     (ranks_end board end (omega arith))
     (all_listed (IsMarked c.args.marks.now) 0 c.loop-rank.from end was.ranks (omega arith) was.listed
     (λ number above below is. c.in_default.ensures.first number (above, is))) was.rows

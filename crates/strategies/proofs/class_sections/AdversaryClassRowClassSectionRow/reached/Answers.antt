@@ -25,7 +25,8 @@ loop-number-init g c =
     let number_is : c.order.result ≡ normal_number b normal b.start =
     rw (c.start.ensures.value, c.board-board.ensures) at c.order.ensures in
     record {
-      spread = spread_begins b _ (are_normal b normal c.requires.form) _ (are_orders b) _ _ _ (is_start g (goal.at.loop-number-init g c).After-start) _
+      spread = spread_begins b _ (are_normal b normal c.requires.form) _ (are_orders b) _ _ _
+          (is_start g (goal.at.loop-number-init g c).After-start) _
           (added_one _ _ _ _ (rw (c.new-reached.ensures, number_is) at c.in_ok-add.ensures) (tt, refl)
           (λ number starts. starts.1));
       expanded = rw c.new-expanded.ensures (none_expanded b _ _);
@@ -58,7 +59,8 @@ loop-number-preserved g c =
     record {
       spread = spread_more (g.M.Moves.board c.args.moves.now) _
           (are_normal (g.M.Moves.board c.args.moves.now) _ c.requires.form) _
-          (are_orders (g.M.Moves.board c.args.moves.now)) _ _ _ (is_start g (goal.at.loop-number-preserved g c).After-start)
+          (are_orders (g.M.Moves.board c.args.moves.now)) _ _ _
+          (is_start g (goal.at.loop-number-preserved g c).After-start)
           (request_moves (g.M.Moves.board c.args.moves.now) _ _) c.loop-number.index c.in-Some.number _ _
           c.loop-number.invariant.spread (sym c.in-Some.ensures.number) c.in_ok-add_results.ensures.added;
       expanded = c.in_ok-add_results.ensures.expanded;
@@ -70,7 +72,8 @@ returns-clause-ok g c = λ start.
     let b = g.M.Moves.board c.args.moves.now in
     let normal = normal_by b c.args.normal.now in
     record {
-      each = spread_ends b _ (are_normal b normal c.requires.form) _ (are_orders b) _ _ _ is (request_moves b _ _) c.loop-number.index _
+      each = spread_ends b _ (are_normal b normal c.requires.form) _ (are_orders b) _ _ _ is (request_moves b _ _)
+          c.loop-number.index _
           c.loop-number.invariant.spread (sym c.in_default.ensures.number);
       rows = adversarys b _ (are_normal b normal c.requires.form) _ is _ _;
     }

@@ -40,7 +40,8 @@ loop-number-init g c =
             (record { value = c.value.result; has_value = has_normal; some = search rules }, refl)
             (λ number starts. starts.1)))
         | else-lt w ↦ rw (w.reached-is, c.new-reached.ensures)
-            (spread_begins b _ (are_normal b normal c.requires.form) _ (are_orders b) _ _ _ is [] (added_known [] _ (λ number starts. absurd
+            (spread_begins b _ (are_normal b normal c.requires.form) _ (are_orders b) _ _ _ is []
+            (added_known [] _ (λ number starts. absurd
             (worthless b _ c.value.result has_normal (search rules) starts.0))))
       ];
       expanded = rw c.new-expanded.ensures (none_expanded b _ _);
@@ -73,7 +74,8 @@ loop-number-preserved g c =
     record {
       spread = spread_more (g.M.Moves.board c.args.moves.now) _
           (are_normal (g.M.Moves.board c.args.moves.now) _ c.requires.form) _
-          (are_orders (g.M.Moves.board c.args.moves.now)) _ _ _ (is_start g (goal.at.loop-number-preserved g c).After-start)
+          (are_orders (g.M.Moves.board c.args.moves.now)) _ _ _
+          (is_start g (goal.at.loop-number-preserved g c).After-start)
           (answer_moves (g.M.Moves.board c.args.moves.now) _ _) c.loop-number.index c.in-Some.number _ _
           c.loop-number.invariant.spread (sym c.in-Some.ensures.number) c.in_ok-add_answers.ensures.added;
       expanded = c.in_ok-add_answers.ensures.expanded;
@@ -85,7 +87,8 @@ returns-clause-ok g c = λ start.
     let b = g.M.Moves.board c.args.moves.now in
     let normal = normal_by b c.args.normal.now in
     record {
-      each = spread_ends b _ (are_normal b normal c.requires.form) _ (are_orders b) _ _ _ is (answer_moves b _ _) c.loop-number.index _
+      each = spread_ends b _ (are_normal b normal c.requires.form) _ (are_orders b) _ _ _ is (answer_moves b _ _)
+          c.loop-number.index _
           c.loop-number.invariant.spread (sym c.in_default.ensures.number);
       rows = labellers b _ (are_normal b normal c.requires.form) _ is _ _ start;
     }
