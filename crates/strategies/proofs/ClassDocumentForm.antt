@@ -34,14 +34,13 @@ use Rattle.proof_text.specs.declared.class_proof.TheConstants.{MAX_CLASS_ROWS}
 use Rattle.proof_text.proofs.Cited.{asked_is}
 use Rattle.strategies.specs.ClassDocument.{IsClassDocumentOf, FitsFormat}
 use Rattle.strategies.specs.Inside.NormalForm.{IsNormalForm}
-use Rattle.strategies.proofs.EveryClass.{IsArrangedAt}
+use Rattle.strategies.proofs.FewClasses.{IsArrangedAt, rows-few}
 use Rattle.strategies.proofs.PositionLaws.{ArePositions, are_normal}
 use Rattle.strategies.proofs.FewValues.{few_values}
 use Rattle.strategies.proofs.FormedRows.{answer_form, asked_at, claim_form, no_adversary, no_labeller, row_at}
 use Rattle.strategies.proofs.KeptRules.{start_is, start_value, answered_is, requested_is}
 use Rattle.strategies.proofs.NormalForms.{arranged_form}
 use Rattle.strategies.proofs.GatheredRows.{adversarys_normal, labellers_normal}
-use Rattle.strategies.proofs.ShownClassClaims.{rows-few}
 
 -- best requests don't raise the value
 no_more : (board : PlainBoard) (normal : List ℕ → List ℕ) (form : IsNormalForm board normal) (from : List ℕ)

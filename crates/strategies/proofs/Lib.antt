@@ -44,8 +44,7 @@ pub mod JoinedLines
 pub mod LikePebbles
 pub mod NormalForms
 pub mod ClassNumbers
-pub mod EveryClass
-pub mod EveryClaim
+pub mod FewClasses
 pub mod ShownClassClaims
 pub mod FewValues
 pub mod ClassDocumentForm
