@@ -8,11 +8,11 @@ use Rattle.positions.specs.Game.{Legal, moved}
 use Rattle.positions.specs.Value.{HasValue}
 use Rattle.positions.proofs.Cited.{moved_is_configuration}
 use Rattle.strategies.specs.Best.{IsLess, IsBestAnswer, LowersValue}
+use Rattle.strategies.specs.DocumentMoves.{IsAnswerable}
 use Rattle.strategies.specs.Inside.Numbering.{class_numbered}
 use Rattle.strategies.specs.Inside.ReachedClasses.{normal_number, IsClassAnswerStep, ClassAnswerLeads}
 use Rattle.strategies.specs.Inside.ReachedClasses.{ClassRequestLeads, IsOnlyOne}
 use Rattle.strategies.specs.Inside.ReachedRanks.{IsWith, IsWithAll}
-use Rattle.strategies.specs.PositionDocument.{IsAnswerable}
 use Rattle.strategies.proofs.AddedRanks.{Below, added_known, added_one, added_same, below_all}
 use Rattle.strategies.proofs.BestAnswers.{same_answer}
 use Rattle.strategies.proofs.ValueOrder.{worthless}

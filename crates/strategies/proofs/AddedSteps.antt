@@ -18,8 +18,8 @@ use Rattle.strategies.specs.declared.gap_best.Best.{Best}
 use Rattle.strategies.specs.Best.{IsLess, LowersValue, IsBestRequest, IsBestFor}
 use Rattle.strategies.specs.Inside.Marks.{IsMarked}
 use Rattle.strategies.specs.Inside.ReachedMarks.{ReachedMarks, AreExpanded, AreReachedWith, IsReachedWith}
+use Rattle.strategies.specs.DocumentMoves.{IsAnswerable}
 use Rattle.strategies.specs.Inside.ReachedRanks.{IsAnswerStep, RequestLeads, IsAnswerLeadingTo, IsAnswerOf}
-use Rattle.strategies.specs.PositionDocument.{IsAnswerable}
 use Rattle.strategies.proofs.ValueOrder.{worthless}
 use Rattle.strategies.proofs.BestAnswers.{same_answer}
 use Rattle.strategies.proofs.BestRequests.{same_request}

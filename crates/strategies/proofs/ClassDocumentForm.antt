@@ -18,9 +18,9 @@ use Rattle.positions.proofs.Cited.{moved_is_configuration, same_value}
 use Rattle.proof_text.specs.declared.proof.TheConstants.{MOST_TURNS}
 use Rattle.proof_text.specs.Proof.{PlainProof, IsClaim, IsAnswerRow, AreTurns, asks_labeller, asks_adversary}
 use Rattle.strategies.specs.Best.{IsLess}
+use Rattle.strategies.specs.DocumentMoves.{IsRequestMove, LeadsOver}
 use Rattle.strategies.specs.Inside.Numbering.{by_order}
-use Rattle.strategies.specs.PositionDocument.{IsRequestMove, AsksAdversary, LeadsOver, IsAdversaryRowOver}
-use Rattle.strategies.specs.PositionDocument.{IsDocumentOver}
+use Rattle.strategies.specs.PositionDocument.{AsksAdversary, IsAdversaryRowOver, IsDocumentOver}
 use Rattle.strategies.proofs.ValueOrder.{at_least, less_than_finite}
 use Rattle.classes.specs.Numbers.{class_count, ways}
 use Rattle.classes.proofs.Cited.{ways-within}

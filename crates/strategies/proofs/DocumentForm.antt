@@ -19,8 +19,8 @@ use Rattle.proof_text.specs.Proof.{asks_labeller, asks_adversary}
 use Rattle.proof_text.specs.Documents.{IsProof}
 use Rattle.strategies.specs.Best.{IsLess}
 use Rattle.strategies.specs.Document.{IsDocumentOf}
-use Rattle.strategies.specs.PositionDocument.{IsAnswerable, AsksAdversary, IsLabellerRowOver, IsAdversaryRowOver}
-use Rattle.strategies.specs.PositionDocument.{AreExactlyOver}
+use Rattle.strategies.specs.DocumentMoves.{IsAnswerable}
+use Rattle.strategies.specs.PositionDocument.{AsksAdversary, IsLabellerRowOver, IsAdversaryRowOver, AreExactlyOver}
 use Rattle.positions.specs.Claim.{claim_of}
 use Rattle.strategies.proofs.ValueOrder.{worthless}
 use Rattle.proof_text.specs.Positions.{Positions, configuration_positions}

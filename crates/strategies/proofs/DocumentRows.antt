@@ -9,8 +9,8 @@ use Rattle.positions.specs.Table.{AnswerRow, RequestRow}
 use Rattle.positions.proofs.Cited.{lasts_at_most}
 use Rattle.strategies.specs.Best.{IsLess, IsBestAnswer}
 use Rattle.proof_text.specs.Positions.{Positions}
-use Rattle.strategies.specs.PositionDocument.{IsAnswerMove, IsRequestMove, turns_of, LeadsOver, IsLabellerRowOver}
-use Rattle.strategies.specs.PositionDocument.{IsAdversaryRowOver}
+use Rattle.strategies.specs.DocumentMoves.{IsAnswerMove, IsRequestMove, LeadsOver}
+use Rattle.strategies.specs.PositionDocument.{turns_of, IsLabellerRowOver, IsAdversaryRowOver}
 use Rattle.strategies.proofs.BestAnswers.{best_answer}
 use Rattle.strategies.proofs.BestRequests.{best_request}
 use Rattle.strategies.proofs.PositionLaws.{ArePositions}

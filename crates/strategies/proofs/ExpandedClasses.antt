@@ -8,11 +8,11 @@ use Rattle.positions.proofs.Cited.{moved_is_configuration}
 use Rattle.positions.specs.declared.value.Value.{Value}
 use Rattle.positions.specs.Value.{HasValue}
 use Rattle.strategies.specs.Best.{HasGreatestResult, IsBestRequest}
+use Rattle.strategies.specs.DocumentMoves.{IsAnswerable}
 use Rattle.strategies.specs.Inside.Numbering.{class_numbered}
 use Rattle.strategies.specs.Inside.ReachedClasses.{number_of_class_at, normal_number, IsClassAnswerStep}
 use Rattle.strategies.specs.Inside.ReachedClasses.{ClassRequestLeads, LegalLeads, AreExpandedBy}
 use Rattle.strategies.specs.Inside.ReachedRanks.{IsWith, IsWithAll}
-use Rattle.strategies.specs.PositionDocument.{IsAnswerable}
 use Rattle.strategies.proofs.AddedRanks.{added_known, added_one, added_same}
 use Rattle.strategies.proofs.BestRequests.{same_request}
 use Rattle.classes.specs.Classes.{class_of, put}

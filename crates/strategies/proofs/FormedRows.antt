@@ -16,8 +16,9 @@ use Rattle.positions.proofs.Cited.{same_value}
 use Rattle.proof_text.specs.Positions.{Positions}
 use Rattle.proof_text.specs.Proof.{AreTurns, IsAnswerRow, IsClaim, PlainProof, asks_adversary, asks_labeller}
 use Rattle.strategies.specs.Best.{IsLess}
-use Rattle.strategies.specs.PositionDocument.{IsAnswerable, IsAnswerMove, turns_of, AsksAdversary, LeadsOver}
-use Rattle.strategies.specs.PositionDocument.{IsLabellerRowOver, IsAdversaryRowOver, IsDocumentOver}
+use Rattle.strategies.specs.DocumentMoves.{IsAnswerable, IsAnswerMove, LeadsOver}
+use Rattle.strategies.specs.PositionDocument.{turns_of, AsksAdversary, IsLabellerRowOver, IsAdversaryRowOver}
+use Rattle.strategies.specs.PositionDocument.{IsDocumentOver}
 use Rattle.strategies.proofs.KeptRules.{answered_is, start_value}
 use Rattle.strategies.proofs.PositionLaws.{ArePositions}
 

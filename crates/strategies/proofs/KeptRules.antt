@@ -21,8 +21,9 @@ use Rattle.proof_text.specs.Rules.{MeetsRequests, MeetsAnswers, BreaksNoRule}
 use Rattle.strategies.specs.Best.{IsLess}
 use Rattle.strategies.specs.ClassDocument.{IsClassDocumentOf}
 use Rattle.strategies.specs.Document.{IsDocumentOf}
-use Rattle.strategies.specs.PositionDocument.{IsAnswerMove, IsRequestMove, turns_of, AsksAdversary, LeadsOver}
-use Rattle.strategies.specs.PositionDocument.{IsLabellerRowOver, IsAdversaryRowOver, IsDocumentOver}
+use Rattle.strategies.specs.DocumentMoves.{IsAnswerMove, IsRequestMove, LeadsOver}
+use Rattle.strategies.specs.PositionDocument.{turns_of, AsksAdversary, IsLabellerRowOver, IsAdversaryRowOver}
+use Rattle.strategies.specs.PositionDocument.{IsDocumentOver}
 use Rattle.strategies.proofs.ValueOrder.{at_least, less_than_finite}
 use Rattle.strategies.proofs.BestAnswers.{lasts_after}
 use Rattle.strategies.proofs.DocumentRows.{answer_row_for, request_row_for}

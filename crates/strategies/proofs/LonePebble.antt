@@ -12,8 +12,8 @@ use Rattle.positions.specs.Inside.Game.{HasAnswer}
 use Rattle.positions.specs.Table.{AnswerRow, RequestRow}
 use Rattle.strategies.specs.Best.{HasNoGreaterValue, IsBestAnswer}
 use Rattle.strategies.specs.Document.{IsDocumentOf}
-use Rattle.strategies.specs.PositionDocument.{IsAnswerMove, AsksAdversary, LeadsOver, IsLabellerRowOver}
-use Rattle.strategies.specs.PositionDocument.{IsAdversaryRowOver, AreExactlyOver}
+use Rattle.strategies.specs.DocumentMoves.{IsAnswerMove, LeadsOver}
+use Rattle.strategies.specs.PositionDocument.{AsksAdversary, IsLabellerRowOver, IsAdversaryRowOver, AreExactlyOver}
 use Rattle.strategies.specs.Example.{lone_board, lone_document}
 use Rattle.strategies.proofs.OneList.{one_answer_row}
 use Rattle.strategies.proofs.RowLists.{no_rows, one_row}

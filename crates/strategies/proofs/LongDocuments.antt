@@ -30,11 +30,11 @@ use Rattle.proof_text.specs.Positions.{normal_positions}
 use Rattle.proof_text.specs.Proof.{PlainProof, asks_adversary, asks_labeller}
 use Rattle.proof_text.specs.ProofText.{answer_line, class_request_line, turns_text}
 use Rattle.strategies.specs.ClassDocument.{CannotBeMade}
+use Rattle.strategies.specs.DocumentMoves.{IsRequestMove, LeadsOver}
 use Rattle.strategies.specs.Inside.ClassSide.{class_labeller_side, class_adversary_side, AreMoreReached, HasNoSection}
 use Rattle.strategies.specs.Inside.Numbering.{by_order, class_numbered, IsClassNumber}
 use Rattle.strategies.specs.Inside.ReachedClasses.{IsClassReachedByAnswers, IsClassReachedByRequests}
-use Rattle.strategies.specs.PositionDocument.{IsRequestMove, AsksAdversary, LeadsOver, IsLabellerRowOver}
-use Rattle.strategies.specs.PositionDocument.{IsAdversaryRowOver, IsDocumentOver}
+use Rattle.strategies.specs.PositionDocument.{AsksAdversary, IsLabellerRowOver, IsAdversaryRowOver, IsDocumentOver}
 use Rattle.strategies.specs.Sides.{HasStrategy, claim_for, document_for}
 use Rattle.strategies.specs.declared.unmade.Unmade.{Unmade}
 use Rattle.strategies.specs.declared.unmade.Unmade.TheVariants.{Memory, TooLong}

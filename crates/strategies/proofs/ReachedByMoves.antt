@@ -6,7 +6,7 @@ use Rattle.positions.specs.Game.{moved}
 use Rattle.positions.specs.Value.{HasValue}
 use Rattle.positions.proofs.Cited.{moved_is_configuration}
 use Rattle.proof_text.specs.Positions.{Positions}
-use Rattle.strategies.specs.PositionDocument.{IsAnswerMove, IsRequestMove, LeadsOver}
+use Rattle.strategies.specs.DocumentMoves.{IsAnswerMove, IsRequestMove, LeadsOver}
 use Rattle.strategies.proofs.BestAnswers.{lasts_after}
 use Rattle.strategies.proofs.PositionLaws.{ArePositions}
 

@@ -13,12 +13,12 @@ use Rattle.positions.specs.Value.{HasValue}
 use Rattle.positions.proofs.Cited.{dominates_or_not, moved_is_configuration, some_value}
 use Rattle.proof_text.specs.Positions.{Positions}
 use Rattle.strategies.specs.Best.{IsBestAnswer, IsBestRequest}
+use Rattle.strategies.specs.DocumentMoves.{IsAnswerable}
 use Rattle.strategies.specs.Inside.Numbering.{Numbering, AreAll}
 use Rattle.strategies.specs.Inside.ReachedOver.{number_over, IsAnswerStepOver, AnswerLeadsOver, IsRequestStepOver}
 use Rattle.strategies.specs.Inside.ReachedOver.{RequestLeadsOver, IsReachedOver, IsReachedByAnswersOver}
 use Rattle.strategies.specs.Inside.ReachedOver.{IsReachedByRequestsOver}
 use Rattle.strategies.specs.Inside.ReachedRanks.{IsWith, IsWithAll}
-use Rattle.strategies.specs.PositionDocument.{IsAnswerable}
 use Rattle.strategies.proofs.AddedRanks.{Below, added_known, added_one, added_same, added_start, added_more, below_all}
 use Rattle.strategies.proofs.AddedRanks.{contains_or_not, few_apart}
 use Rattle.strategies.proofs.BestAnswers.{best_answer, same_answer}

@@ -16,8 +16,8 @@ use Rattle.positions.specs.Table.{AnswerRow, RequestRow}
 use Rattle.proof_text.specs.Proof.{IsBefore}
 use Rattle.strategies.specs.Best.{HasSmallerValue, HasNoGreaterValue, IsBestAnswer, LowersValue, IsBestRequest}
 use Rattle.strategies.specs.Document.{IsDocumentOf}
-use Rattle.strategies.specs.PositionDocument.{IsAnswerable, IsAnswerMove, IsRequestMove, AsksAdversary, LeadsOver}
-use Rattle.strategies.specs.PositionDocument.{IsLabellerRowOver, IsAdversaryRowOver, AreExactlyOver}
+use Rattle.strategies.specs.DocumentMoves.{IsAnswerable, IsAnswerMove, IsRequestMove, LeadsOver}
+use Rattle.strategies.specs.PositionDocument.{AsksAdversary, IsLabellerRowOver, IsAdversaryRowOver, AreExactlyOver}
 use Rattle.strategies.specs.Example.{small_board, small_document}
 use Rattle.strategies.proofs.ValueOrder.{not_less}
 use Rattle.strategies.proofs.BestRequests as requests

@@ -9,11 +9,11 @@ use Rattle.board_text.specs.PlainBoard.{PlainBoard, IsConfiguration}
 use Rattle.positions.specs.Game.{moved}
 use Rattle.positions.proofs.Cited.{moved_is_configuration}
 use Rattle.proof_text.specs.Positions.{Positions, normal_positions}
+use Rattle.strategies.specs.DocumentMoves.{IsAnswerable, IsAnswerMove, IsRequestMove, LeadsOver}
 use Rattle.strategies.specs.Inside.Numbering.{Numbering, by_order, AreAll}
 use Rattle.strategies.specs.Inside.ReachedClasses.{ClassAnswerLeads, ClassRequestLeads}
 use Rattle.strategies.specs.Inside.ReachedOver.{number_over, AnswerLeadsOver, RequestLeadsOver, IsReachedOver}
 use Rattle.strategies.specs.Inside.ReachedRanks.{IsWithAll}
-use Rattle.strategies.specs.PositionDocument.{IsAnswerable, IsAnswerMove, IsRequestMove, LeadsOver}
 use Rattle.strategies.proofs.Numberings.{IsNumbering}
 use Rattle.strategies.proofs.PositionLaws.{ArePositions}
 use Rattle.strategies.proofs.ReachedByMoves.{one_more, moves_stay}

@@ -7,7 +7,7 @@ use Rattle.positions.specs.Value.{HasValue}
 use Rattle.positions.specs.Ranks.{configuration_at, rank_of}
 use Rattle.positions.proofs.Cited.{configuration_at-rank_of}
 use Rattle.strategies.specs.Best.{IsLess}
-use Rattle.strategies.specs.PositionDocument.{IsAnswerable}
+use Rattle.strategies.specs.DocumentMoves.{IsAnswerable}
 
 pub start_value : (board : PlainBoard) (start : ℕ) (value : Value) → IsConfiguration board board.start
     → start ≡ rank_of board board.start

@@ -8,10 +8,10 @@ use Rattle.positions.specs.Game.{moved}
 use Rattle.positions.specs.Ranks.{configurations, rank_of, configuration_at}
 use Rattle.positions.proofs.Cited.{moved_is_configuration, rank_below, rank_of-configuration_at}
 use Rattle.positions.proofs.Cited.{configuration_at-rank_of}
+use Rattle.strategies.specs.DocumentMoves.{IsAnswerable, IsAnswerMove, IsRequestMove}
 use Rattle.strategies.specs.Inside.Numbering.{by_rank, AreAll}
 use Rattle.strategies.specs.Inside.ReachedOver.{IsReachedOver}
 use Rattle.strategies.specs.Inside.ReachedRanks.{AnswerLeads, RequestLeads}
-use Rattle.strategies.specs.PositionDocument.{IsAnswerable, IsAnswerMove, IsRequestMove}
 use Rattle.strategies.specs.Inside.Marks.{IsMarked}
 use Rattle.strategies.specs.Inside.ReachedMarks.{ReachedMarks, AreReachedWith, NoneIsLeft, none_reached}
 use Rattle.strategies.specs.Inside.ReachedMarks.{taken_from}

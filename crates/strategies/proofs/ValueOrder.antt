@@ -9,7 +9,7 @@ use Rattle.positions.specs.Game.{LabellerTree, AdversaryTree}
 use Rattle.positions.specs.Value.{HasValue}
 use Rattle.positions.proofs.Cited.{not_both_trees, lasts_at_most, at_most_from_tree, same_value}
 use Rattle.strategies.specs.Best.{IsLess, HasSmallerValue, HasNoGreaterValue}
-use Rattle.strategies.specs.PositionDocument.{IsAnswerable}
+use Rattle.strategies.specs.DocumentMoves.{IsAnswerable}
 
 -- a labeller that lasts a number of requests has at least that value
 pub at_least : (board : PlainBoard) (number depth : ℕ) (configuration : List ℕ)

@@ -1,5 +1,6 @@
 pub mod Best
 pub mod Document
+pub mod DocumentMoves
 pub mod DocumentTexts
 pub mod ClassDocument
 pub mod Example

@@ -5,8 +5,8 @@ use Rattle.board_text.specs.PlainBoard.{PlainBoard}
 use Rattle.positions.specs.Game.{Legal, moved}
 use Rattle.proof_text.specs.Positions.{Positions}
 use Rattle.strategies.specs.Best.{IsBestAnswer, IsBestRequest}
+use Rattle.strategies.specs.DocumentMoves.{IsAnswerable, IsAnswerMove, IsRequestMove, LeadsOver}
 use Rattle.strategies.specs.Inside.Numbering.{Numbering}
-use Rattle.strategies.specs.PositionDocument.{IsAnswerable, IsAnswerMove, IsRequestMove, LeadsOver}
 
 -- the number of the normal places of a configuration
 abbrev pub number_over : Positions → Numbering → List ℕ → ℕ
