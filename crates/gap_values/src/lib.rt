@@ -18,9 +18,10 @@ mod values;
 mod ways_table;
 mod weight;
 
+pub use closing::{OPEN, answer_set};
 pub use counting::{count_gaps, has_few_gaps, kept_bytes};
 pub use gap_numbers::GapNumbers;
 pub use laws::gap_tables_have_values;
 pub use rounds::MAX_GAPS;
 pub use sizes::Sizes;
-pub use values::GapValues;
+pub use values::{GapValues, value_with};

@@ -6,6 +6,7 @@ pub use Rattle.proof_text.proofs.AskedPlaces.{asked_below, asked_is, asked_place
 pub use Rattle.proof_text.proofs.HeldImages.{zeros}
 pub use Rattle.proof_text.proofs.NamedPlaces.{class_at_number, class_at_order}
 pub use Rattle.proof_text.proofs.NumberedPlaces.{places-few, same-places}
+pub use Rattle.proof_text.proofs.Placings.{as-unlabelled, of-unlabelled, placed, places-unlabelled, unlabelled}
 pub use Rattle.proof_text.proofs.OneDocument.{no_fault, one_document}
 pub use Rattle.proof_text.proofs.OneDocument.{no_class_text_fault, one_class_document, one_class_text_fault}
 pub use Rattle.proof_text.proofs.OneDocument.{no_symmetry_text_fault, one_symmetry_document, one_symmetry_text_fault}

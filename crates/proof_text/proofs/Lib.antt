@@ -2,6 +2,7 @@ pub mod ArrangedPlaces
 pub mod RisingPlaces
 pub mod OrderNumbers
 pub mod NumberedPlaces
+pub mod Placings
 pub mod PlacesAt
 pub mod ArrangedAgain
 pub mod NamedPlaces

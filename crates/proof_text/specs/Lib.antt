@@ -1,4 +1,5 @@
 pub mod Arranged
+pub mod Placings
 pub mod Proof
 pub mod ClassProof
 pub mod Images

@@ -1,4 +1,6 @@
-use Rattle.std.proofs.Common.{◌≡◌, take}
+use Rattle.std.proofs.Common.{◌≡◌, ◌∙◌, ap, subst, sym, take}
+use Rattle.board_text.specs.PlainBoard.{IsConfiguration}
+use Rattle.proof_text.proofs.Cited.{placed}
 use Rattle.strategies.specs.Inside.Numbering.{class_numbered}
 use Rattle.strategies.proofs.MadeClassRows.{adversary_row_is, no_request_there}
 use Rattle.strategies.proofs.class_sections.AdversaryClassRowClassSectionRow.at.Given.{Over}
@@ -10,10 +12,17 @@ here : (g : Over) (c : After-pebbles g)
     ≡ class_numbered (g.M.Moves.board c.args.moves.now) c.args.number
 here g c = (rw c.board-board.ensures at c.places_at-at.ensures.places) (class_numbered
     (g.M.Moves.board c.args.moves.now) c.args.number)
-    c.requires.0.is c.requires.0.number_is
+    (placed (g.M.Moves.board c.args.moves.now) _ c.requires.0.is) c.requires.0.number_is
 
 size : (g : Over) (c : After-pebbles g) → c.pebbles.result ≡ (g.M.Moves.board c.args.moves.now).pebbles
 size g c = rw c.board-board.ensures at c.pebbles.ensures.value
+
+pub request-value-requires : goal.request-value-requires
+request-value-requires g c =
+    let b = g.M.Moves.board c.args.moves.now in
+    let at = (goal.at.request-value-requires g c).After-pebbles in
+    subst (IsConfiguration b)
+    (sym (ap (λ n. take n c.places_at-at.result) (size g at) ∙ here g at)) c.requires.0.is
 
 pub returns-in_default : goal.returns-in_default
 returns-in_default g c =

@@ -1,5 +1,7 @@
-use Rattle.std.proofs.Common.{◌≡◌, ◌<◌, ◌≤◌, ℕ, List, take, subst, arith}
+use Rattle.std.proofs.Common.{◌≡◌, ◌<◌, ◌≤◌, ◌∙◌, ℕ, List, ap, take, subst, sym, arith}
+use Rattle.board_text.specs.PlainBoard.{IsConfiguration}
 use Rattle.board_text.specs.declared.board.TheConstants.{MAX_PEBBLES}
+use Rattle.proof_text.proofs.Cited.{placed}
 use Rattle.strategies.specs.Best.{IsBestAnswer}
 use Rattle.strategies.proofs.MadeRows.{taken_more}
 use Rattle.strategies.specs.Inside.NormalForm.{normal_by}
@@ -15,10 +17,17 @@ here : (g : Over) (c : After-pebbles g)
     ≡ class_numbered (g.M.Moves.board c.args.moves.now) c.args.number
 here g c = (rw c.board-board.ensures at c.places_at-at.ensures.places) (class_numbered
     (g.M.Moves.board c.args.moves.now) c.args.number)
-    c.requires.0.is c.requires.0.number_is
+    (placed (g.M.Moves.board c.args.moves.now) _ c.requires.0.is) c.requires.0.number_is
 
 size : (g : Over) (c : After-pebbles g) → c.pebbles.result ≡ (g.M.Moves.board c.args.moves.now).pebbles
 size g c = rw c.board-board.ensures at c.pebbles.ensures.value
+
+pub answers-value-requires : goal.answers-value-requires
+answers-value-requires g c =
+    let b = g.M.Moves.board c.args.moves.now in
+    let at = (goal.at.answers-value-requires g c).After-pebbles in
+    subst (IsConfiguration b)
+    (sym (ap (λ n. take n c.places_at-at.result) (size g at) ∙ here g at)) c.requires.0.is
 
 pub loop-pebble-preserved : goal.loop-pebble-preserved
 loop-pebble-preserved g c =
