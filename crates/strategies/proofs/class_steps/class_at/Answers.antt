@@ -1,6 +1,6 @@
 use Rattle.std.proofs.Common.{◌∙◌, ap, take}
 use Rattle.proof_text.proofs.Cited.{placed}
-use Rattle.strategies.specs.Inside.ReachedClasses.{class_numbered}
+use Rattle.strategies.specs.Inside.Numbering.{class_numbered}
 use Rattle.strategies.proofs.class_steps.class_at.Goals as goal
 
 pub returns : goal.returns
