@@ -4,6 +4,7 @@ ghost use Rattle.std.specs.Prelude.{◌≡◌, ◌↔◌, ◌≤◌, IfSome, IsT
 ghost use Rattle.board_text.specs.PlainBoard.{IsConfiguration};
 
 use crate::counting::has_few_gaps;
+use crate::value_table::ValueTable;
 use crate::values::GapValues;
 use board_text::{Board, MAX_PEBBLES, parse};
 use console::NoWatch;

@@ -19,6 +19,7 @@ use crate::work::Work;
 use crate::writing::write_parts;
 use board_text::{Memory, Sink, Source};
 use command_line::BoardLimit;
+use gap_values::GapValues;
 use positions::{Side, Value};
 use proof_text::print_classes_in_parts;
 use round_workers::MAX_WORKERS;
@@ -94,7 +95,7 @@ impl Work {
 fn class_solution(
     rt: &(impl Threads + Sync),
     alloc: Global,
-    moves: &GapMoves<'_>,
+    moves: &GapMoves<'_, GapValues>,
     side: Option<Side>,
     parts: u8,
 ) -> Result<Solved, RunFault>

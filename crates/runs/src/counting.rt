@@ -18,7 +18,7 @@ use crate::solving::numbered_by;
 use crate::work::Work;
 use board_text::{Board, Memory, Sink};
 use command_line::BoardLimit;
-use gap_values::{GapValues, MAX_GAPS, Sizes};
+use gap_values::{GapValues, MAX_GAPS, Sizes, ValueTable};
 use positions::{MAX_CONFIGURATIONS, Value};
 use round_workers::MAX_WORKERS;
 use solver::NumberedValues;

@@ -18,6 +18,7 @@ use crate::notices::tell_size;
 use crate::reading::{MAX_BOARD_BYTES, read_board};
 use board_text::{Sink, Source, Through};
 use command_line::BoardLimit;
+use gap_values::GapValues;
 use nested_cycles::MAX_LEVELS;
 use player::{AsAdversary, AsClimber, AsLabeller, PlayEnd, PlayFault, play};
 use positions::Side;
@@ -125,7 +126,7 @@ impl Playing {
     fn play<L: Source, W: Sink, E: Sink>(
         self,
         alloc: Global,
-        moves: &GapMoves<'_>,
+        moves: &GapMoves<'_, GapValues>,
         lines: &mut L,
         writer: &mut W,
         errors: &mut E,

@@ -23,6 +23,7 @@ use crate::solving::{Solved, expect_strategy};
 use crate::work::Work;
 use crate::writing::write_parts;
 use board_text::{Board, Sink, Source};
+use gap_values::GapValues;
 use positions::{Side, Value};
 use proof_text::print_symmetric;
 use round_workers::MAX_WORKERS;
@@ -113,7 +114,7 @@ impl Work {
 fn solution_up_to(
     rt: &(impl Threads + Sync),
     alloc: Global,
-    moves: &GapMoves<'_>,
+    moves: &GapMoves<'_, GapValues>,
     symmetries: &Symmetries,
     side: Option<Side>,
     parts: u8,

@@ -1,4 +1,4 @@
-//! The best answers to requests and the best requests, by the values of gaps.
+//! The best answers to requests and the best requests, by a table of values.
 
 ghost use Rattle.std.specs.Prelude.{◌≡◌, ◌<◌, ◌≤◌, ℕ, length};
 ghost use Rattle.board_text.specs.PlainBoard.{IsConfiguration};
@@ -11,22 +11,22 @@ use crate::moves::Moves;
 use crate::moves_here::MovesHere;
 use board_text::{Board, MAX_PEBBLES, Memory};
 use classes::ClassPlaces;
-use gap_values::GapValues;
+use gap_values::ValueTable;
 use positions::Value;
 use std::alloc::Global;
 use std::marker::Model;
 
-/// The best moves on a board, by the values of its gaps. The board may have more classes than there
+/// The best moves on a board, by a table of its values. The board may have more classes than there
 /// are numbers of 32 bits.
 ///
 /// Contracts see the board.
 #[derive(Drop)]
-pub struct GapMoves<'a> {
+pub struct GapMoves<'a, V: ValueTable> {
     board: &'a Board,
-    values: &'a GapValues,
+    values: &'a V,
 }
 
-impl<'a> Model for GapMoves<'a> {
+impl<'a, V: ValueTable> Model for GapMoves<'a, V> {
     ghost use Rattle.std.specs.Prelude.{◌≡◌};
     ghost use Rattle.board_text.specs.PlainBoard.{PlainBoard};
 
@@ -34,20 +34,20 @@ impl<'a> Model for GapMoves<'a> {
 
     ghost view = { λ m. m.board.now };
 
-    ghost invariant = { λ m. m.values.now ≡ m.board.now };
+    ghost invariant = { λ m. V.table_board m.values.now ≡ m.board.now };
 }
 
-impl<'a> GapMoves<'a> {
+impl<'a, V: ValueTable> GapMoves<'a, V> {
     /// The best moves on `board`, whose values are `values`.
-    pub fn new(board: &'a Board, values: &'a GapValues) -> GapMoves<'a>
-        requires same_board { values.now ≡ board.now }
+    pub fn new(board: &'a Board, values: &'a V) -> GapMoves<'a, V>
+        requires same_board { V.table_board values.now ≡ board.now }
         ensures { result ≡ board.now }
     {
         GapMoves { board, values }
     }
 
     /// The best moves at the configuration `held`.
-    fn at(&self, held: &[u16]) -> GapMovesAt<'_>
+    fn at(&self, held: &[u16]) -> GapMovesAt<'_, V>
         requires { IsConfiguration self.now held.now }
         ensures { result ≡ position self.now held.now }
     {
@@ -60,7 +60,7 @@ impl<'a> GapMoves<'a> {
     }
 }
 
-impl<'a> Moves for GapMoves<'a> {
+impl<'a, V: ValueTable> Moves for GapMoves<'a, V> {
     ghost board = { λ moves. moves };
 
     fn board(&self) -> &Board {
@@ -68,7 +68,7 @@ impl<'a> Moves for GapMoves<'a> {
     }
 
     /// Nothing is found here: a best answer costs a look at each label.
-    fn listed(&self, _alloc: Global) -> Result<GapMoves<'a>, Memory> {
+    fn listed(&self, _alloc: Global) -> Result<GapMoves<'a, V>, Memory> {
         Ok(GapMoves::new(self.board, self.values))
     }
 
@@ -97,23 +97,24 @@ impl<'a> Moves for GapMoves<'a> {
 
 /// The best moves at one configuration. Contracts see the board and the configuration.
 #[derive(Drop)]
-struct GapMovesAt<'a> {
+struct GapMovesAt<'a, V: ValueTable> {
     board: &'a Board,
-    values: &'a GapValues,
+    values: &'a V,
     configuration: Configuration,
 }
 
-impl<'a> Model for GapMovesAt<'a> {
+impl<'a, V: ValueTable> Model for GapMovesAt<'a, V> {
     ghost use Rattle.strategies.specs.Inside.MovesAt.{HeldPosition, position, IsGapStanding};
 
     ghost Value = { HeldPosition };
 
     ghost view = { λ s. position s.board.now s.configuration };
 
-    ghost invariant = { λ s. IsGapStanding s.board.now s.values.now s.configuration };
+    ghost invariant = { λ s. IsGapStanding s.board.now (V.table_board s.values.now)
+        s.configuration };
 }
 
-impl MovesHere for GapMovesAt<'_> {
+impl<V: ValueTable> MovesHere for GapMovesAt<'_, V> {
     ghost position = { λ here. here };
 
     fn pebbles(&self) -> u8 {
