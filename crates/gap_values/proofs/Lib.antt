@@ -11,7 +11,7 @@ mod TellingSteps
 mod Words
 mod RoundSteps
 mod OpenCounts
-mod BestAnswers
+pub mod BestAnswers
 mod Weighing
 mod ClassCounts
 mod UnclosedLabels
