@@ -1,5 +1,5 @@
 -- The lemmas that crates above cite, passed on from one place. Declares nothing.
 pub use Rattle.gap_values.proofs.BestAnswers.{HasWord, IsBestBefore, answers-after, answers-over, best-begins, best-is}
-pub use Rattle.gap_values.proofs.BestAnswers.{best-kept, best-more, next-answer}
+pub use Rattle.gap_values.proofs.BestAnswers.{best-kept, best-lasting, best-more, closes-before, next-answer}
 pub use Rattle.gap_values.proofs.ClosedGaps.{class-configuration, first-closed, gap-is, like-closed, member-like}
 pub use Rattle.gap_values.proofs.Words.{before-from, before-to}
