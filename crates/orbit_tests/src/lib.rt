@@ -1,0 +1,5 @@
+//! Tests of `orbits`.
+#![tactic(auto)]
+
+#[cfg(test)]
+mod solving;
