@@ -103,7 +103,8 @@ module _ (board : PlainBoard) (closed : List ℕ → Value) (gap : List ℕ) whe
       found = was.found;
     }
 
-module _ (board : PlainBoard) (closed : List ℕ → Value) (gap : List ℕ) (is_board : IsBoard board) (table : IsGapTable board closed)
+module _ (board : PlainBoard) (closed : List ℕ → Value) (gap : List ℕ) (is_board : IsBoard board)
+    (table : IsGapTable board closed)
     (is_gap : IsClass (places board) (board.pebbles - 1) gap) where
   at-most : (label most : ℕ) → AnswersGap board gap label
       → HasValueAtMost board (member_with gap label) most

@@ -2,7 +2,7 @@
 
 ghost use Rattle.std.specs.Prelude.{◌≡◌, ◌↔◌, IfOk, IfSome, IsTrue};
 ghost use Rattle.board_text.specs.PlainBoard.{IsConfiguration};
-ghost use Rattle.orbits.specs.Orbits.{HasSymmetries};
+ghost use Rattle.orbits.specs.Orbits.{HasGroupOrNone};
 ghost use Rattle.proof_text.specs.Documents.{AreHeldMaps};
 
 use board_text::{Board, MAX_PEBBLES, Memory, parse};
@@ -45,7 +45,7 @@ const NONE: &str = "symmetries 0\nend\n";
 /// What is alike by the symmetries that `maps` make.
 fn alike_by(alloc: Global, board: &Board, maps: &[Images]) -> Result<Option<Alike>, Memory>
     requires { AreHeldMaps board.now.labels maps.now }
-    ensures { IfOk result (λ found. IfSome found (HasSymmetries board.now)) }
+    ensures { IfOk result (λ found. IfSome found (HasGroupOrNone board.now)) }
 {
     if let Some((_, _)) = wrong_map(board, maps) {
         return Ok(None);
@@ -131,7 +131,7 @@ fn assert_all_values(rt: &impl Abort, alloc: Global, board: &Board, values: &Orb
 
 /// What is alike on `board` by the maps whose text this is.
 fn alike_of(rt: &impl Abort, alloc: Global, board: &Board, maps: &str) -> Alike
-    ensures { HasSymmetries board.now result }
+    ensures { HasGroupOrNone board.now result }
 {
     let maps = parse_symmetries(alloc, board, maps.as_bytes())
         .ok()
