@@ -6,7 +6,7 @@ ghost use Rattle.orbits.specs.Orbits.{HasGroupOrNone};
 ghost use Rattle.proof_text.specs.Documents.{AreHeldMaps};
 
 use board_text::{Board, MAX_PEBBLES, Memory, parse};
-use gap_values::{GapValues, has_few_gaps};
+use gap_values::{GapValues, ValueTable, has_few_gaps};
 use orbits::OrbitValues;
 use positions::Value;
 use proof_check::wrong_map;
