@@ -99,7 +99,7 @@ fn best_beside(board: &Board, values: &OrbitValues<'_>, place: u16) -> Option<u1
     if board.pebbles() != 2 || place >= board.places() {
         return None;
     }
-    values.best_answer(&[place])
+    values.best_answer(board, &[place])
 }
 
 /// Asserts that the configurations of a board have the values that they have by gaps.
