@@ -6,13 +6,14 @@ pub use Rattle.classes.proofs.FamilyNumbers.{with-least}
 pub use Rattle.classes.proofs.FamilyWeights.{no-copies, weight-before, weight-last, weight-small}
 pub use Rattle.classes.proofs.GapNumbers.{AreGaps, IsGapMore, gap-more}
 pub use Rattle.classes.proofs.Numbers.{is-below, with-is, with-number, with-none}
-pub use Rattle.classes.proofs.OrderCounts.{weighed-sum, orders, orders-none, orders-weigh, size_of_sum, weight-orders}
+pub use Rattle.classes.proofs.OrderCounts.{weighed-sum, orders, orders-is, orders-none, orders-weigh, size_of_sum}
+pub use Rattle.classes.proofs.OrderCounts.{weight-orders}
 pub use Rattle.classes.proofs.Places.{all-class_of, of-all-class_of, class_of-own, class_of-set, falls-class_of}
 pub use Rattle.classes.proofs.Places.{length-class_of, length-put, place-cancel, put-cancel, put-here, put-is}
 pub use Rattle.classes.proofs.Places.{put-none, put-past, HasPebble, IsIn, in-put, pebble_of_place, all-put}
 pub use Rattle.classes.proofs.Places.{falls-more, index-here, index-past, of-all-put, others-put}
 pub use Rattle.classes.proofs.PlacesWithout.{all-remove, class-push, remove-last, remove-past}
-pub use Rattle.classes.proofs.Sums.{sum-add, sum-same, sum-suc, sum-zero}
+pub use Rattle.classes.proofs.Sums.{sum-add, sum-none, sum-same, sum-suc, sum-swap, sum-zero}
 pub use Rattle.classes.proofs.TableNumbers.{few-of-small, lists-fit, place-below, number-more, ways-fit}
 pub use Rattle.classes.proofs.Values.{AreLike, class_of-class, dominator-answers, labeller-like, legal-answers}
 pub use Rattle.classes.proofs.Values.{one-gap, value-of-class}

@@ -3,3 +3,5 @@ pub use Rattle.gap_values.proofs.BestAnswers.{HasWord, IsBestBefore, answers-aft
 pub use Rattle.gap_values.proofs.BestAnswers.{best-kept, best-lasting, best-more, closes-before, next-answer}
 pub use Rattle.gap_values.proofs.ClosedGaps.{class-configuration, first-closed, gap-is, like-closed, member-like}
 pub use Rattle.gap_values.proofs.Words.{before-from, before-to}
+pub use Rattle.gap_values.proofs.ClassCounts.{count-occurs, occurs-counted}
+pub use Rattle.gap_values.proofs.Words.{round-finite, round-none}

@@ -359,7 +359,7 @@ sizes-all board words rounds sizes is_board are high between =
 
 -- ---- the list of counts ends with the greatest value that occurs
 
-count-occurs : (board : PlainBoard) (value count : ℕ) → HasValueCount board (Finite value) count → count ≢ 0
+pub count-occurs : (board : PlainBoard) (value count : ℕ) → HasValueCount board (Finite value) count → count ≢ 0
     → Occurs board value
 count-occurs board value count has some =
     let first : ℕ = get_or has.members 0 0 in
@@ -367,7 +367,7 @@ count-occurs board value count has some =
     let is = (has.each first).0 (Contains-get_or has.members 0 0 (omega (arith, some))) in
     (configuration_at board first, configuration_at_is board first is.0, is.1)
 
-occurs-counted : (board : PlainBoard) (value count : ℕ) → HasValueCount board (Finite value) count
+pub occurs-counted : (board : PlainBoard) (value count : ℕ) → HasValueCount board (Finite value) count
     → Occurs board value → count ≢ 0
 occurs-counted board value count has occurs none =
     (size_zero (λ rank. (rank < configurations board) × HasValue board (configuration_at board rank) (Finite value))).0

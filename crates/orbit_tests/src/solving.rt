@@ -129,6 +129,21 @@ fn assert_all_values(rt: &impl Abort, alloc: Global, board: &Board, values: &Orb
     }
 }
 
+/// Asserts that as many configurations have each value as by gaps.
+fn assert_all_sizes(rt: &impl Abort, alloc: Global, board: &Board, values: &OrbitValues<'_>) {
+    let gaps = match values_by_gaps(alloc, board) {
+        Some(gaps) => gaps,
+        None => panic!(rt; "memory"),
+    };
+    match (values.sizes(alloc), gaps.sizes(alloc)) {
+        (Ok(found), Ok(wanted)) => {
+            assert_eq!(rt; found.finite.as_slice(), wanted.finite.as_slice());
+            assert_eq!(rt; found.forever, wanted.forever);
+        }
+        _ => panic!(rt; "memory"),
+    }
+}
+
 /// What is alike on `board` by the maps whose text this is.
 fn alike_of(rt: &impl Abort, alloc: Global, board: &Board, maps: &str) -> Alike
     ensures { HasGroupOrNone board.now result }
@@ -147,7 +162,10 @@ fn assert_board(rt: &impl Abort, alloc: Global, text: &str, maps: &str) {
     let board = parse(alloc, text.as_bytes()).ok().expect(rt, "a board");
     let alike = alike_of(rt, alloc, &board, maps);
     match OrbitValues::of(alloc, &board, &alike) {
-        Ok(values) => assert_all_values(rt, alloc, &board, &values),
+        Ok(values) => {
+            assert_all_values(rt, alloc, &board, &values);
+            assert_all_sizes(rt, alloc, &board, &values);
+        }
         Err(_) => panic!(rt; "memory"),
     }
 }
@@ -171,6 +189,7 @@ fn without_symmetries(rt: HostRuntime) {
     match OrbitValues::of(alloc, &board, &alike) {
         Ok(values) => {
             assert_all_values(&rt, alloc, &board, &values);
+            assert_all_sizes(&rt, alloc, &board, &values);
             assert_eq!(rt; best_beside(&board, &values, 0), Some(1));
         }
         Err(_) => panic!(rt; "memory"),
