@@ -11,7 +11,16 @@ use Rattle.std.proofs.lemmas.List.Elements.{Contains-append_left, Contains-push,
 use Rattle.std.proofs.lemmas.Map.Made.{IsDistinct-from_AllPairs, is_member-Decides}
 use Rattle.std.proofs.lemmas.Map.Steps.{length-le_from_distinct_below}
 use Rattle.std.proofs.lemmas.Map.Views.{Contains-from_any}
-use Rattle.strategies.specs.Inside.ReachedRanks.{IsWith, IsWithAll}
+
+-- the rank was added after the others, or was among them
+pub record IsWith (before : List ℕ) (rank : ℕ) (after : List ℕ) : Type 0 where
+  pub known : Contains before rank → after ≡ before
+  pub other : ¬ Contains before rank → after ≡ before ++ rank ∷ []
+
+-- the ranks of which the fact holds are added, after the others
+pub record IsWithAll (before : List ℕ) (P : ℕ → Type 0) (after : List ℕ) : Type 0 where
+  pub each : (rank : ℕ) → Contains after rank ↔ (Contains before rank ⊎ P rank)
+  pub behind : (more : List ℕ) × (after ≡ before ++ more)
 
 -- a list without repetitions of numbers below a bound is no longer than the bound
 pub few_apart : (ranks : List ℕ) (bound : ℕ) → AllPairs (λ first second. first ≢ second) ranks

@@ -1,23 +1,18 @@
 -- The document of a board over normal places has the form of documents.
-use Rattle.std.proofs.Common.{◌≡◌, ◌⊎◌, ℕ, ◌-◌, ◌<◌, ◌≤◌, true, true≢false, List, [], ◌∷◌, length}
-use Rattle.std.proofs.Common.{get_or, slice_index, refl, sym, ap, ◌∙◌, subst, inl, inr, arith}
-use Rattle.std.specs.List.{All, Contains}
+use Rattle.std.proofs.Common.{◌≡◌, ℕ, ◌-◌, ◌<◌, ◌≤◌, List, [], ◌∷◌, length}
+use Rattle.std.proofs.Common.{get_or, ap, subst, inl, inr, arith}
+use Rattle.std.specs.List.{All}
 use Rattle.std.proofs.lemmas.Bool.{cases_lt}
-use Rattle.std.proofs.lemmas.List.{get_or_default}
-use Rattle.std.proofs.lemmas.List.Elements.{Contains-get_or}
-use Rattle.board_text.specs.Ranges.{AreNumbers}
 use Rattle.board_text.specs.PlainBoard.{PlainBoard, IsConfiguration, places}
 use Rattle.positions.specs.declared.value.Value.{Value}
 use Rattle.positions.specs.declared.value.Value.TheVariants.{Finite, Forever}
-use Rattle.positions.specs.declared.claim.Claim.{Claim}
 use Rattle.positions.specs.Game.{moved}
 use Rattle.positions.specs.Value.{HasValue}
 use Rattle.positions.specs.Claim.{claim_of}
 use Rattle.positions.specs.Table.{AnswerRow, RequestRow}
-use Rattle.positions.proofs.Cited.{moved_is_configuration, same_value}
+use Rattle.positions.proofs.Cited.{moved_is_configuration}
 use Rattle.proof_text.specs.declared.proof.TheConstants.{MOST_TURNS}
-use Rattle.proof_text.specs.Proof.{PlainProof, IsClaim, IsAnswerRow, AreTurns, asks_labeller, asks_adversary}
-use Rattle.strategies.specs.Best.{IsLess}
+use Rattle.proof_text.specs.Proof.{PlainProof, IsClaim}
 use Rattle.strategies.specs.DocumentMoves.{IsRequestMove, LeadsOver}
 use Rattle.strategies.specs.Inside.Numbering.{by_order}
 use Rattle.strategies.specs.PositionDocument.{AsksAdversary, IsAdversaryRowOver, IsDocumentOver}
@@ -35,7 +30,8 @@ use Rattle.proof_text.proofs.Cited.{asked_is}
 use Rattle.strategies.specs.ClassDocument.{IsClassDocumentOf, FitsFormat}
 use Rattle.strategies.specs.Inside.NormalForm.{IsNormalForm}
 use Rattle.strategies.proofs.FewClasses.{IsArrangedAt, rows-few}
-use Rattle.strategies.proofs.PositionLaws.{ArePositions, are_normal}
+use Rattle.strategies.proofs.PositionLaws.{are_normal}
+use Rattle.strategies.specs.Inside.NumberedPositions.{ArePositions}
 use Rattle.strategies.proofs.FewValues.{few_values}
 use Rattle.strategies.proofs.FormedRows.{answer_form, asked_at, claim_form, no_adversary, no_labeller, row_at}
 use Rattle.strategies.proofs.KeptRules.{start_is, start_value, answered_is, requested_is}
@@ -172,7 +168,8 @@ module _ (board : PlainBoard) (normal : List ℕ → List ℕ) (form : IsNormalF
     adversary_form few = record {
       few = few;
       each = λ k d low.
-          let asked = asked_at positions (order_number board.labels) board proof is k d low in request_form (get_or proof.adversary k d) asked.0 asked.1;
+          let asked = asked_at positions (order_number board.labels) board proof is k d low in request_form (get_or
+          proof.adversary k d) asked.0 asked.1;
       in_order = λ k d low. (requests_placed k d low).arranged_is;
       ascending = is.adversary.ascending;
     }

@@ -9,9 +9,8 @@ use Rattle.proof_text.specs.Arranged.{order_of, arranged, order_number}
 use Rattle.proof_text.proofs.Cited.{arranged_is}
 use Rattle.proof_text.proofs.Cited.{order-none, order-label, orders-below}
 use Rattle.proof_text.proofs.Cited.{places-few}
-use Rattle.strategies.specs.Inside.NormalForm.{IsNormalForm}
 use Rattle.strategies.specs.Inside.Numbering.{place_of, class_numbered, IsClassNumber}
-use Rattle.strategies.specs.Inside.ReachedClasses.{number_of_class_at, normal_number}
+use Rattle.strategies.specs.Inside.Numbering.{number_of_class_at}
 
 place_of-order : (labels place : ℕ) → place_of labels (order_of labels place) ≡ place
 place_of-order labels place = elim (cases_eq place labels) [
@@ -66,12 +65,3 @@ number-of board at is =
 pub class_numbered-number_at : (board : PlainBoard) (c : List ℕ) → IsConfiguration board c
     → class_numbered board (number_of_class_at board c) ≡ arranged board.labels c
 class_numbered-number_at board c is = class_numbered-order board (arranged board.labels c) (arranged_is board c is)
-
--- the number of a configuration's normal places is that of these places
-module _ (board : PlainBoard) (normal : List ℕ → List ℕ) (form : IsNormalForm board normal) (c : List ℕ)
-    (is : IsConfiguration board c) where
-  pub normal_number-is : IsClassNumber board (normal_number board normal c)
-  normal_number-is = number-of board (normal c) (form.is c is)
-
-  pub class_numbered-normal : class_numbered board (normal_number board normal c) ≡ normal c
-  class_numbered-normal = class_numbered-order board (normal c) (form.is c is)

@@ -1,32 +1,29 @@
 -- The document of a board is one as the format has it.
-use Rattle.std.proofs.Common.{◌≡◌, ℕ, zero, suc, ◌<◌, ◌≤◌, false, List, [], ◌∷◌, length, get_or, refl, sym, subst, inl}
+use Rattle.std.proofs.Common.{◌≡◌, ℕ, zero, suc, ◌<◌, ◌≤◌, List, [], ◌∷◌, length, get_or, inl}
 use Rattle.std.proofs.Common.{inr, arith}
-use Rattle.std.specs.List.{All, AllPairs, Contains}
+use Rattle.std.specs.List.{All, AllPairs}
 use Rattle.std.proofs.lemmas.Bool.{cases_lt}
-use Rattle.std.proofs.lemmas.List.{get_or_default}
 use Rattle.std.proofs.lemmas.List.Elements.{Contains-get_or}
 use Rattle.board_text.specs.PlainBoard.{PlainBoard, IsConfiguration}
 use Rattle.positions.specs.declared.value.Value.{Value}
 use Rattle.positions.specs.declared.value.Value.TheVariants.{Finite, Forever}
-use Rattle.positions.specs.declared.claim.Claim.{Claim}
 use Rattle.positions.specs.Value.{HasValue}
 use Rattle.positions.specs.Table.{AnswerRow, RequestRow}
 use Rattle.positions.specs.Ranks.{rank_of, configurations}
 use Rattle.positions.specs.declared.space.TheConstants.{MAX_CONFIGURATIONS}
 use Rattle.positions.proofs.Cited.{lasts_at_most, same_value, forever_from_count, rank_below}
-use Rattle.proof_text.specs.Proof.{PlainProof, IsClaim, AreTurns, IsAnswerRow, IsRequestRow}
-use Rattle.proof_text.specs.Proof.{asks_labeller, asks_adversary}
+use Rattle.proof_text.specs.Proof.{PlainProof, IsClaim, IsAnswerRow, IsRequestRow}
 use Rattle.proof_text.specs.Documents.{IsProof}
-use Rattle.strategies.specs.Best.{IsLess}
 use Rattle.strategies.specs.Document.{IsDocumentOf}
 use Rattle.strategies.specs.DocumentMoves.{IsAnswerable}
 use Rattle.strategies.specs.PositionDocument.{AsksAdversary, IsLabellerRowOver, IsAdversaryRowOver, AreExactlyOver}
 use Rattle.positions.specs.Claim.{claim_of}
 use Rattle.strategies.proofs.ValueOrder.{worthless}
-use Rattle.proof_text.specs.Positions.{Positions, configuration_positions}
+use Rattle.proof_text.specs.Positions.{configuration_positions}
 use Rattle.strategies.proofs.FormedRows.{answer_form, claim_form, no_adversary, no_labeller}
 use Rattle.strategies.proofs.KeptRules.{requested_is}
-use Rattle.strategies.proofs.PositionLaws.{ArePositions, are_plain}
+use Rattle.strategies.proofs.PositionLaws.{are_plain}
+use Rattle.strategies.specs.Inside.NumberedPositions.{ArePositions}
 
 -- a finite value is smaller than the number of configurations
 value_below : (board : PlainBoard) (configuration : List ℕ) (number : ℕ) → IsConfiguration board configuration

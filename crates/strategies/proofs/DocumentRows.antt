@@ -13,7 +13,7 @@ use Rattle.strategies.specs.DocumentMoves.{IsAnswerMove, IsRequestMove, LeadsOve
 use Rattle.strategies.specs.PositionDocument.{turns_of, IsLabellerRowOver, IsAdversaryRowOver}
 use Rattle.strategies.proofs.BestAnswers.{best_answer}
 use Rattle.strategies.proofs.BestRequests.{best_request}
-use Rattle.strategies.proofs.PositionLaws.{ArePositions}
+use Rattle.strategies.specs.Inside.NumberedPositions.{ArePositions}
 
 -- a list of numbers, one for each below a bound
 pub each_number : (P : ℕ → ℕ → Type 0) (count : ℕ) → ((k : ℕ) → k < count → (n : ℕ) × P k n)

@@ -1,5 +1,5 @@
 -- The claim and the rows of a document over positions are as the formats have them.
-use Rattle.std.proofs.Common.{◌≡◌, ◌⊎◌, ℕ, ◌<◌, ◌≤◌, true, false, true≢false, List, [], ◌∷◌, length, get_or}
+use Rattle.std.proofs.Common.{◌≡◌, ◌⊎◌, ℕ, ◌<◌, true, false, true≢false, List, [], ◌∷◌, length, get_or}
 use Rattle.std.proofs.Common.{slice_index, refl, sym, ◌∙◌, subst, inl, inr, arith}
 use Rattle.std.specs.List.{Contains}
 use Rattle.std.proofs.lemmas.List.{get_or_default}
@@ -20,7 +20,7 @@ use Rattle.strategies.specs.DocumentMoves.{IsAnswerable, IsAnswerMove, LeadsOver
 use Rattle.strategies.specs.PositionDocument.{turns_of, AsksAdversary, IsLabellerRowOver, IsAdversaryRowOver}
 use Rattle.strategies.specs.PositionDocument.{IsDocumentOver}
 use Rattle.strategies.proofs.KeptRules.{answered_is, start_value}
-use Rattle.strategies.proofs.PositionLaws.{ArePositions}
+use Rattle.strategies.specs.Inside.NumberedPositions.{ArePositions}
 
 -- if best answers lead to places of value 1 or more, they lead from such
 pub start_answerable : (board : PlainBoard) (positions : Positions) (from : List ℕ) (moves : List (ℕ × ℕ))

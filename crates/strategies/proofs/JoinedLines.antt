@@ -107,7 +107,7 @@ module _ {R : Type 0} (board : PlainBoard) (side : Side R) (line : R → List �
     ranks = one.ranks ++ others.ranks;
     listed = listed_on (IsMarked marks) first mid end one.ranks others.ranks before after one.listed others.listed;
     rows = one.are_lines.rows ++ others.rows;
-    are_rows = rows_append board (by_rank board) (are_ranks board) side one.ranks others.ranks one.are_lines.rows
+    are_rows = rows_append (by_rank board) side one.ranks others.ranks one.are_lines.rows
         others.rows one.are_lines.are_rows
         others.are_rows;
     bytes_are = flat_map-cons (λ (p : Lines). p.bytes.items) part parts

@@ -28,7 +28,8 @@ use Rattle.strategies.proofs.ValueOrder.{at_least, less_than_finite}
 use Rattle.strategies.proofs.BestAnswers.{lasts_after}
 use Rattle.strategies.proofs.DocumentRows.{answer_row_for, request_row_for}
 use Rattle.strategies.proofs.NormalForms.{arranged_form}
-use Rattle.strategies.proofs.PositionLaws.{ArePositions, are_normal, are_plain}
+use Rattle.strategies.proofs.PositionLaws.{are_normal, are_plain}
+use Rattle.strategies.specs.Inside.NumberedPositions.{ArePositions}
 use Rattle.strategies.proofs.ReachedByMoves.{answers_lead_to, one_more, requests_lead_to, stays_forever}
 use Rattle.strategies.proofs.RowTurns.{Keeps, enough_left, enough_at_start}
 

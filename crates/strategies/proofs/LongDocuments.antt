@@ -31,9 +31,10 @@ use Rattle.proof_text.specs.Proof.{PlainProof, asks_adversary, asks_labeller}
 use Rattle.proof_text.specs.ProofText.{answer_line, class_request_line, turns_text}
 use Rattle.strategies.specs.ClassDocument.{CannotBeMade}
 use Rattle.strategies.specs.DocumentMoves.{IsRequestMove, LeadsOver}
-use Rattle.strategies.specs.Inside.ClassSide.{class_labeller_side, class_adversary_side, AreMoreReached, HasNoSection}
+use Rattle.strategies.specs.Inside.ClassSide.{class_labeller_side, class_adversary_side}
+use Rattle.strategies.specs.Inside.Sections.{AreMoreReached, HasNoSection}
 use Rattle.strategies.specs.Inside.Numbering.{by_order, class_numbered, IsClassNumber}
-use Rattle.strategies.specs.Inside.ReachedClasses.{IsClassReachedByAnswers, IsClassReachedByRequests}
+use Rattle.strategies.specs.Inside.ReachedOver.{IsReachedByAnswersOver, IsReachedByRequestsOver}
 use Rattle.strategies.specs.PositionDocument.{AsksAdversary, IsLabellerRowOver, IsAdversaryRowOver, IsDocumentOver}
 use Rattle.strategies.specs.Sides.{HasStrategy, claim_for, document_for}
 use Rattle.strategies.specs.declared.unmade.Unmade.{Unmade}
@@ -177,7 +178,8 @@ module _ (board : PlainBoard) (normal : List ℕ → List ℕ) (form : IsNormalF
   pub labeller_too_long : (side : Option Side) (start : Value) (bytes most : ℕ) → HasValue board board.start start
       → HasStrategy side start → asks_labeller (claim_for side (claim_of start)) ≡ true
       → bytes < (most + 1) * (13 + 4 * board.pebbles)
-      → AreMoreReached board (class_labeller_side board normal start) most → HasLongSections side board normal bytes
+      → AreMoreReached (by_order board) (class_labeller_side board normal start) most → HasLongSections side board
+      normal bytes
   labeller_too_long side start bytes most has strategy asked room (numbers, apart, each, more) =
       let made = document_exists_over board (normal_positions normal) (are_normal board normal form) (by_order board)
       (are_orders board) is_board.start in
@@ -186,8 +188,10 @@ module _ (board : PlainBoard) (normal : List ℕ → List ℕ) (form : IsNormalF
       let number_of : AnswerRow → ℕ = λ row. order_number board.labels row.at in
       let listed : (number : ℕ) → Contains numbers number → Contains (map number_of proof.labeller) number =
       λ number among.
-      let found : IsClassNumber board number × IsClassReachedByAnswers board normal number =
-      All-contains (λ m. IsClassNumber board m × IsClassReachedByAnswers board normal m) numbers number each among in
+      let found : IsClassNumber board number
+      × IsReachedByAnswersOver (normal_positions normal) (by_order board) board number =
+      All-contains (λ m. IsClassNumber board m
+      × IsReachedByAnswersOver (normal_positions normal) (by_order board) board m) numbers number each among in
       let row = answer_row_for board (normal_positions normal) is.value found.1.holds.value found.1.moves
       (class_numbered board number)
       found.0.is
@@ -231,7 +235,8 @@ module _ (board : PlainBoard) (normal : List ℕ → List ℕ) (form : IsNormalF
   pub adversary_too_long : (side : Option Side) (start : Value) (bytes most : ℕ) → HasValue board board.start start
       → HasStrategy side start → asks_adversary (claim_for side (claim_of start)) ≡ true
       → bytes < (most + 1) * (13 + 2 * board.pebbles)
-      → AreMoreReached board (class_adversary_side board normal start) most → HasLongSections side board normal bytes
+      → AreMoreReached (by_order board) (class_adversary_side board normal start) most → HasLongSections side board
+      normal bytes
   adversary_too_long side Forever bytes most has strategy asked room more =
       absurd (asks_finite side Forever asked)
   adversary_too_long side (Finite number) bytes most has strategy asked room (numbers, apart, each, more) =
@@ -247,8 +252,10 @@ module _ (board : PlainBoard) (normal : List ℕ → List ℕ) (form : IsNormalF
       let number_of : RequestRow → ℕ = λ row. order_number board.labels row.at in
       let listed : (n : ℕ) → Contains numbers n → Contains (map number_of proof.adversary) n =
       λ n among.
-      let found : IsClassNumber board n × IsClassReachedByRequests board normal n =
-      All-contains (λ m. IsClassNumber board m × IsClassReachedByRequests board normal m) numbers n each among in
+      let found : IsClassNumber board n
+      × IsReachedByRequestsOver (normal_positions normal) (by_order board) board n =
+      All-contains (λ m. IsClassNumber board m
+      × IsReachedByRequestsOver (normal_positions normal) (by_order board) board m) numbers n each among in
       let left = stays_finite from number found.1.moves (class_numbered board n) start_is start_has found.1.reached in
       let row = request_row_for board (normal_positions normal) (are_normal board normal form) left.0 found.1.moves
       (class_numbered board n) found.0.is found.1.reached
@@ -280,14 +287,14 @@ module _ (board : PlainBoard) (normal : List ℕ → List ℕ) (form : IsNormalF
       (strategy : HasStrategy side start) where
     pub labeller_unmade : asks_labeller (claim_for side (claim_of start)) ≡ true
         → bytes < (most + 1) * (13 + 4 * board.pebbles)
-        → (fault : Unmade) → HasNoSection board (class_labeller_side board normal start) most fault
+        → (fault : Unmade) → HasNoSection (by_order board) (class_labeller_side board normal start) most fault
         → HasNoRows side board normal bytes fault
     labeller_unmade asked room TooLong more = labeller_too_long side start bytes most has strategy asked room more
     labeller_unmade asked room Memory none = tt
 
     pub adversary_unmade : asks_adversary (claim_for side (claim_of start)) ≡ true
         → bytes < (most + 1) * (13 + 2 * board.pebbles)
-        → (fault : Unmade) → HasNoSection board (class_adversary_side board normal start) most fault
+        → (fault : Unmade) → HasNoSection (by_order board) (class_adversary_side board normal start) most fault
         → HasNoRows side board normal bytes fault
     adversary_unmade asked room TooLong more = adversary_too_long side start bytes most has strategy asked room more
     adversary_unmade asked room Memory none = tt

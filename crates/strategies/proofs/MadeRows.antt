@@ -1,4 +1,4 @@
--- One row of a document, as it is made.
+-- One row of the labeller's in a document, as it is made.
 use Rattle.std.proofs.Common.{◌≡◌, ℕ, ◌+◌, ◌<◌, ◌≤◌, List, length, slice_index, slice_set, take, None, inl, inr, refl}
 use Rattle.std.proofs.Common.{sym, ◌∙◌, subst, arith}
 use Rattle.std.proofs.Math.ListN.{length-set}
@@ -12,21 +12,23 @@ use Rattle.positions.specs.Value.{HasValue}
 use Rattle.proof_text.specs.Positions.{Positions}
 use Rattle.positions.proofs.Cited.{same_value}
 use Rattle.strategies.specs.Best.{IsLess, IsBestAnswer, IsBestFor}
+use Rattle.strategies.specs.DocumentMoves.{IsAnswerable}
 use Rattle.strategies.specs.Inside.Numbering.{Numbering}
 use Rattle.strategies.specs.Inside.ReachedOver.{IsReachedByAnswersOver}
+use Rattle.strategies.specs.Inside.Sections.{AreTaken}
 use Rattle.strategies.specs.PositionDocument.{turns_of, IsLabellerRowOver}
 use Rattle.strategies.proofs.DocumentRows.{answers_one}
 
 -- the best answers to requests below a pebble are in their places, and all others are 0
-pub record AreTaken (board : PlainBoard) (configuration : List ℕ) (bound : ℕ) (labels : List ℕ) : Type 0 where
+pub record AreTakenBelow (board : PlainBoard) (configuration : List ℕ) (bound : ℕ) (labels : List ℕ) : Type 0 where
   pub six : length labels ≡ 6
   pub best : (pebble : ℕ) → pebble < bound → IsBestAnswer board configuration pebble (slice_index labels pebble)
   pub rest : (pebble : ℕ) → bound ≤ pebble → slice_index labels pebble ≡ 0
 
 pub taken_more : (board : PlainBoard) (configuration : List ℕ) (pebble label : ℕ) (labels : List ℕ)
-    → pebble < MAX_PEBBLES → AreTaken board configuration pebble labels
+    → pebble < MAX_PEBBLES → AreTakenBelow board configuration pebble labels
     → IsBestAnswer board configuration pebble label
-    → AreTaken board configuration (pebble + 1) (slice_set labels pebble label)
+    → AreTakenBelow board configuration (pebble + 1) (slice_set labels pebble label)
 taken_more board configuration pebble label labels low taken is = record {
   six = length-set labels pebble label ∙ taken.six;
   best = λ other below. elim (cases_eq other pebble) [
@@ -41,28 +43,36 @@ taken_more board configuration pebble label labels low taken is = record {
       ∙ taken.rest other (omega arith);
 }
 
+pub all_taken : (board : PlainBoard) (configuration : List ℕ) (bound : ℕ) (labels : List ℕ) → bound ≡ board.pebbles
+    → AreTakenBelow board configuration bound labels → AreTaken board configuration labels
+all_taken board configuration bound labels end taken = record {
+  room = taken.six;
+  best = λ pebble below. taken.best pebble (omega (arith, below, end));
+  rest = λ pebble above. taken.rest pebble (omega (arith, above, end));
+}
+
+-- places of value 1 or more have an answer to each request
+pub has_answer : (board : PlainBoard) (places : List ℕ) → IsAnswerable board places → (pebble : ℕ)
+    → pebble < board.pebbles → IsBestFor board places pebble None → ⊥
+has_answer board places holds pebble is_pebble none =
+    let answer = answers_one board places holds.value holds.has_value holds.some pebble is_pebble in
+    none answer.0 answer.1
+
 module _ (board : PlainBoard) (positions : Positions) (numbering : Numbering) (number : ℕ)
     (reached : IsReachedByAnswersOver positions numbering board number) where
   abbrev places : List ℕ
   places = numbering.places number
 
-  -- places of value 1 or more have an answer to each request
-  pub has_answer : (pebble : ℕ) → pebble < board.pebbles → IsBestFor board places pebble None → ⊥
-  has_answer pebble is_pebble none =
-      let answer = answers_one board places reached.holds.value reached.holds.has_value reached.holds.some pebble
-      is_pebble in
-      none answer.0 answer.1
-
   -- the labeller's row there
-  pub labeller_row_is : (start value : Value) (bound : ℕ) (labels : List ℕ) → IsBoard board → board.pebbles ≤ bound
-      → HasValue board places value → AreTaken board places bound labels
+  pub labeller_row_is : (start value : Value) (labels : List ℕ) → IsBoard board
+      → HasValue board places value → AreTaken board places labels
       → IsLabellerRowOver positions board start
       (record { at = places; turns = turns_of start value; answers = take board.pebbles labels })
-  labeller_row_is start value bound labels is_board enough has taken =
+  labeller_row_is start value labels is_board has taken =
       let same : reached.holds.value ≡ value =
       same_value board places reached.holds.value value reached.holds.has_value has in
       let most = is_board.pebbles in
-      let room : board.pebbles ≤ length labels = omega (arith, most, taken.six) in
+      let room : board.pebbles ≤ length labels = omega (arith, most, taken.room) in
       record {
         moves = reached.moves;
         reached = reached.reached;
@@ -73,5 +83,5 @@ module _ (board : PlainBoard) (positions : Positions) (numbering : Numbering) (n
         one_each = length-take-le board.pebbles labels room;
         best = λ pebble below. subst (IsBestAnswer board places pebble)
             (sym (get_or-take board.pebbles labels pebble 0 below))
-            (taken.best pebble (omega (arith, below, enough)));
+            (taken.best pebble below);
       }

@@ -1,20 +1,10 @@
 -- Laws of the numbers of places.
-use Rattle.std.proofs.Common.{◌≡◌, ℕ, ◌<◌, ◌≤◌, List, arith}
-use Rattle.board_text.specs.PlainBoard.{PlainBoard, IsConfiguration}
+use Rattle.std.proofs.Common.{ℕ, ◌<◌, ◌≤◌, arith}
+use Rattle.board_text.specs.PlainBoard.{PlainBoard}
 use Rattle.positions.specs.Ranks.{configurations}
 use Rattle.positions.proofs.Cited.{configuration_at_is, configuration_at-rank_of, rank_below, rank_of-configuration_at}
-use Rattle.strategies.specs.Inside.Numbering.{Numbering, by_rank, by_order}
+use Rattle.strategies.specs.Inside.Numbering.{IsNumbering, by_rank, by_order}
 use Rattle.strategies.proofs.ClassNumbers.{class_numbered-order, last_number, number-ends, number-of}
-
--- each configuration has a number, which has its places again, and all numbers are below one
-pub record IsNumbering (board : PlainBoard) (numbering : Numbering) : Type 0 where
-  pub is : (number : ℕ) → numbering.IsNumber number → IsConfiguration board (numbering.places number)
-  pub again : (number : ℕ) → numbering.IsNumber number → numbering.number (numbering.places number) ≡ number
-  pub number_is : (places : List ℕ) → IsConfiguration board places → numbering.IsNumber (numbering.number places)
-  pub places_are : (places : List ℕ) → IsConfiguration board places → numbering.places (numbering.number places)
-      ≡ places
-  pub end : ℕ
-  pub below : (number : ℕ) → numbering.IsNumber number → number < end
 
 pub are_ranks : (board : PlainBoard) → IsNumbering board (by_rank board)
 are_ranks board = record {

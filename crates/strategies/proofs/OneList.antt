@@ -23,7 +23,7 @@ use Rattle.strategies.specs.PositionDocument.{turns_of, AsksAdversary, IsLabelle
 use Rattle.strategies.specs.PositionDocument.{AreExactlyOver, IsDocumentOver}
 use Rattle.strategies.proofs.BestAnswers.{same_answer}
 use Rattle.strategies.proofs.BestRequests.{same_request}
-use Rattle.strategies.proofs.PositionLaws.{ArePositions}
+use Rattle.strategies.specs.Inside.NumberedPositions.{ArePositions}
 
 -- ---- ascending lists with the same members
 

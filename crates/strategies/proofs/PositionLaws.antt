@@ -1,31 +1,12 @@
 -- Laws of the normal places of configurations, and of the pebbles that rows ask.
-use Rattle.std.proofs.Common.{◌≡◌, ℕ, ◌<◌, List, length, get_or, refl, sym, ap, ◌∙◌, arith}
-use Rattle.board_text.specs.PlainBoard.{PlainBoard, IsConfiguration}
-use Rattle.positions.specs.declared.value.Value.{Value}
+use Rattle.std.proofs.Common.{ℕ, List, get_or, refl, sym, ap, ◌∙◌, arith}
+use Rattle.board_text.specs.PlainBoard.{PlainBoard}
 use Rattle.positions.specs.Table.{RequestRow}
-use Rattle.positions.specs.Value.{HasValue}
-use Rattle.proof_text.specs.Positions.{Positions, asked_pebble, configuration_positions, normal_positions}
+use Rattle.proof_text.specs.Positions.{asked_pebble, configuration_positions, normal_positions}
 use Rattle.proof_text.proofs.Cited.{asked_below, asked_place}
-use Rattle.strategies.specs.Best.{IsBestRequest}
 use Rattle.strategies.specs.Inside.NormalForm.{IsNormalForm}
 use Rattle.strategies.proofs.LikePebbles.{first-best}
-
--- a row at the places asks for a best request
-pub record AsksBest (board : PlainBoard) (positions : Positions) (row : RequestRow) : Type 0 where
-  pub asks : positions.asked row < length row.at
-  pub best : IsBestRequest board row.at (positions.asked row)
-
--- the normal places of a configuration are one of the same value; a row can ask for a best request
--- at each, and has the one request by which it asks for a pebble
-pub record ArePositions (board : PlainBoard) (positions : Positions) : Type 0 where
-  pub is : (places : List ℕ) → IsConfiguration board places → IsConfiguration board (positions.normal places)
-  pub same_value : (places : List ℕ) → IsConfiguration board places → (value : Value) → HasValue board places value
-      → HasValue board (positions.normal places) value
-  pub asking : (places : List ℕ) (left pebble : ℕ) → IsConfiguration board places → IsBestRequest board places pebble
-      → (request : ℕ) × AsksBest board positions (record { at = places; left = left; request = request })
-  pub one : (first second : RequestRow) → positions.asked first < length first.at
-      → positions.asked second < length second.at → first.at ≡ second.at → positions.asked first ≡ positions.asked
-      second → first.request ≡ second.request
+use Rattle.strategies.specs.Inside.NumberedPositions.{ArePositions}
 
 pub are_plain : (board : PlainBoard) → ArePositions board configuration_positions
 are_plain board = record {

@@ -8,7 +8,7 @@ use Rattle.positions.proofs.Cited.{moved_is_configuration}
 use Rattle.proof_text.specs.Positions.{Positions}
 use Rattle.strategies.specs.DocumentMoves.{IsAnswerMove, IsRequestMove, LeadsOver}
 use Rattle.strategies.proofs.BestAnswers.{lasts_after}
-use Rattle.strategies.proofs.PositionLaws.{ArePositions}
+use Rattle.strategies.specs.Inside.NumberedPositions.{ArePositions}
 
 -- one move more
 pub one_more : (positions : Positions) (IsMove : List ℕ → ℕ → ℕ → Type 0) (from : List ℕ) (moves : List (ℕ × ℕ))

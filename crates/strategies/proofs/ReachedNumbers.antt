@@ -12,7 +12,8 @@ use Rattle.std.proofs.lemmas.List.Sorted.{Contains-permutation, IsPermutation-sy
 use Rattle.std.proofs.lemmas.Map.Keys.{IsDistinct-IsPermutation}
 use Rattle.std.proofs.lemmas.Map.Made.{AllPairs-from_IsDistinct, is_member-Decides}
 use Rattle.indexmap.specs.IndexSet.{insert_key}
-use Rattle.strategies.specs.Inside.ReachedRanks.{AreInOrder, IsWith}
+use Rattle.strategies.specs.Inside.Reached.{AreInOrder}
+use Rattle.strategies.proofs.AddedRanks.{IsWith}
 
 -- no number is there twice
 pub still_apart : (numbers : List ℕ) → IsDistinct eqb numbers → AllPairs (λ first second. first ≢ second) numbers
@@ -40,7 +41,7 @@ key_added numbers number =
 
 -- the numbers that are sorted are the same, in ascending order
 pub in_order : (numbers ordered : List ℕ) → IsDistinct eqb numbers → IsPermutation numbers ordered
-    → IsSorted nat_cmp ordered → AreInOrder numbers ordered
+    → IsSorted nat_cmp ordered → AreInOrder (Contains numbers) ordered
 in_order numbers ordered once same sorted =
     let apart : AllPairs (λ first second. first ≢ second) ordered =
     still_apart ordered (IsDistinct-IsPermutation eqb nat_eq_equiv.symm numbers ordered same once) in

@@ -7,10 +7,10 @@ use Rattle.std.proofs.lemmas.List.Elements.{Contains-append_right, Contains-get_
 use Rattle.std.proofs.lemmas.List.Kept.{AllPairs-cons}
 use Rattle.board_text.specs.PlainBoard.{PlainBoard}
 use Rattle.strategies.specs.Inside.Numbering.{Numbering}
-use Rattle.strategies.specs.Inside.ReachedRanks.{AreInOrder}
+use Rattle.strategies.specs.Inside.Reached.{AreInOrder}
 use Rattle.strategies.specs.Inside.Side.{Side, AreOfReached, AreReached, IsRowAt, MayStandAt, AreRowsAt, AreSection}
 use Rattle.strategies.specs.Inside.Marks.{AreListed, IsMarked}
-use Rattle.strategies.proofs.Numberings.{IsNumbering}
+use Rattle.strategies.specs.Inside.Numbering.{IsNumbering}
 use Rattle.strategies.proofs.OneList.{behind_first, tail_ascends}
 
 nothing_in : {X : Type 0} (x : X) → Contains [] x → ⊥
@@ -19,8 +19,7 @@ nothing_in x among = let inside : among.0 < 0 = among.1 in omega arith
 in_one : {X : Type 0} (y x : X) → Contains (y ∷ []) x → y ≡ x
 in_one y x among = elim (Contains-push_cases [] y x among) [ inl none ↦ absurd (nothing_in x none) | inr same ↦ same ]
 
-module _ {R : Type 0} (board : PlainBoard) (numbering : Numbering) (are : IsNumbering board numbering)
-    (side : Side R) where
+module _ {R : Type 0} (numbering : Numbering) (side : Side R) where
   option_append : (row : Option R) (others more : List R) → cons_option row others ++ more ≡ cons_option row
       (others ++ more)
   option_append None others more = refl
@@ -47,6 +46,8 @@ module _ {R : Type 0} (board : PlainBoard) (numbering : Numbering) (are : IsNumb
   rows_push xs number rows row are is = rows_append xs (number ∷ []) rows (cons_option row []) are
       (row, [], is, refl, refl)
 
+module _ {R : Type 0} (board : PlainBoard) (numbering : Numbering) (are : IsNumbering board numbering)
+    (side : Side R) where
   -- the row stands at the configuration of one of the numbers
   abbrev StandsAmong : List ℕ → side.Row → Type 0
   StandsAmong numbers row = (number : ℕ) × Contains numbers number × side.IsRow row
@@ -172,10 +173,11 @@ module _ {R : Type 0} (board : PlainBoard) (numbering : Numbering) (are : IsNumb
   }
 
   -- the numbers are listed in order
-  pub section_in_order : (reached numbers : List ℕ) (rows : List R) → AreReached numbering board side (Contains reached)
-      → AreInOrder reached numbers → AreRowsAt numbering side numbers rows → AreSection numbering side rows
-  section_in_order reached numbers rows are_reached order =
-      section_is (Contains reached) numbers rows are_reached (λ number is_number. order.each number)
+  pub section_in_order : (Among : ℕ → Type 0) (numbers : List ℕ) (rows : List R)
+      → AreReached numbering board side Among
+      → AreInOrder Among numbers → AreRowsAt numbering side numbers rows → AreSection numbering side rows
+  section_in_order Among numbers rows are_reached order =
+      section_is Among numbers rows are_reached (λ number is_number. order.each number)
       (λ number. (order.each number).0) order.ascending
 
   -- the numbers are marked, and listed up to an end that is past all numbers
@@ -192,8 +194,8 @@ module _ {R : Type 0} (board : PlainBoard) (numbering : Numbering) (are : IsNumb
       (λ number among. ((listed.each number).0 among).0) listed.ascending
 
   -- a row may stand at each of the numbers
-  pub may_stand : (reached numbers : List ℕ) → AreReached numbering board side (Contains reached)
-      → AreInOrder reached numbers → All (MayStandAt numbering side) numbers
-  may_stand reached numbers are_reached order = λ k d inside.
+  pub may_stand : (Among : ℕ → Type 0) (numbers : List ℕ) → AreReached numbering board side Among
+      → AreInOrder Among numbers → All (MayStandAt numbering side) numbers
+  may_stand Among numbers are_reached order = λ k d inside.
       (are_reached.each (get_or numbers k d)).0
       ((order.each (get_or numbers k d)).0 (Contains-get_or numbers k d inside))

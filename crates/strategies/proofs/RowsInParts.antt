@@ -9,7 +9,6 @@ use Rattle.rayon.specs.Lists.{chunks_of}
 use Rattle.rayon.proofs.ToStd.{chunks_of-concat}
 use Rattle.strategies.specs.Inside.Numbering.{by_order}
 use Rattle.strategies.specs.Inside.Side.{Side, AreRowsAt}
-use Rattle.strategies.proofs.Numberings.{are_orders}
 use Rattle.strategies.proofs.RowsAt.{rows_append}
 
 module _ {R : Type 0} (board : PlainBoard) (side : Side R) {S : Type 0} (items : S → List R) where
@@ -29,7 +28,7 @@ module _ {R : Type 0} (board : PlainBoard) (side : Side R) {S : Type 0} (items :
       (sym (flat_map-cons items s made))
       (subst (λ (l : List ℕ). AreRowsAt (by_order board) side l (items s ++ flat_map items made))
       (sym (flat_map-cons (λ l. l) x.now (map (λ (y : Bor (List ℕ)). y.now) parts)))
-      (rows_append board (by_order board) (are_orders board) side x.now
+      (rows_append (by_order board) side x.now
       (flat_map (λ l. l) (map (λ (y : Bor (List ℕ)). y.now) parts)) (items s)
       (flat_map items made)
       are.0 (side_by_side E parts made are.1)))

@@ -1,5 +1,5 @@
 -- The tables of the document of a board show its claim.
-use Rattle.std.proofs.Common.{◌≡◌, List, get_or, sym, ap, ◌∙◌}
+use Rattle.std.proofs.Common.{◌≡◌, get_or, sym, ap, ◌∙◌}
 use Rattle.std.specs.List.{All}
 use Rattle.std.proofs.lemmas.List.Elements.{Contains-get_or}
 use Rattle.board_text.specs.PlainBoard.{PlainBoard, IsConfiguration}

@@ -23,8 +23,10 @@ use Rattle.strategies.proofs.AddedRanks.{contains_or_not}
 use Rattle.strategies.proofs.DocumentRows.{answer_row_for, request_row_for}
 use Rattle.strategies.proofs.GatheredRows.{adversarys, labellers, no_request, no_row_there, row_there}
 use Rattle.strategies.proofs.NormalForms.{arranged_form}
-use Rattle.strategies.proofs.Numberings.{IsNumbering, are_orders, are_ranks}
-use Rattle.strategies.proofs.PositionLaws.{ArePositions, are_normal, are_plain}
+use Rattle.strategies.proofs.Numberings.{are_orders, are_ranks}
+use Rattle.strategies.specs.Inside.Numbering.{IsNumbering}
+use Rattle.strategies.proofs.PositionLaws.{are_normal, are_plain}
+use Rattle.strategies.specs.Inside.NumberedPositions.{ArePositions}
 use Rattle.strategies.proofs.ReachedLists.{answers_reach, requests_reach}
 use Rattle.strategies.proofs.RowLists.{AreExactlyBelow, all_rows, no_rows, same_fact}
 

@@ -8,14 +8,13 @@ use Rattle.std.proofs.lemmas.Option.{slice_get_within, get_or_from_slice_get, sl
 use Rattle.board_text.specs.PlainBoard.{PlainBoard, IsConfiguration}
 use Rattle.positions.specs.Game.{moved}
 use Rattle.positions.proofs.Cited.{moved_is_configuration}
-use Rattle.proof_text.specs.Positions.{Positions, normal_positions}
+use Rattle.proof_text.specs.Positions.{Positions}
 use Rattle.strategies.specs.DocumentMoves.{IsAnswerable, IsAnswerMove, IsRequestMove, LeadsOver}
-use Rattle.strategies.specs.Inside.Numbering.{Numbering, by_order, AreAll}
-use Rattle.strategies.specs.Inside.ReachedClasses.{ClassAnswerLeads, ClassRequestLeads}
+use Rattle.strategies.specs.Inside.Numbering.{Numbering, AreAll}
 use Rattle.strategies.specs.Inside.ReachedOver.{number_over, AnswerLeadsOver, RequestLeadsOver, IsReachedOver}
-use Rattle.strategies.specs.Inside.ReachedRanks.{IsWithAll}
-use Rattle.strategies.proofs.Numberings.{IsNumbering}
-use Rattle.strategies.proofs.PositionLaws.{ArePositions}
+use Rattle.strategies.proofs.AddedRanks.{IsWithAll}
+use Rattle.strategies.specs.Inside.Numbering.{IsNumbering}
+use Rattle.strategies.specs.Inside.NumberedPositions.{ArePositions}
 use Rattle.strategies.proofs.ReachedByMoves.{one_more, moves_stay}
 
 -- ---- a list of numbers that is worked off
@@ -126,14 +125,6 @@ module _ (board : PlainBoard) (positions : Positions) (numbering : Numbering) (I
   pub spread_found : (place number : ℕ) (numbers : List ℕ) → IsSpreadBy place numbers
       → slice_get numbers place ≡ Some number → numbering.IsNumber number
   spread_found place number numbers spread there = (spread.on.sound number (get_there numbers place number there)).0
-
-abbrev pub IsSpreadByAnswers : PlainBoard → (List ℕ → List ℕ) → ℕ → List ℕ → Type 0
-IsSpreadByAnswers board normal = IsSpreadBy board (normal_positions normal) (by_order board) (IsAnswerMove board)
-    (IsAnswerable board) (ClassAnswerLeads board normal)
-
-abbrev pub IsSpreadByRequests : PlainBoard → (List ℕ → List ℕ) → ℕ → List ℕ → Type 0
-IsSpreadByRequests board normal = IsSpreadBy board (normal_positions normal) (by_order board) (IsRequestMove board)
-    (λ c. Unit {0}) (ClassRequestLeads board normal)
 
 module _ (board : PlainBoard) (positions : Positions) (are_positions : ArePositions board positions)
     (numbering : Numbering) (are_numbers : IsNumbering board numbering) (IsMove : List ℕ → ℕ → ℕ → Type 0)

@@ -64,7 +64,7 @@ module _ {R : Type 0} (board : PlainBoard) (side : Side R) (line : R → List �
       → AreLinesAt board side line (ranks ++ rank ∷ []) more (count + 1)
   one_line ranks bytes more count rank row are is there = record {
     rows = are.rows ++ row ∷ [];
-    are_rows = rows_push board (by_rank board) (are_ranks board) side ranks rank are.rows (Some row) are.are_rows is;
+    are_rows = rows_push (by_rank board) side ranks rank are.rows (Some row) are.are_rows is;
     bytes_are = there ∙ ap (λ l. l ++ line row) are.bytes_are
         ∙ ap (λ l. flat_map line are.rows ++ l) (sym (append-nil (line row)) ∙ sym (flat_map-cons line row []))
         ∙ sym (flat_map-append line are.rows (row ∷ []));
@@ -76,7 +76,7 @@ module _ {R : Type 0} (board : PlainBoard) (side : Side R) (line : R → List �
       → IsRowAt (by_rank board) side rank None → AreLinesAt board side line (ranks ++ rank ∷ []) bytes count
   no_line ranks bytes count rank are none = record {
     rows = are.rows ++ [];
-    are_rows = rows_push board (by_rank board) (are_ranks board) side ranks rank are.rows None are.are_rows none;
+    are_rows = rows_push (by_rank board) side ranks rank are.rows None are.are_rows none;
     bytes_are = are.bytes_are ∙ ap (flat_map line) (sym (append-nil are.rows));
     count_is = are.count_is ∙ ap length (sym (append-nil are.rows));
   }

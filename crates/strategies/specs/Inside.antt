@@ -9,10 +9,13 @@ pub mod Marks
 pub mod Numbering
 pub mod ReachedOver
 pub mod Side
-pub mod ReachedRanks
 pub mod ReachedMarks
+pub mod ReachedLists
+pub mod Reached
+pub mod NumberedPositions
+pub mod Sections
+pub mod NormalWalks
 pub mod Lines
 pub mod NormalForm
-pub mod ReachedClasses
 pub mod ClassSide
 pub mod LongSections

@@ -17,7 +17,7 @@ use crate::best_moves::BestMoves;
 use crate::moves::Moves;
 use crate::moves_here::MovesHere;
 use crate::rank_moves::RankMoves;
-use crate::rows::section;
+use crate::rank_sections::rank_section;
 use crate::walk::Walk;
 use board_text::{Board, Memory};
 use positions::{Claim, MAX_CONFIGURATIONS, Space, Value};
@@ -59,9 +59,9 @@ pub fn document_by<M: Moves>(alloc: Global, moves: &M, space: &Space) -> Result<
 {
     let ranked = RankMoves::of(alloc, moves, space)?;
     let value = Walk::at(&ranked, ranked.start()).value();
-    let labeller = section(alloc, &ranked, value)?;
+    let labeller = rank_section(alloc, &ranked, value)?;
     let adversary = match value {
-        Value::Finite(_) => section(alloc, &ranked, value)?,
+        Value::Finite(_) => rank_section(alloc, &ranked, value)?,
         Value::Forever => Vec::new(alloc),
     };
     Ok(ranked.document_of(value, labeller, adversary))

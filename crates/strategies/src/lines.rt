@@ -2,13 +2,14 @@
 
 ghost use Rattle.strategies.specs.Inside.Marks.{IsMarked};
 ghost use Rattle.std.specs.Prelude.{◌≡◌, ◌+◌, ◌*◌, ◌^◌, ◌<◌, ◌≤◌, IfOk};
+ghost use Rattle.strategies.specs.Inside.NumberedPositions.{over_ranks};
 ghost use Rattle.strategies.specs.Inside.Lines.{AreLinesBetween, AreSectionLines};
 ghost use Rattle.strategies.specs.Inside.Numbering.{by_rank};
 ghost use Rattle.strategies.specs.Inside.Side.{AreReached};
 
 use crate::marks::Marks;
 use crate::rank_moves::RankMoves;
-use crate::sections::SectionRow;
+use crate::rank_sections::{LineRow, reached_marks};
 use crate::walk::Walk;
 use board_text::Memory;
 use positions::{MAX_CONFIGURATIONS, Value};
@@ -30,17 +31,17 @@ pub(crate) struct Lines {
 
 /// The lines of one side's rows of the document of a board whose start has the value `start`, in
 /// ascending rank. They are one part.
-pub(crate) fn section_lines<R: SectionRow>(
+pub(crate) fn section_lines<R: LineRow>(
     alloc: Global,
     moves: &RankMoves<'_>,
     words: &PlaceWords,
     start: Value,
 ) -> Result<Vec<Lines>, Memory>
     requires { words.now ≡ moves.now.labels }
-    ensures { IfOk result (λ parts. AreSectionLines moves.now (R.side moves.now start)
+    ensures { IfOk result (λ parts. AreSectionLines moves.now (R.side (over_ranks moves.now) start)
         (R.line moves.now) parts.items) }
 {
-    let marks = R::reached(moves, alloc)?;
+    let marks = reached_marks::<R>(alloc, moves)?;
     let end = moves.space().configurations();
     let mut parts = Vec::new(alloc);
     parts.push(lines_between::<R>(alloc, moves, words, start, &marks, 0..end)?)?;
@@ -49,7 +50,7 @@ pub(crate) fn section_lines<R: SectionRow>(
 
 /// The same, in at most `parts` parts of consecutive ranks. Threads make them if each has
 /// `LEAST_SPAN` ranks or more, and one can be started.
-pub(crate) fn section_lines_in_parts<R: SectionRow + Send + Sync>(
+pub(crate) fn section_lines_in_parts<R: LineRow + Send + Sync>(
     rt: &(impl Threads + Sync),
     alloc: Global,
     moves: &RankMoves<'_>,
@@ -59,7 +60,7 @@ pub(crate) fn section_lines_in_parts<R: SectionRow + Send + Sync>(
 ) -> Result<Vec<Lines>, Memory>
     requires words { words.now ≡ moves.now.labels }
     requires parts { 1 ≤ parts }
-    ensures { IfOk result (λ parts. AreSectionLines moves.now (R.side moves.now start)
+    ensures { IfOk result (λ parts. AreSectionLines moves.now (R.side (over_ranks moves.now) start)
         (R.line moves.now) parts.items) }
 {
     let size = moves
@@ -72,7 +73,7 @@ pub(crate) fn section_lines_in_parts<R: SectionRow + Send + Sync>(
 
 /// The lines of one side's rows at the configurations that were reached, a part for each `size`
 /// ranks.
-fn lines_of_spans<R: SectionRow + Send + Sync>(
+fn lines_of_spans<R: LineRow + Send + Sync>(
     rt: &(impl Threads + Sync),
     alloc: Global,
     moves: &RankMoves<'_>,
@@ -83,10 +84,10 @@ fn lines_of_spans<R: SectionRow + Send + Sync>(
     requires words { words.now ≡ moves.now.labels }
     requires some { 0 < size }
     requires few { size ≤ MAX_CONFIGURATIONS }
-    ensures { IfOk result (λ parts. AreSectionLines moves.now (R.side moves.now start)
+    ensures { IfOk result (λ parts. AreSectionLines moves.now (R.side (over_ranks moves.now) start)
         (R.line moves.now) parts.items) }
 {
-    let marks = R::reached(moves, alloc)?;
+    let marks = reached_marks::<R>(alloc, moves)?;
     let count = moves.space().configurations().div_ceil(size);
     let lines: Result<Vec<Lines>, Memory> = (0..count)
         .into_par_iter()
@@ -94,11 +95,12 @@ fn lines_of_spans<R: SectionRow + Send + Sync>(
         .map(
             |span: u32| -> Result<Lines, Memory>
                 requires words { words.now ≡ moves.now.labels }
-                requires reached { AreReached (by_rank moves.now) moves.now (R.side moves.now start)
+                requires reached { AreReached (by_rank moves.now) moves.now (R.side (over_ranks
+                    moves.now) start)
                     (IsMarked marks) }
                 requires end { span * size + size < 2 ^ 32 }
                 ensures { IfOk result (AreLinesBetween moves.entry.now
-                    (R.side moves.entry.now start) (R.line moves.entry.now) marks
+                    (R.side (over_ranks moves.entry.now) start) (R.line moves.entry.now) marks
                     (span * size) (span * size + size)) }
             {
                 let first = span * size;
@@ -111,7 +113,7 @@ fn lines_of_spans<R: SectionRow + Send + Sync>(
 
 /// The lines of one side's rows at the configurations of the marked ranks, which are those that
 /// were reached, and in the `span`.
-fn lines_between<R: SectionRow>(
+fn lines_between<R: LineRow>(
     alloc: Global,
     moves: &RankMoves<'_>,
     words: &PlaceWords,
@@ -120,10 +122,12 @@ fn lines_between<R: SectionRow>(
     span: Range<u32>,
 ) -> Result<Lines, Memory>
     requires words { words.now ≡ moves.now.labels }
-    requires reached { AreReached (by_rank moves.now) moves.now (R.side moves.now start)
+    requires reached { AreReached (by_rank moves.now) moves.now (R.side (over_ranks moves.now)
+        start)
         (IsMarked marks.now) }
     requires span { span.start ≤ span.end }
-    ensures { IfOk result (AreLinesBetween moves.now (R.side moves.now start) (R.line moves.now)
+    ensures { IfOk result (AreLinesBetween moves.now (R.side (over_ranks moves.now) start) (R.line
+        moves.now)
         marks.now span.start span.end) }
 {
     let mut walk = Walk::at(moves, moves.start());
@@ -132,7 +136,7 @@ fn lines_between<R: SectionRow>(
     let mut from = span.start;
     while let Some(rank) = marks.first_between(from, span.end) {
         walk.move_to(rank);
-        if let Some(row) = R::at(&walk, rank, start) {
+        if let Some(row) = R::at(&walk, rank as u64, start) {
             row.write(&walk, words, &mut text)?;
             rows += 1;
         }

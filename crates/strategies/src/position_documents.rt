@@ -18,39 +18,39 @@ ghost use Rattle.strategies.specs.Sides.{HasStrategy, claim_for as claim_by};
 use crate::class_documents::{MadeDocument, adversary_room, labeller_room};
 use crate::class_rows::section_in_parts;
 use crate::moves::Moves;
-use crate::normal::Normal;
 use crate::sides::{asks_adversary, asks_labeller, claim_for};
 use crate::unmade::Unmade;
 use positions::{Side, Value};
 use proof_text::{AdversaryClassRow, ClassProof, LabellerClassRow};
 use std::alloc::Global;
 use std::thread::Threads;
+use symmetries::Alike;
 
-/// The value of the start of the board of `moves`, and the rows of its document over `normal`
+/// The value of the start of the board of `moves`, and the rows of its document over normal
 /// places, for `side` alone or for both, made in at most `parts` parts, unless they have more bytes
 /// than `bytes`.
 pub(crate) fn document_over<M: Moves + Sync>(
     rt: &(impl Threads + Sync),
     alloc: Global,
     moves: &M,
-    normal: &Normal,
+    alike: &Alike,
     side: Option<Side>,
     bytes: usize,
     parts: u32,
 ) -> Result<MadeDocument, Unmade>
-    requires normal { IsNormalBy (M.board moves.now) normal.now }
+    requires normal { IsNormalBy (M.board moves.now) alike.now }
     requires strategy { (value : ValueData)
         → HasValue (M.board moves.now) (M.board moves.now).start value → HasStrategy side value }
     requires parts { 1 ≤ parts }
     ensures has_value { IfOk result (λ made. HasValue (M.board moves.now)
         (M.board moves.now).start made.value) }
     ensures document { IfOk result (λ made. IsDocumentOverFor side (M.board moves.now)
-        (normal_by (M.board moves.now) normal.now)
+        (normal_by (M.board moves.now) alike.now)
         (plain_class_proof (M.board moves.now) made.proof)) }
     ensures padded { IfOk result (λ made. AreClassPadded (M.board moves.now) made.proof) }
     ensures is_board { IfOk result (λ _. IsBoard (M.board moves.now)) }
     ensures fault { IfErr result (HasNoRows side (M.board moves.now) (normal_by
-        (M.board moves.now) normal.now) bytes) }
+        (M.board moves.now) alike.now) bytes) }
 {
     let moves = moves.listed(alloc)?;
     let pebbles = moves.board().pebbles();
@@ -58,42 +58,42 @@ pub(crate) fn document_over<M: Moves + Sync>(
     let claim = claim_for(side, value);
     let most = labeller_room(pebbles, bytes);
     let labeller = if asks_labeller(claim) {
-        section_in_parts(rt, alloc, &moves, normal, value, most, parts)?
+        section_in_parts(rt, alloc, &moves, alike, value, most, parts)?
     } else {
         Vec::new(alloc)
     };
     let most = adversary_room(pebbles, bytes);
     let adversary = if asks_adversary(claim) {
-        section_in_parts(rt, alloc, &moves, normal, value, most, parts)?
+        section_in_parts(rt, alloc, &moves, alike, value, most, parts)?
     } else {
         Vec::new(alloc)
     };
-    Ok(rows_of(&moves, normal, value, side, labeller, adversary))
+    Ok(rows_of(&moves, alike, value, side, labeller, adversary))
 }
 
-/// The document over `normal` places of the board of `moves`, whose start has the value `value`,
+/// The document over normal places of the board of `moves`, whose start has the value `value`,
 /// for `side` alone or for both, with the rows of each side that it has.
 pub(crate) fn rows_of<M: Moves>(
     moves: &M,
-    normal: &Normal,
+    alike: &Alike,
     value: Value,
     side: Option<Side>,
     labeller: Vec<LabellerClassRow>,
     adversary: Vec<AdversaryClassRow>,
 ) -> MadeDocument
-    requires normal { IsNormalBy (M.board moves.now) normal.now }
+    requires normal { IsNormalBy (M.board moves.now) alike.now }
     requires start { IsConfiguration (M.board moves.now) (M.board moves.now).start }
     requires value { HasValue (M.board moves.now) (M.board moves.now).start value }
     requires strategy { HasStrategy side value }
     requires labeller { AreClassRowsIf (asks_labeller_by (claim_by side (claim_of value)))
         (M.board moves.now) (class_labeller_side (M.board moves.now) (normal_by
-        (M.board moves.now) normal.now) value) labeller.items }
+        (M.board moves.now) alike.now) value) labeller.items }
     requires adversary { AreClassRowsIf (asks_adversary_by (claim_by side (claim_of value)))
         (M.board moves.now) (class_adversary_side (M.board moves.now) (normal_by
-        (M.board moves.now) normal.now) value) adversary.items }
+        (M.board moves.now) alike.now) value) adversary.items }
     ensures value { result.value ≡ value }
     ensures document { IsDocumentOverFor side (M.board moves.now) (normal_by
-        (M.board moves.now) normal.now) (plain_class_proof (M.board moves.now) result.proof) }
+        (M.board moves.now) alike.now) (plain_class_proof (M.board moves.now) result.proof) }
     ensures padded { AreClassPadded (M.board moves.now) result.proof }
 {
     let proof = ClassProof {

@@ -1,149 +1,176 @@
-//! The sections of a document: a row for each configuration that was reached.
+//! The sections of a document: a row for each position that was reached.
 
-ghost use Rattle.strategies.specs.Inside.Marks.{IsMarked};
-ghost use Rattle.std.specs.Prelude.{◌≡◌, ◌++◌, ℕ, List, IfOk, OnOk};
-ghost use Rattle.board_text.specs.PlainBoard.{PlainBoard};
-ghost use Rattle.positions.specs.Ranks.{configuration_at};
+ghost use Rattle.std.specs.Prelude.{◌≡◌, ◌↔◌, ◌≤◌, All, IfErr, IfOk, IsTrue};
+ghost use Rattle.positions.specs.Value.{HasValue};
 ghost use Rattle.positions.specs.declared.value.Value.{Value as ValueData};
-ghost use Rattle.strategies.specs.Inside.Numbering.{by_rank};
-ghost use Rattle.strategies.specs.Inside.Side.{Side, labeller_side, adversary_side, AreReached};
-ghost use Rattle.strategies.specs.Inside.Side.{IsRowAt, MayStandAt};
+ghost use Rattle.strategies.specs.DocumentMoves.{IsAnswerable};
+ghost use Rattle.strategies.specs.Inside.NumberedPositions.{AreExpanded, AreNumberedPositions};
+ghost use Rattle.strategies.specs.Inside.NumberedPositions.{HasRoomForEach};
+ghost use Rattle.strategies.specs.Inside.NumberedPositions.{IsPosition, IsSideOf};
+ghost use Rattle.strategies.specs.Inside.NumberedPositions.{NumberedPositions, PositionKind};
+ghost use Rattle.strategies.specs.Inside.NumberedPositions.{SideMoves, over_kind};
+ghost use Rattle.strategies.specs.Inside.Reached.{AreReachedWith, NothingIsReached};
+ghost use Rattle.strategies.specs.Inside.Sections.{AreTaken, HasNoSection};
+ghost use Rattle.strategies.specs.Inside.Side.{AreReached, AreRowsAt, AreSection, IsRowAt};
+ghost use Rattle.strategies.specs.Inside.Side.{MayStandAt, Side};
 ghost use Rattle.strategies.specs.PositionDocument.{turns_of};
-ghost use Rattle.strategies.specs.Inside.Lines.{adversary_line, labeller_line};
 
-use crate::marks::Marks;
-use crate::moves_here::MovesHere;
-use crate::rank_moves::RankMoves;
-use crate::reached::Reached;
-use crate::walk::Walk;
+use crate::position_walk::PositionWalk;
+use crate::reached_numbers::ReachedNumbers;
+use crate::unmade::Unmade;
 use board_text::{MAX_PEBBLES, Memory};
 use positions::{Turns, Value};
-use proof_text::{AdversaryRow, LabellerRow, PlaceWords, RowText};
-use std::alloc::{AllocError, Global};
+use std::alloc::Global;
 
 /// A row of one side's section.
 pub(crate) trait SectionRow: Copy {
-    ghost side: { PlainBoard → ValueData → Side Self };
+    // It names positions of such kinds.
+    ghost names: { PositionKind → Type 0 };
 
-    // The line of a row.
-    ghost line: { PlainBoard → Self → List ℕ };
+    ghost side: { NumberedPositions → ValueData → Side Self };
 
-    /// Marks of the configurations that a row may stand at.
-    fn reached(moves: &RankMoves<'_>, alloc: Global) -> Result<Marks, Memory>
-        ensures { IfOk result (λ marks. (start : ValueData)
-            → AreReached (by_rank moves.now) moves.now (side moves.now start) (IsMarked marks)) };
+    ghost moves: { NumberedPositions → SideMoves };
 
-    /// The row of the reached configuration of `rank`, where `here` is, if it has one. The start
-    /// has the value `start`.
-    fn at(here: &Walk<'_>, rank: u32, start: Value) -> Option<Self>
-        requires here { here.now.held ≡ configuration_at here.now.board rank }
-        requires may_stand { MayStandAt (by_rank here.now.board) (side here.now.board start) rank }
-        ensures { IsRowAt (by_rank here.now.board) (side here.now.board start) rank result };
+    /// Whether a row may stand at the start's position, where `here` is.
+    fn may_start<W: PositionWalk>(here: &W) -> bool
+        requires kind { names (W.kind here.now) }
+        requires positions { AreNumberedPositions (over_kind (W.kind here.now)) }
+        ensures holds { IsTrue result ↔ (moves (over_kind (W.kind here.now))).Holds (W.held
+            here.now) }
+        ensures side { (start : ValueData) → IsSideOf (over_kind (W.kind here.now))
+            (moves (over_kind (W.kind here.now))) (side (over_kind (W.kind here.now)) start) };
 
-    /// Appends the row's line to `text`. The row is at the configuration where `here` is, and the
-    /// `words` are those of the board's places.
-    fn write(
-        &self,
-        here: &Walk<'_>,
-        words: &PlaceWords,
-        text: &mut RowText,
-    ) -> Result<(), AllocError>
-        requires words { words.now ≡ here.now.board.labels }
-        requires here { (start : ValueData) × ((side here.now.board start).at
-            ((side here.now.board start).shown self.now) ≡ here.now.held) }
-        ensures { OnOk result
-            (text.new.bytes ≡ text.old.bytes ++ line here.now.board self.now) };
+    /// Adds the positions to which the side's moves lead from where `here` is. Those of a request
+    /// whose gap is in `expanded` are there.
+    fn add_steps<W: PositionWalk, S: ReachedNumbers>(
+        here: &W,
+        reached: &mut S,
+        expanded: &mut S,
+    ) -> Result<(), Memory>
+        requires room { HasRoomForEach (over_kind (W.kind here.now)) (S.room reached.old) (S.room
+            expanded.old) }
+        requires expanded { AreExpanded (over_kind (W.kind here.now)) (moves (over_kind (W.kind
+            here.now))).Step
+            (S.reached expanded.old).Among (S.reached reached.old).Among }
+        ensures added { IfOk result (λ _. AreReachedWith (S.reached reached.old)
+            ((moves (over_kind (W.kind here.now))).Leads (W.held here.now))
+            (S.reached reached.new)) }
+        ensures expanded { IfOk result (λ _. AreExpanded (over_kind (W.kind here.now))
+            (moves (over_kind (W.kind here.now))).Step
+            (S.reached expanded.new).Among (S.reached reached.new).Among) }
+        ensures room { IfOk result (λ _. S.room reached.new ≡ S.room reached.old) }
+        ensures gap_room { IfOk result (λ _. S.room expanded.new ≡ S.room expanded.old) };
+
+    /// The row of the reached position of `number`, where `here` is, if it has one. The start has
+    /// the value `start`.
+    fn at<W: PositionWalk>(here: &W, number: u64, start: Value) -> Option<Self>
+        requires kind { names (W.kind here.now) }
+        requires here { W.held here.now ≡ (over_kind (W.kind here.now)).numbering.places number }
+        requires may_stand { MayStandAt (over_kind (W.kind here.now)).numbering
+            (side (over_kind (W.kind here.now)) start) number }
+        ensures { IsRowAt (over_kind (W.kind here.now)).numbering (side (over_kind (W.kind
+            here.now)) start) number
+            result };
 }
 
-impl SectionRow for LabellerRow {
-    ghost side = { labeller_side };
-
-    ghost line = { labeller_line };
-
-    /// The configurations of value 1 or more that best answers reach
-    /// from the start, through such configurations only.
-    fn reached(moves: &RankMoves<'_>, alloc: Global) -> Result<Marks, Memory> {
-        let start = moves.start();
-        let mut reached = Reached::new(alloc, moves.space().configurations())?;
-        if Value::Finite(0) < Walk::at(moves, start).value() {
-            reached.add(start);
-        }
-        let mut gaps = moves.gaps_at(start);
-        let mut from = 0;
-        while let Some(rank) = reached.take_next(from) {
-            gaps.move_to(rank);
-            moves.add_answers(&gaps, rank, &mut reached);
-            from = rank + 1;
-        }
-        Ok(reached.into_marks())
+/// The numbers of the positions that a row may stand at, put into the set `reached`, by a set
+/// `expanded` for gaps.
+pub(crate) fn reached<R: SectionRow, W: PositionWalk, S: ReachedNumbers>(
+    here: &mut W,
+    mut reached: S,
+    mut expanded: S,
+) -> Result<S, Unmade>
+    requires kind { R.names (W.kind here.old) }
+    requires room { HasRoomForEach (over_kind (W.kind here.old)) (S.room reached)
+        (S.room expanded) }
+    requires none { NothingIsReached (S.reached reached) }
+    requires none_expanded { NothingIsReached (S.reached expanded) }
+    ensures kind { W.kind here.new ≡ W.kind here.old }
+    ensures positions { AreNumberedPositions (over_kind (W.kind here.old)) }
+    ensures ok { IfOk result (λ set. (start : ValueData) → AreReached (over_kind (W.kind
+        here.old)).numbering
+        (over_kind (W.kind here.old)).board (R.side (over_kind (W.kind here.old)) start) (S.reached
+        set).Among) }
+    ensures fault { IfErr result (λ fault. (start : ValueData) → HasNoSection
+        (over_kind (W.kind here.old)).numbering (R.side (over_kind (W.kind here.old)) start) (S.room
+        reached).most
+        fault) }
+{
+    let start = here.start();
+    here.go_to(start);
+    if R::may_start(here) {
+        reached.add(start)?;
     }
-
-    fn at(here: &Walk<'_>, rank: u32, start: Value) -> Option<LabellerRow> {
-        let mut take = [0; MAX_PEBBLES];
-        for pebble in 0..here.pebbles() {
-            if let Some(best) = here.answer(pebble) {
-                take[pebble as usize] = best.label;
-            }
-        }
-        Some(LabellerRow {
-            at: rank,
-            turns: turns(start, here.value()),
-            take,
-        })
+    while let Some(number) = reached.take_next()? {
+        here.go_to(number);
+        R::add_steps(here, &mut reached, &mut expanded)?;
     }
-
-    fn write(
-        &self,
-        here: &Walk<'_>,
-        words: &PlaceWords,
-        text: &mut RowText,
-    ) -> Result<(), AllocError> {
-        let pebbles = here.pebbles() as usize;
-        text.push_answer(words, here.held(), self.turns, &self.take[..pebbles])
-    }
+    Ok(reached)
 }
 
-impl SectionRow for AdversaryRow {
-    ghost side = { adversary_side };
+/// One side's rows of the document of a board whose start has the value `start`, in the order of
+/// the numbers of their positions, by a set `reached` for these and one for gaps.
+pub(crate) fn section<R: SectionRow, W: PositionWalk, S: ReachedNumbers>(
+    alloc: Global,
+    here: &mut W,
+    set: S,
+    expanded: S,
+    start: Value,
+) -> Result<Vec<R>, Unmade>
+    requires kind { R.names (W.kind here.old) }
+    requires room { HasRoomForEach (over_kind (W.kind here.old)) (S.room set) (S.room expanded) }
+    requires none { NothingIsReached (S.reached set) }
+    requires none_expanded { NothingIsReached (S.reached expanded) }
+    ensures ok { IfOk result (λ rows. AreSection (over_kind (W.kind here.old)).numbering
+        (R.side (over_kind (W.kind here.old)) start) rows.items) }
+    ensures fault { IfErr result (HasNoSection (over_kind (W.kind here.old)).numbering
+        (R.side (over_kind (W.kind here.old)) start) (S.room set).most) }
+{
+    let numbers = reached::<R, W, S>(here, set, expanded)?.in_order(alloc)?;
+    let rows = rows_at(alloc, here, start, &numbers)?;
+    Ok(rows)
+}
 
-    ghost line = { adversary_line };
-
-    /// The configurations that legal answers to best requests lead to from the start.
-    fn reached(moves: &RankMoves<'_>, alloc: Global) -> Result<Marks, Memory> {
-        let start = moves.start();
-        let mut walk = Walk::at(moves, start);
-        let mut reached = Reached::new(alloc, moves.space().configurations())?;
-        let mut expanded = Marks::new(alloc, moves.space().gaps())?;
-        reached.add(start);
-        let mut from = 0;
-        while let Some(rank) = reached.take_next(from) {
-            walk.move_to(rank);
-            moves.add_results(&walk, rank, &mut reached, &mut expanded);
-            from = rank + 1;
+/// The rows at the positions of `numbers`, in their order.
+pub(crate) fn rows_at<R: SectionRow, W: PositionWalk>(
+    alloc: Global,
+    here: &mut W,
+    start: Value,
+    numbers: &[u64],
+) -> Result<Vec<R>, Memory>
+    requires kind { R.names (W.kind here.old) }
+    requires numbers { All (MayStandAt (over_kind (W.kind here.old)).numbering
+        (R.side (over_kind (W.kind here.old)) start)) numbers.now }
+    ensures { IfOk result (λ rows. AreRowsAt (over_kind (W.kind here.old)).numbering
+        (R.side (over_kind (W.kind here.old)) start) numbers.now rows.items) }
+{
+    let mut rows = Vec::with_capacity(alloc, numbers.len())?;
+    for number in numbers {
+        here.go_to(*number);
+        if let Some(row) = R::at(here, *number, start) {
+            rows.push(row)?;
         }
-        Ok(reached.into_marks())
     }
+    Ok(rows)
+}
 
-    fn at(here: &Walk<'_>, rank: u32, _start: Value) -> Option<AdversaryRow> {
-        let Value::Finite(left) = here.value() else {
-            return None;
-        };
-        let ask = here.request()?;
-        Some(AdversaryRow {
-            at: rank,
-            left,
-            ask,
-        })
+/// The value of the position where `here` is, of value 1 or more, and the labels of the best
+/// answers
+/// there, for each pebble.
+pub(crate) fn best_labels<W: PositionWalk>(here: &W) -> (Value, [u16; MAX_PEBBLES])
+    requires { IsAnswerable (over_kind (W.kind here.now)).board (W.held here.now) }
+    ensures value { HasValue (over_kind (W.kind here.now)).board (W.held here.now) result.0 }
+    ensures labels { AreTaken (over_kind (W.kind here.now)).board (W.held here.now) result.1 }
+    ensures position { IsPosition (over_kind (W.kind here.now)) (W.held here.now) }
+{
+    let (value, answers) = here.best_answers();
+    let mut labels = [0; MAX_PEBBLES];
+    for pebble in 0..here.board().pebbles() {
+        if let Some(best) = answers[pebble as usize] {
+            labels[pebble as usize] = best.label;
+        }
     }
-
-    fn write(
-        &self,
-        here: &Walk<'_>,
-        words: &PlaceWords,
-        text: &mut RowText,
-    ) -> Result<(), AllocError> {
-        text.push_request(words, here.held(), self.left, self.ask)
-    }
+    (value, labels)
 }
 
 /// The turns for which places with `value` are listed, if the start has the value `start`.

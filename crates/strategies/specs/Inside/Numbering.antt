@@ -2,7 +2,7 @@
 use Rattle.std.specs.Prelude.{◌≡◌, ℕ, zero, suc, ◌+◌, ◌<◌, ◌↔◌, List, map}
 use Rattle.board_text.specs.PlainBoard.{PlainBoard, IsConfiguration}
 use Rattle.positions.specs.Ranks.{configurations, configuration_at, digits_of, rank_of}
-use Rattle.proof_text.specs.Arranged.{order_number}
+use Rattle.proof_text.specs.Arranged.{arranged, order_number}
 
 -- numbers of places
 pub record Numbering : Type 1 where
@@ -36,6 +36,11 @@ pub record IsClassNumber (board : PlainBoard) (number : ℕ) : Type 0 where
   pub is : IsConfiguration board (class_numbered board number)
   pub number_is : order_number board.labels (class_numbered board number) ≡ number
 
+-- the number of the class of a configuration
+abbrev pub number_of_class_at : PlainBoard → List ℕ → ℕ
+number_of_class_at board configuration = order_number board.labels
+    (arranged board.labels configuration)
+
 -- places by their numbers in the order of documents
 abbrev pub by_order : PlainBoard → Numbering
 by_order board = record {
@@ -43,6 +48,19 @@ by_order board = record {
   places = class_numbered board;
   IsNumber = IsClassNumber board;
 }
+
+-- each configuration has a number, which has its places again, and all numbers are below one
+pub record IsNumbering (board : PlainBoard) (numbering : Numbering) : Type 0 where
+  pub is : (number : ℕ) → numbering.IsNumber number
+      → IsConfiguration board (numbering.places number)
+  pub again : (number : ℕ) → numbering.IsNumber number
+      → numbering.number (numbering.places number) ≡ number
+  pub number_is : (places : List ℕ) → IsConfiguration board places
+      → numbering.IsNumber (numbering.number places)
+  pub places_are : (places : List ℕ) → IsConfiguration board places
+      → numbering.places (numbering.number places) ≡ places
+  pub end : ℕ
+  pub below : (number : ℕ) → numbering.IsNumber number → number < end
 
 -- exactly the numbers of configurations of which the fact holds are among these
 abbrev pub AreAll : Numbering → (ℕ → Type 0) → (ℕ → Type 0) → Type 0

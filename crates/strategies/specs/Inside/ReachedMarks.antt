@@ -1,54 +1,47 @@
--- Configurations that were reached, as marks of their ranks.
-use Rattle.std.specs.Prelude.{◌≡◌, ℕ, ◌<◌, ◌↔◌, ◌⊎◌, Bool, true, false, List, length, replicate}
-use Rattle.std.specs.Prelude.{slice_set}
-use Rattle.board_text.specs.PlainBoard.{PlainBoard}
-use Rattle.positions.specs.Gaps.{gaps}
+-- Numbers that were reached, as marks.
+use Rattle.std.specs.Prelude.{◌≡◌, ℕ, zero, suc, ◌+◌, ◌^◌, ◌<◌, if◌then◌else◌, Bool, false, List}
+use Rattle.std.specs.Prelude.{length, replicate, slice_index_or}
 use Rattle.strategies.specs.Inside.Marks.{IsMarked}
-use Rattle.strategies.specs.Inside.ReachedRanks.{IsAnswerOf}
+use Rattle.strategies.specs.Inside.Reached.{ReachedBy, Room}
 
--- marks of the ranks that were reached, and of those from which no step was taken yet
+-- marks of the numbers that were reached, and of those from which no step was taken yet
 pub record ReachedMarks : Type 0 where
   pub reached : List Bool
   pub left : List Bool
 
--- none of the `size` ranks is reached
+-- none of the `size` numbers is reached
 abbrev pub none_reached : ℕ → ReachedMarks
 none_reached size = record { reached = replicate size false; left = replicate size false }
 
--- a rank is left no more
-abbrev pub taken_from : ReachedMarks → ℕ → ReachedMarks
-taken_from marks rank =
-    record { reached = marks.reached; left = slice_set marks.left rank false }
+-- those that are left were reached
+pub record AreLeftOfReached (reached left : List Bool) : Type 0 where
+  pub size : length left ≡ length reached
+  pub few : length reached < 2 ^ 32
+  pub known : (number : ℕ) → IsMarked left number → IsMarked reached number
 
--- no rank is left
-abbrev pub NoneIsLeft : ReachedMarks → Type 0
-NoneIsLeft marks = (rank : ℕ) → IsMarked marks.left rank → ⊥
+-- no number is left
+abbrev pub NoMarkIsLeft : ReachedMarks → Type 0
+NoMarkIsLeft marks = (number : ℕ) → IsMarked marks.left number → ⊥
 
--- the rank is reached, and is left if it wasn't reached before
-pub record IsReachedWith (before : ReachedMarks) (rank : ℕ) (after : ReachedMarks) : Type 0 where
-  pub known : IsMarked before.reached rank → after ≡ before
-  pub other : ¬ IsMarked before.reached rank → after
-      ≡ record {
-        reached = slice_set before.reached rank true;
-        left = slice_set before.left rank
-            true;
-      }
+-- the numbers that are marked
+abbrev pub reached_by_marks : ReachedMarks → ReachedBy
+reached_by_marks marks = record { Among = IsMarked marks.reached; IsLeft = IsMarked marks.left }
 
--- the ranks of which the fact holds are reached too, and those that weren't reached before are left
-pub record AreReachedWith (before : ReachedMarks) (P : ℕ → Type 0) (after : ReachedMarks)
-    : Type 0 where
-  pub size : length after.reached ≡ length before.reached
-  pub each : (rank : ℕ) → IsMarked after.reached rank ↔ (IsMarked before.reached rank ⊎ P rank)
-  pub kept : (rank : ℕ) → IsMarked before.left rank → IsMarked after.left rank
-  pub fresh : (rank : ℕ) → IsMarked after.reached rank
-      → IsMarked before.reached rank ⊎ IsMarked after.left rank
-  pub only : (rank : ℕ) → IsMarked after.left rank
-      → IsMarked before.left rank
-      ⊎ ((¬ IsMarked before.reached rank) × IsMarked after.reached rank)
+-- one for a number from which a step can still be taken: it is left, or wasn't reached
+abbrev pub one_if_undone : Bool → Bool → ℕ
+one_if_undone reached left = if left then 1 else (if reached then 0 else 1)
 
--- the results of all answers of each expanded gap are among the marked ranks
-pub record AreExpanded (board : PlainBoard) (expanded marks : List Bool) : Type 0 where
-  pub one_each : length expanded ≡ gaps board
-  pub there : (gap : ℕ) → gap < gaps board → IsMarked expanded gap → (rank : ℕ)
-      → IsAnswerOf board gap rank
-      → IsMarked marks rank
+-- how many numbers below a bound there are of which that is so
+abbrev pub undone : ReachedMarks → ℕ → ℕ
+undone marks zero = 0
+undone marks (suc bound) = undone marks bound
+    + one_if_undone (slice_index_or marks.reached bound false)
+    (slice_index_or marks.left bound false)
+
+-- a mark for each number below the size; they are never too many
+abbrev pub room_of_marks : ReachedMarks → Room
+room_of_marks marks = record {
+  bound = length marks.reached;
+  most = length marks.reached;
+  steps = undone marks (length marks.reached);
+}

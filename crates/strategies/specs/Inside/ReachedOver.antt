@@ -42,6 +42,18 @@ abbrev pub RequestLeadsOver : Positions → Numbering → PlainBoard → ℕ →
 RequestLeadsOver positions numbering board from to = (label : ℕ)
     × IsRequestStepOver positions numbering board (numbering.places from) label to
 
+-- the label is a legal answer to a request of the pebble, and leads from the configuration to the
+-- normal places of this number
+pub record IsLegalStepOver (positions : Positions) (numbering : Numbering) (board : PlainBoard)
+    (from : List ℕ) (pebble label to : ℕ) : Type 0 where
+  pub legal : Legal board from pebble label
+  pub to_is : to ≡ number_over positions numbering (moved from pebble label)
+
+-- some legal answer to a request of the pebble does
+abbrev pub LegalLeadsOver : Positions → Numbering → PlainBoard → List ℕ → ℕ → ℕ → Type 0
+LegalLeadsOver positions numbering board from pebble to = (label : ℕ)
+    × IsLegalStepOver positions numbering board from pebble label to
+
 -- moves of the kind lead from the start's normal places to those of the number, which have the
 -- property
 pub record IsReachedOver (positions : Positions) (numbering : Numbering) (board : PlainBoard)

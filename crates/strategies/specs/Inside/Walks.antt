@@ -6,7 +6,7 @@ use Rattle.std.specs.List.{remove}
 use Rattle.board_text.specs.PlainBoard.{PlainBoard, IsConfiguration, places}
 use Rattle.board_text.specs.declared.board.TheConstants.{MAX_PEBBLES}
 use Rattle.positions.specs.Game.{moved}
-use Rattle.positions.specs.Ranks.{configuration_at}
+use Rattle.positions.specs.Ranks.{configurations, configuration_at}
 use Rattle.classes.specs.Classes.{class_of}
 use Rattle.classes.specs.ClassGaps.{gap_at}
 use Rattle.classes.specs.Numbers.{class_number}
@@ -49,8 +49,10 @@ pub record AreFoundBelow (board : PlainBoard) (held : List ℕ) (bound : ℕ)
   pub best : (pebble : ℕ) → pebble < bound
       → IsBestFor board held pebble (slice_index_or answers pebble None)
 
--- the best answers to requests of all pebbles at a configuration of the board
-pub record IsBestWalk (board : PlainBoard) (position : HeldPosition) (answers : List (Option Best))
-    : Type 0 where
+-- the best answers to requests of all pebbles at the configuration of the rank
+pub record IsBestWalk (board : PlainBoard) (rank : ℕ) (position : HeldPosition)
+    (answers : List (Option Best)) : Type 0 where
   pub same_board : position.board ≡ board
+  pub below : rank < configurations board
+  pub held_is : position.held ≡ configuration_at board rank
   pub found : AreFoundBelow board position.held board.pebbles answers

@@ -1,4 +1,4 @@
-use Rattle.std.proofs.Common.{◌≡◌, ◌+◌, ◌*◌, ◌<◌, ◌∙◌, true, None, ap, subst, sym}
+use Rattle.std.proofs.Common.{◌≡◌, ◌+◌, ◌*◌, ◌<◌, ◌∙◌, true, None, refl, ap, subst, sym}
 use Rattle.std.proofs.lemmas.Result.{err_from_is_err_and}
 use Rattle.board_text.specs.PlainBoard.{IsBoard}
 use Rattle.positions.specs.Claim.{claim_of}
@@ -15,19 +15,24 @@ use Rattle.strategies.proofs.NormalForms.{arranged_form, by_none}
 use Rattle.strategies.proofs.FormedRows.{always_asked}
 use Rattle.strategies.proofs.class_documents.document_by_classes.Goals as goal
 
-pub section-requires : goal.section-requires
-section-requires g c =
-    rw (c.of-normal.ensures, c.by_classes-alike.ensures, c.board.ensures)
-    (by_none (g.M.Moves.board c.in_ok-moves.moves))
+pub class_section-requires-clause-normal : goal.class_section-requires-clause-normal
+class_section-requires-clause-normal g c =
+    rw (c.by_classes-alike.ensures, c.board.ensures) (by_none (g.M.Moves.board c.in_ok-moves.moves))
 
-pub section-requires-then-asks_adversary : goal.section-requires-then-asks_adversary
-section-requires-then-asks_adversary g c =
-    rw (c.of-normal.ensures, c.by_classes-alike.ensures, c.board.ensures)
-    (by_none (g.M.Moves.board c.in_ok-moves.moves))
+pub class_section-requires-clause-kind : goal.class_section-requires-clause-kind
+class_section-requires-clause-kind g c = (c.by_classes-alike.result, refl)
+
+pub class_section-requires-then-asks_adversary-clause-normal :
+    goal.class_section-requires-then-asks_adversary-clause-normal
+class_section-requires-then-asks_adversary-clause-normal g c =
+    rw (c.by_classes-alike.ensures, c.board.ensures) (by_none (g.M.Moves.board c.in_ok-moves.moves))
+
+pub class_section-requires-then-asks_adversary-clause-kind : goal.class_section-requires-then-asks_adversary-clause-kind
+class_section-requires-then-asks_adversary-clause-kind g c = (c.by_classes-alike.result, refl)
 
 pub rows_of-requires-clause-normal : goal.rows_of-requires-clause-normal
 rows_of-requires-clause-normal g c =
-    rw (c.of-normal.ensures, c.by_classes-alike.ensures, c.board.ensures)
+    rw (c.by_classes-alike.ensures, c.board.ensures)
     (by_none (g.M.Moves.board c.in_ok-moves.moves))
 
 pub returns-in_err-labeller-clause-fault : goal.returns-in_err-labeller-clause-fault
@@ -44,7 +49,7 @@ returns-in_err-labeller-clause-fault g c =
     let fault = c.in_err-labeller.field-0.0 in
     let made = labeller_unmade listed (arranged listed.labels) (arranged_form listed) is_board None value c.args.bytes
     c.labeller_room.result has tt (always_asked value) room fault
-    (rw (c.of-normal.ensures, c.by_classes-alike.ensures) at c.in_err-labeller.ensures.fault) in
+    (rw (c.by_classes-alike.ensures) at c.in_err-labeller.ensures.fault) in
     let p = err_from_is_err_and c.from_residual-in_err-labeller.result c.from_residual-in_err-labeller.ensures.1 in
     rw (p.1, p.2) (subst (λ b. CannotBeMade None b c.args.bytes fault) c.in_ok-moves.ensures
     (class_unmade None listed c.args.bytes fault made))
@@ -65,7 +70,7 @@ returns-in_err-adversary-clause-fault g c =
     let fault = c.in_err-adversary.field-0.0 in
     let made = adversary_unmade listed (arranged listed.labels) (arranged_form listed) is_board None value c.args.bytes
     c.adversary_room-most.result has tt asked room fault
-    (rw (c.of-normal.ensures, c.by_classes-alike.ensures) at c.in_err-adversary.ensures.fault) in
+    (rw (c.by_classes-alike.ensures) at c.in_err-adversary.ensures.fault) in
     let p = err_from_is_err_and c.from_residual-in_err-adversary.result c.from_residual-in_err-adversary.ensures.1 in
     rw (p.1, p.2) (subst (λ b. CannotBeMade None b c.args.bytes fault) c.in_ok-moves.ensures
     (class_unmade None listed c.args.bytes fault made))
@@ -74,7 +79,7 @@ pub returns-clause-document : goal.returns-clause-document
 returns-clause-document g c =
     let board = g.M.Moves.board c.args.moves.now in
     let made = subst (λ b. IsClassDocumentFor None b (plain_class_proof b c.rows_of.result.proof))
-    c.in_ok-moves.ensures (rw (c.of-normal.ensures, c.by_classes-alike.ensures)
+    c.in_ok-moves.ensures (rw (c.by_classes-alike.ensures)
     at c.rows_of.ensures.document) in
     whole_made board (plain_class_proof board c.rows_of.result.proof) made
 
@@ -82,7 +87,7 @@ pub returns-clause-form : goal.returns-clause-form
 returns-clause-form g c =
     let board = g.M.Moves.board c.args.moves.now in
     let made = subst (λ b. IsClassDocumentFor None b (plain_class_proof b c.rows_of.result.proof))
-    c.in_ok-moves.ensures (rw (c.of-normal.ensures, c.by_classes-alike.ensures)
+    c.in_ok-moves.ensures (rw (c.by_classes-alike.ensures)
     at c.rows_of.ensures.document) in
     let is_board : IsBoard board = subst IsBoard (c.board-2.ensures ∙ c.in_ok-moves.ensures)
     c.pebbles-pebbles.ensures.is_board in
@@ -93,7 +98,7 @@ pub returns-clause-rules : goal.returns-clause-rules
 returns-clause-rules g c =
     let board = g.M.Moves.board c.args.moves.now in
     let made = subst (λ b. IsClassDocumentFor None b (plain_class_proof b c.rows_of.result.proof))
-    c.in_ok-moves.ensures (rw (c.of-normal.ensures, c.by_classes-alike.ensures)
+    c.in_ok-moves.ensures (rw (c.by_classes-alike.ensures)
     at c.rows_of.ensures.document) in
     let is_board : IsBoard board = subst IsBoard (c.board-2.ensures ∙ c.in_ok-moves.ensures)
     c.pebbles-pebbles.ensures.is_board in

@@ -6,11 +6,11 @@ use Rattle.strategies.proofs.class_documents.document_by_classes_in_parts.Goals 
 
 pub document_over-requires-clause-normal : goal.document_over-requires-clause-normal
 document_over-requires-clause-normal g c = λ κs lives.
-    rw (c.of.ensures, c.by_classes-alike.ensures, c.board.ensures) (by_none (g.M.Moves.board c.args.moves.now))
+    rw (c.by_classes-alike.ensures, c.board.ensures) (by_none (g.M.Moves.board c.args.moves.now))
 
 pub returns-clause-document : goal.returns-clause-document
 returns-clause-document g c =
-    rw (c.of.ensures, c.by_classes-alike.ensures) at c.document_over.ensures.document
+    rw (c.by_classes-alike.ensures) at c.document_over.ensures.document
 
 pub returns-clause-form : goal.returns-clause-form
 returns-clause-form g c =
@@ -18,7 +18,7 @@ returns-clause-form g c =
     all_ok c.document_over.result
     (λ made is padded is_board.
     class_form_made board c.args.side c.requires.strategy made.proof is is_board.start padded)
-    (rw (c.of.ensures, c.by_classes-alike.ensures) at c.document_over.ensures.document)
+    (rw (c.by_classes-alike.ensures) at c.document_over.ensures.document)
     c.document_over.ensures.padded c.document_over.ensures.is_board
 
 pub returns-clause-rules : goal.returns-clause-rules
@@ -26,11 +26,11 @@ returns-clause-rules g c =
     let board = g.M.Moves.board c.args.moves.now in
     all_ok c.document_over.result
     (λ made is padded is_board. class_rules_made board c.args.side c.requires.strategy made.proof is is_board.start)
-    (rw (c.of.ensures, c.by_classes-alike.ensures) at c.document_over.ensures.document)
+    (rw (c.by_classes-alike.ensures) at c.document_over.ensures.document)
     c.document_over.ensures.padded c.document_over.ensures.is_board
 
 pub returns-clause-fault : goal.returns-clause-fault
 returns-clause-fault g c =
     IfErr-weaker c.document_over.result _ _
     (class_unmade c.args.side (g.M.Moves.board c.args.moves.now) c.args.bytes)
-    (rw (c.of.ensures, c.by_classes-alike.ensures) at c.document_over.ensures.fault)
+    (rw (c.by_classes-alike.ensures) at c.document_over.ensures.fault)

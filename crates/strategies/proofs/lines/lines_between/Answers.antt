@@ -1,6 +1,7 @@
-use Rattle.std.proofs.Common.{◌≡◌, ◌∷◌, ◌++◌, [], List, ℕ, ap, ◌∙◌, arith}
+use Rattle.std.proofs.Common.{◌≡◌, ◌∷◌, ◌++◌, [], List, ℕ, refl, ap, ◌∙◌, arith}
 use Rattle.strategies.specs.Inside.Marks.{IsMarked}
 use Rattle.strategies.specs.Inside.MovesAt.{HeldPosition}
+use Rattle.strategies.specs.Inside.NumberedPositions.{over_ranks}
 use Rattle.strategies.proofs.ListedNumbers.{all_listed, next_listed}
 use Rattle.strategies.proofs.WrittenLines.{first_of_all, no_line, one_line}
 use Rattle.strategies.proofs.lines.lines_between.Goals as goal
@@ -9,8 +10,8 @@ use Rattle.strategies.proofs.lines.lines_between.Goals.{in-Some-at+in_ok-write, 
 pub loop-rank-preserved : goal.loop-rank-preserved
 loop-rank-preserved g c =
     let board = c.args.moves.now in
-    let side = g.R.SectionRow.side board c.args.start in
-    let line = g.R.SectionRow.line board in
+    let side = g.R.SectionRow.side (over_ranks board) c.args.start in
+    let line = g.R.LineRow.line board in
     let marks = c.args.marks.now in
     let was = c.loop-rank.invariant in
     let here : c.move_to.new.self.board ≡ board =
@@ -53,3 +54,9 @@ returns g c =
           (λ number above below is. c.in_default.ensures.first number (above, below, is));
       are_lines = rw (c.in_ok-finish.ensures) was.lines;
     }
+
+pub at-requires-clause-kind : goal.at-requires-clause-kind
+at-requires-clause-kind g c =
+    let here : c.move_to.new.self.board ≡ c.args.moves.now =
+    ap (λ (p : HeldPosition). p.board) c.move_to.ensures ∙ c.loop-rank.invariant.here in
+    rw here (g.met.R.LineRow.ranked _ (record { ranks = refl; few = c.start.ensures.few }))

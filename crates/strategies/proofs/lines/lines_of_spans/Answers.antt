@@ -5,6 +5,7 @@ use Rattle.board_text.specs.declared.memory.Memory.{Memory}
 use Rattle.std.proofs.lemmas.List.FromFn.{get_or-range_with_len, length-range_with_len}
 use Rattle.strategies.specs.declared.lines.Lines.{Lines}
 use Rattle.strategies.specs.Inside.Lines.{AreLinesBetween}
+use Rattle.strategies.specs.Inside.NumberedPositions.{over_ranks}
 use Rattle.strategies.proofs.JoinedLines.{enough_spans, joined, within_spans}
 use Rattle.strategies.proofs.lines.lines_of_spans.Goals as goal
 
@@ -36,8 +37,8 @@ returns g c =
     let all = rw c.space.ensures.value at c.configurations.ensures in
     let made = rw (c.map.ensures.base, c.map.ensures.f, c.with_min_len.ensures.base) at c.in_ok-lines.ensures in
     let board = c.args.moves.now in
-    let side = g.R.SectionRow.side board c.args.start in
-    let line = g.R.SectionRow.line board in
+    let side = g.R.SectionRow.side (over_ranks board) c.args.start in
+    let line = g.R.LineRow.line board in
     let size = c.args.size in
     let enough = enough_spans c.configurations.result size c.div_ceil-count.result c.requires.some
     c.div_ceil-count.ensures in

@@ -1,4 +1,4 @@
-use Rattle.std.proofs.Common.{◌≡◌, ◌+◌, ◌*◌, ◌<◌, ◌∙◌, true, ap, sym, subst}
+use Rattle.std.proofs.Common.{◌≡◌, ◌+◌, ◌*◌, ◌<◌, ◌∙◌, true, refl, ap, sym, subst}
 use Rattle.std.proofs.lemmas.Result.{err_from_is_err_and}
 use Rattle.board_text.specs.PlainBoard.{IsBoard}
 use Rattle.positions.specs.Claim.{claim_of}
@@ -14,17 +14,24 @@ use Rattle.strategies.proofs.position_documents.document_over.Goals as goal
 
 pub section_in_parts-requires-clause-normal : goal.section_in_parts-requires-clause-normal
 section_in_parts-requires-clause-normal g c = λ κs lives.
-    subst (λ b. IsNormalBy b c.args.normal.now) (sym c.in_ok-moves.ensures) c.requires.normal
+    subst (λ b. IsNormalBy b c.args.alike.now) (sym c.in_ok-moves.ensures) c.requires.normal
 
 pub section_in_parts-requires-then-asks_adversary-clause-normal :
     goal.section_in_parts-requires-then-asks_adversary-clause-normal
 section_in_parts-requires-then-asks_adversary-clause-normal g c = λ κs lives.
-    subst (λ b. IsNormalBy b c.args.normal.now) (sym c.in_ok-moves.ensures) c.requires.normal
+    subst (λ b. IsNormalBy b c.args.alike.now) (sym c.in_ok-moves.ensures) c.requires.normal
+
+pub section_in_parts-requires-clause-kind : goal.section_in_parts-requires-clause-kind
+section_in_parts-requires-clause-kind g c = λ κs lives. (c.args.alike.now, refl)
+
+pub section_in_parts-requires-then-asks_adversary-clause-kind :
+    goal.section_in_parts-requires-then-asks_adversary-clause-kind
+section_in_parts-requires-then-asks_adversary-clause-kind g c = λ κs lives. (c.args.alike.now, refl)
 
 pub returns-in_err-labeller-clause-fault : goal.returns-in_err-labeller-clause-fault
 returns-in_err-labeller-clause-fault g c =
     let listed = g.M.Moves.board c.in_ok-moves.moves in
-    let group = c.args.normal.now in
+    let group = c.args.alike.now in
     let form = (subst (λ b. IsNormalBy b group) (sym c.in_ok-moves.ensures) c.requires.normal).form in
     let is_board : IsBoard listed = subst IsBoard c.board.ensures c.pebbles-pebbles.ensures.is_board in
     let pebbles : c.pebbles-pebbles.result ≡ listed.pebbles =
@@ -48,7 +55,7 @@ returns-in_err-labeller-clause-fault g c =
 pub returns-in_err-adversary-clause-fault : goal.returns-in_err-adversary-clause-fault
 returns-in_err-adversary-clause-fault g c =
     let listed = g.M.Moves.board c.in_ok-moves.moves in
-    let group = c.args.normal.now in
+    let group = c.args.alike.now in
     let form = (subst (λ b. IsNormalBy b group) (sym c.in_ok-moves.ensures) c.requires.normal).form in
     let is_board : IsBoard listed = subst IsBoard c.board.ensures c.pebbles-pebbles.ensures.is_board in
     let pebbles : c.pebbles-pebbles.result ≡ listed.pebbles =
@@ -71,7 +78,7 @@ returns-in_err-adversary-clause-fault g c =
 
 pub returns-clause-document : goal.returns-clause-document
 returns-clause-document g c =
-    subst (λ b. IsDocumentOverFor c.args.side b (normal_by b c.args.normal.now)
+    subst (λ b. IsDocumentOverFor c.args.side b (normal_by b c.args.alike.now)
     (plain_class_proof b c.rows_of.result.proof)) c.in_ok-moves.ensures c.rows_of.ensures.document
 
 pub returns-clause-padded : goal.returns-clause-padded

@@ -1,0 +1,69 @@
+-- The positions after the answers to the requests of one gap are added once.
+use Rattle.std.proofs.Common.{◌≡◌, ℕ, ◌<◌, ◌↔◌, inl, inr, List, ap, ◌∙◌, subst}
+use Rattle.board_text.specs.PlainBoard.{IsConfiguration}
+use Rattle.positions.specs.Counts.{IsSmallest}
+use Rattle.positions.specs.Game.{Legal, moved}
+use Rattle.std.proofs.Common.{None}
+use Rattle.strategies.specs.Best.{IsBestRequest, LowersValue}
+use Rattle.strategies.specs.Inside.NumberedPositions.{AreExpanded, IsOfGaps, LegalLeads}
+use Rattle.strategies.specs.Inside.NumberedPositions.{NumberedPositions, position_number, request_moves}
+use Rattle.strategies.specs.Inside.Reached.{AreReachedWith, NothingIsReached, ReachedBy}
+use Rattle.strategies.proofs.AddedNumbers.{reached_known, reached_same}
+use Rattle.strategies.proofs.BestRequests.{same_request}
+
+pub none_expanded : (over : NumberedPositions) (Leads : List ℕ → ℕ → ℕ → Type 0) (expanded : ReachedBy)
+    (Among : ℕ → Type 0) → NothingIsReached expanded → AreExpanded over Leads expanded.Among Among
+none_expanded over Leads expanded Among none from pebble is inside among to leads =
+    absurd ((none (over.gap from pebble)).0 among)
+
+-- the positions to which one request leads were added, and its gap
+pub expanded_more : (over : NumberedPositions) (Leads : List ℕ → ℕ → ℕ → Type 0) → IsOfGaps over Leads
+    → (from : List ℕ) (pebble gap : ℕ) (expanded after numbers more : ReachedBy)
+    → IsConfiguration over.board from → pebble < over.board.pebbles → gap ≡ over.gap from pebble
+    → AreExpanded over Leads expanded.Among numbers.Among
+    → AreReachedWith expanded (λ other. other ≡ gap) after
+    → AreReachedWith numbers (Leads from pebble) more → AreExpanded over Leads after.Among more.Among
+expanded_more over Leads of_gaps from pebble gap expanded after numbers more is inside gap_is are with added other
+    partner too there among to leads =
+    elim ((with.each (over.gap other partner)).0 among) [
+      | inl old ↦ (added.each to).1 (inl (are other partner too there old to leads))
+      | inr same ↦ (added.each to).1
+          (inr (of_gaps other from partner pebble too is there inside (same ∙ gap_is) to leads))
+    ]
+
+-- the gap was expanded before
+pub gap_known : (over : NumberedPositions) (Leads : List ℕ → ℕ → ℕ → Type 0) (from : List ℕ) (pebble gap : ℕ)
+    (expanded : ReachedBy) (numbers : ReachedBy)
+    → IsConfiguration over.board from → pebble < over.board.pebbles → gap ≡ over.gap from pebble
+    → AreExpanded over Leads expanded.Among numbers.Among → expanded.Among gap
+    → AreReachedWith numbers (Leads from pebble) numbers
+gap_known over Leads from pebble gap expanded numbers is inside gap_is are there =
+    reached_known numbers (Leads from pebble) (are from pebble is inside (subst expanded.Among gap_is there))
+
+-- ---- the best request
+
+pub no_request_added : (over : NumberedPositions) (from : List ℕ) (numbers : ReachedBy)
+    → IsSmallest (LowersValue over.board from) None
+    → AreReachedWith numbers ((request_moves over).Leads from) numbers
+no_request_added over from numbers none =
+    reached_known numbers ((request_moves over).Leads from) (λ to leads. absurd (none leads.1.pebble leads.1.best.0))
+
+module _ (over : NumberedPositions) (from : List ℕ) (pebble : ℕ) (best : IsBestRequest over.board from pebble) where
+  -- it leads to the positions after its legal answers
+  leads_is : (to : ℕ) → LegalLeads over from pebble to ↔ (request_moves over).Leads from to
+  leads_is to = (
+    λ leads. (leads.0, record { pebble = pebble; best = best; legal = leads.1.legal; to_is = leads.1.to_is }),
+    λ leads.
+        let same : leads.1.pebble ≡ pebble = same_request over.board from leads.1.pebble pebble leads.1.best best in (
+          leads.0,
+          record {
+            legal = subst (λ (p : ℕ). Legal over.board from p leads.0) same leads.1.legal;
+            to_is = leads.1.to_is ∙ ap (λ (p : ℕ). position_number over (moved from p leads.0)) same;
+          },
+        ),
+  )
+
+  pub results_added : (numbers more : ReachedBy) → AreReachedWith numbers (LegalLeads over from pebble) more
+      → AreReachedWith numbers ((request_moves over).Leads from) more
+  results_added numbers more added =
+      reached_same numbers more (LegalLeads over from pebble) ((request_moves over).Leads from) leads_is added

@@ -1,0 +1,13 @@
+use Rattle.std.proofs.Common.{refl}
+use Rattle.strategies.proofs.SetRooms.{marks_have_room}
+use Rattle.strategies.proofs.rank_sections.reached_marks.Goals as goal
+
+pub reached-requires-clause-kind : goal.reached-requires-clause-kind
+reached-requires-clause-kind g c = rw c.at-here.ensures
+    (g.met.R.LineRow.ranked _ (record { ranks = refl; few = c.space.ensures.few }))
+
+pub reached-requires-clause-room : goal.reached-requires-clause-room
+reached-requires-clause-room g c =
+    rw (c.at-here.ensures, c.in_ok-set.ensures, c.in_ok-expanded.ensures)
+    (marks_have_room c.args.moves.now c.configurations.result c.gaps.result
+    (rw c.space.ensures.value at c.configurations.ensures.value) (rw c.space-2.ensures.value at c.gaps.ensures.value))

@@ -1,5 +1,0 @@
-use Rattle.strategies.proofs.ReachedNumbers.{still_apart}
-use Rattle.strategies.proofs.reached_classes.ReachedClasses.at.Goals as goal
-
-pub returns-clause-once : goal.returns-clause-once
-returns-clause-once c = rw (← c.self.view_is) (still_apart c.self.inside.numbers.keys c.as_slice.ensures.unique)
