@@ -35,6 +35,7 @@ NAME = re.compile(r'[^\W\d][\w-]*')
 UNIT = re.compile(r'^(?:(?:abbrev|unfoldable|pub|record|module)\s+)+[^\s({]+', re.M)
 DECLARED = re.compile(r'\b(?:abbrev|unfoldable|record|module)\s+(?:pub\s+)?([^\s({]+)')
 TYPE = re.compile(r'\b(?:struct|enum|trait|const|type)\s+(\w+)[^{;(]*')
+NOT_PUBLIC = re.compile(r'^[ ]*(?:pub\([^)]*\) )?(?:struct|enum|trait|const|type)\s+(?P<name>\w+)', re.M)
 TYPE_NAME = re.compile(r'\b(?:struct|enum|trait|const|type)\s+(\w+)')
 IMPL = re.compile(r'\bimpl\b(?P<head>[^{]*)\{')
 MODEL = re.compile(r'\bghost Value = .*?;', re.S)
@@ -163,14 +164,22 @@ def implementing(item):
     return trait.split()[-1] if is_of else None, NAME.findall(re.sub(r'^\s*<.*?>\s', '', kind))[0]
 
 
-def types(text):
-    """The name of each type, trait or constant of a source text, and what crates above see of it."""
+def own_names(text):
+    """The types, traits and constants of a source text that are its crate's own, and no other's to name."""
+    return {found['name'] for found in NOT_PUBLIC.finditer(TOKEN.sub(lambda found: '' if found['comment'] else found[0], text))}
+
+
+def types(text, own=frozenset()):
+    """The name of each type, trait or constant of a source text, and what crates above see of it: nothing of what is the crate's own, nor
+    of how a type has a trait that is."""
     text = EMPTY.sub('', promised(text, False))
     found = list(items(USE_OF_FILE.sub('', text)))
     modelled = {made[1] for made in map(implementing, found) if made and made[0] == 'Model'}
     beside = TYPE_NAME.findall(text)
     for item in found:
         made, declared = implementing(item), TYPE.search(item)
+        if (made[0] if made else declared and declared[1]) in own:
+            continue
         if made:
             seen = imports(item) + ' '.join(MODEL.findall(item)) if made[0] == 'Model' else item
             yield [made[1]], told(imports(text) + seen, beside)
@@ -209,11 +218,13 @@ class Promises:
         text = self.files(crate)[path]
         return told(promised(text, True) if path.endswith('.rt') else COMMENT.sub('', text))
 
-    def named_of(self, crate):
-        """What crates above may name of a crate, by name."""
-        found = {}
-        for path, text in sorted(self.files(crate).items()):
-            for names, seen in types(text) if path.endswith('.rt') else definitions(text):
+    def named_of(self, crate, inside):
+        """What a crate itself may name of it, or crates above, by name. Of what is the crate's own these reach what its definitions name."""
+        found, files = {}, sorted(self.files(crate).items())
+        defined = set().union(*(NAME.findall(COMMENT.sub('', text)) for path, text in files if not path.endswith('.rt')))
+        own = frozenset() if inside else frozenset().union(*(own_names(text) for path, text in files if path.endswith('.rt'))) - defined
+        for path, text in files:
+            for names, seen in types(text, own) if path.endswith('.rt') else definitions(text):
                 for name in names:
                     found.setdefault(name, []).append(seen)
         return found
@@ -227,12 +238,13 @@ class Promises:
         """The crates that a crate stands on, and those below them."""
         return set(self.crates[crate]).union(*map(self.below, self.crates[crate]))
 
-    def reached(self, texts, crates):
-        """The definitions, types and constants of these crates that texts name, with all that those name in turn."""
+    def reached(self, texts, crates, itself=None):
+        """The definitions, types and constants of these crates that texts name, with all that those name in turn. The texts are those of
+        the crate itself, if it is one of these."""
         found, left = {}, set().union(*(told.names for told in texts))
         while left:
             name = left.pop()
-            found[name] = [seen for crate in sorted(crates) for seen in self.named_of(crate).get(name, ())]
+            found[name] = [seen for crate in sorted(crates) for seen in self.named_of(crate, crate == itself).get(name, ())]
             left.update(*(seen.names.difference(found) for seen in found[name]))
         return sorted((name, [seen.text for seen in told]) for name, told in found.items() if told)
 
@@ -249,7 +261,7 @@ class Promises:
         if path not in self.files(crate):
             return None
         texts = [self.own(crate, path), *(self.called_in if path.endswith('.rt') else self.resting_on)(crate, path)]
-        return checksum([told.text for told in texts], self.reached(texts, {crate, *self.below(crate)}))
+        return checksum([told.text for told in texts], self.reached(texts, {crate, *self.below(crate)}, crate))
 
     def called_in(self, crate, path):
         """The functions of a crate that one of its files names, and that stand in another."""
@@ -260,7 +272,7 @@ class Promises:
         """The source files of a crate whose promises name, perhaps through others, what a file of definitions declares."""
         declared = set(DECLARED.findall(COMMENT.sub('', self.files(crate)[path])))
         sources = [self.own(crate, other) for other in sorted(self.files(crate)) if other.endswith('.rt')]
-        return [source for source in sources if declared.intersection(dict(self.reached([source], {crate})))]
+        return [source for source in sources if declared.intersection(dict(self.reached([source], {crate}, crate)))]
 
 
 # ---- trees
