@@ -4,6 +4,7 @@ ghost use Rattle.std.specs.Prelude.{◌≡◌, ◌↔◌, IfOk, IfSome, IsTrue};
 ghost use Rattle.board_text.specs.PlainBoard.{IsConfiguration};
 ghost use Rattle.orbits.specs.Orbits.{HasGroupOrNone};
 ghost use Rattle.proof_text.specs.Documents.{AreHeldMaps};
+ghost use Rattle.symmetries.specs.Groups.{IsEachOnce};
 
 use board_text::{Board, MAX_PEBBLES, Memory, parse};
 use gap_values::{GapValues, ValueTable, has_few_gaps};
@@ -45,7 +46,8 @@ const NONE: &str = "symmetries 0\nend\n";
 /// What is alike by the symmetries that `maps` make.
 fn alike_by(alloc: Global, board: &Board, maps: &[Images]) -> Result<Option<Alike>, Memory>
     requires { AreHeldMaps board.now.labels maps.now }
-    ensures { IfOk result (λ found. IfSome found (HasGroupOrNone board.now)) }
+    ensures group { IfOk result (λ found. IfSome found (HasGroupOrNone board.now)) }
+    ensures once { IfOk result (λ found. IfSome found IsEachOnce) }
 {
     if let Some((_, _)) = wrong_map(board, maps) {
         return Ok(None);
@@ -130,7 +132,9 @@ fn assert_all_values(rt: &impl Abort, alloc: Global, board: &Board, values: &Orb
 }
 
 /// Asserts that as many configurations have each value as by gaps.
-fn assert_all_sizes(rt: &impl Abort, alloc: Global, board: &Board, values: &OrbitValues<'_>) {
+fn assert_all_sizes(rt: &impl Abort, alloc: Global, board: &Board, values: &OrbitValues<'_>)
+    requires { IsEachOnce values.now.alike }
+{
     let gaps = match values_by_gaps(alloc, board) {
         Some(gaps) => gaps,
         None => panic!(rt; "memory"),
@@ -146,7 +150,8 @@ fn assert_all_sizes(rt: &impl Abort, alloc: Global, board: &Board, values: &Orbi
 
 /// What is alike on `board` by the maps whose text this is.
 fn alike_of(rt: &impl Abort, alloc: Global, board: &Board, maps: &str) -> Alike
-    ensures { HasGroupOrNone board.now result }
+    ensures group { HasGroupOrNone board.now result }
+    ensures once { IsEachOnce result }
 {
     let maps = parse_symmetries(alloc, board, maps.as_bytes())
         .ok()
