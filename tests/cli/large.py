@@ -17,6 +17,9 @@ LARGE_PLAYS = {
     'labeller': (b'1\n16\n', b'value 16\nat 0 0 0 0 0\nask 0\nat 1 0 0 0 0\nask 1\nat 1 16 0 0 0\nask 0\nno label for pebble 0 after 2 requests\n'),
 }
 
+# labels without a pair, six pebbles on which have more gaps than the limit, and a root whose powers are all of them but 0
+ALONE, ROOT = 151, 6
+
 # domains, with the processes that each carries for ever and no more, as laws say: residues in which each n - 1 labels are dominated by one
 # carry n, and a product those of its factors together, less one
 THREE = board_texts.residues(3)
@@ -63,7 +66,23 @@ def chain_report(labels, pebbles):
     return '\n'.join([*lines, 'forever: 0', 'end', '']).encode()
 
 
+def alone_up_to_symmetries(maps):
+    """The document of labels without a pair up to these maps: the first request has no answer."""
+    lines = ['proof 3', 'value 0', *maps, 'labeller 0', 'adversary 1', 'at 0 0 0 0 0 0 for 0 ask 0', 'end', '']
+    return '\n'.join(lines).encode()
+
+
 # ---- checks
+
+def up_to_symmetries(work):
+    """A board with too many gaps is solved by its orbits."""
+    path = written(work, 'alone.board', board_texts.empty(ALONE, 6))
+    images = [[(label + 1) % ALONE for label in range(ALONE)], [label * ROOT % ALONE for label in range(ALONE)]]
+    lines = ['symmetries 2', *(' '.join(map(str, ('map', *each))) for each in images)]
+    maps = written(work, 'alone.maps', '\n'.join([*lines, 'end', '']).encode())
+    yield check('a board of too many gaps', TOO_LARGE, ['solve', '--large', path])
+    yield check('a board of too many gaps up to symmetries', Ran(output=alone_up_to_symmetries(lines)), ['solve', '--large', '--symmetries', maps, path])
+
 
 def by_laws(work):
     """Domains last for ever for as many processes as they carry, and for no more; a chain has its value."""
@@ -98,6 +117,7 @@ def checks(work):
     widest = written(work, 'widest.board', board_texts.empty(144, 6))
     yield check('the report of a board of too many gaps, as a large board', TOO_LARGE, ['report', '--large', widest])
     yield from by_laws(work)
+    yield from up_to_symmetries(work)
     for name in stored('.board'):
         if name not in BEYOND:
             yield Check(f'the report of {name}, as a large board', partial(is_counted_alike, board(name)))

@@ -416,6 +416,14 @@ def of_given_symmetries(work):
     nine = written(work, 'nine-alone.board', empty(9, 2))
     many = written(work, 'many.maps', b'symmetries 2\nmap 1 2 3 4 5 6 7 8 0\nmap 1 0 2 3 4 5 6 7 8\nend\n')
     yield Mistake('too many symmetries by themselves', ['solve', '--symmetries', many, nine], fault(1, 'too many symmetries'), many, 'more than 131072 symmetries')
+    wide = written(work, 'mistake-wide.board', empty(17, 5))
+    turn = written(work, 'mistake-turn.maps', f'symmetries 1\nmap {" ".join(map(str, [*range(1, 17), 0]))}\nend\n'.encode())
+    yield Mistake('a board that is too large up to symmetries', ['solve', '--symmetries', turn, wide], fault(1, 'board too large'), wide,
+                  '1419857 configurations, and the most is 1048576; with `--large` and symmetries any number is taken')
+    widest = written(work, 'mistake-widest.board', empty(256, 6))
+    none = written(work, 'mistake-none.maps', b'symmetries 0\nend\n')
+    yield Mistake('a board with too many orbits', ['solve', '--large', '--symmetries', none, widest], fault(1, 'too many orbits'), widest,
+                  'more orbits than 16777216')
     long = written(work, 'long.maps', b'symmetries 1\n' + b'0' * 65536)
     yield Mistake('symmetries that are too long', ['solve', '--symmetries', long, cycle], fault(5, 'input too long'), long, 'at most 65536 bytes')
     missing = os.path.join(work, 'missing.maps')

@@ -59,7 +59,8 @@ const ABOUT_SOLVING: &str =
     same for every number of workers. With --large it is the document by classes,\n\
     whose rows say nothing of which pebble holds which label.\n\n\
     With --symmetries its rows are for all configurations that the maps in FILE\n\
-    take to one another.\n\n\
+    take to one another. Then --large takes any number of gaps: those that the maps\n\
+    take to one another are solved as one.\n\n\
     With --side its claim is `least` or `forever` for the labeller, `most` for the\n\
     adversary.\n\n\
     Common faults:\n  \
@@ -72,7 +73,8 @@ const ABOUT_SOLVING: &str =
     start lasts forever          --side adversary: there is no strategy for it\n  \
     symmetries fault line N Row  a map without an image for each label\n  \
     wrong symmetry N labels X Y  the map N doesn't keep that X dominates Y\n  \
-    too many symmetries          the maps make more than 131072\n\n\
+    too many symmetries          the maps make more than 131072\n  \
+    too many orbits              the maps leave too many gaps; name more of them\n\n\
     Example:\n  \
     pebbles solve chain.board > chain.proof";
 

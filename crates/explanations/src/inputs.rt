@@ -84,6 +84,11 @@ impl<'a, 'h> Inputs<'a, 'h> {
         }
     }
 
+    /// Whether the second file has symmetries.
+    pub(crate) fn have_symmetries(&self) -> bool {
+        self.given == Given::Apart && self.limit.is_some()
+    }
+
     /// A board and a document in two files.
     pub fn apart(board: Origin<'a, 'h>, other: Origin<'a, 'h>) -> Inputs<'a, 'h> {
         Inputs {

@@ -10,6 +10,7 @@ use crate::trouble::Trouble;
 use crate::usage::usage_hint;
 use command_line::BoardLimit;
 use gap_values::MAX_GAPS;
+use orbits::MAX_ORBITS;
 use positions::MAX_CONFIGURATIONS;
 use runs::{MAX_PROOF_BYTES, RunFault, Verdict};
 
@@ -19,6 +20,8 @@ const _: () = prove!(MAX_PROOF_BYTES == 134_217_728);
 const _: () = prove!(MAX_CONFIGURATIONS == 1_048_576);
 
 const _: () = prove!(MAX_GAPS == 536_870_912);
+
+const _: () = prove!(MAX_ORBITS == 16_777_216);
 
 /// The end of the explanation of wrong use.
 const USAGE: &str =
@@ -43,7 +46,7 @@ impl<'a> Note<'a> {
             },
             RunFault::TooLarge => Note {
                 about: board.name,
-                parts: too_large_hint(inputs.limit, board.text),
+                parts: too_large_hint(inputs),
             },
             RunFault::DocumentTooLarge => Note {
                 about: board.name,
@@ -56,6 +59,10 @@ impl<'a> Note<'a> {
             RunFault::TooManyChains => Note {
                 about: board.name,
                 parts: many_chains_hint(),
+            },
+            RunFault::TooManyOrbits => Note {
+                about: board.name,
+                parts: many_orbits_hint(),
             },
             RunFault::Proof(fault) => Note {
                 about: other.name,
@@ -186,17 +193,17 @@ fn trouble_hint(name: &str, trouble: Trouble) -> Parts {
     }
 }
 
-/// The words for a board with these first bytes that is too large for a job with this limit, or for
-/// a check.
-fn too_large_hint(limit: Option<BoardLimit>, board: &[u8]) -> Parts {
-    let Some(sizes) = Sizes::of(board) else {
+/// The words for a board that is too large for the job of `inputs`, or for a check.
+fn too_large_hint(inputs: &Inputs<'_, '_>) -> Parts {
+    let Some(sizes) = Sizes::of(inputs.board.text) else {
         return words(
             "it has more configurations than 1048576: labels to the power of pebbles, in `board 2` \
             with one label more",
         );
     };
-    match limit {
+    match inputs.limit {
         None => without_rows_for_classes(sizes),
+        Some(_) if inputs.have_symmetries() => with_orbits(sizes),
         Some(BoardLimit::Small) if sizes.has_few_gaps() => with_few_gaps(sizes),
         Some(_) => with_many_gaps(sizes),
     }
@@ -217,6 +224,24 @@ fn long_document_hint(board: &[u8]) -> Parts {
 /// The words for a board with too many chains of one length.
 fn many_chains_hint() -> Parts {
     words("it has more chains of one length than 68719476736; `--most` stops at shorter ones")
+}
+
+/// The words for a board with too many orbits.
+fn many_orbits_hint() -> Parts {
+    words(
+        "up to these symmetries it has more orbits than 16777216, each the gaps that they take to \
+        one another; more of its symmetries leave fewer",
+    )
+}
+
+/// The words for a board with too many configurations to be solved by its orbits without `--large`.
+fn with_orbits(sizes: Sizes) -> Parts {
+    around(
+        "",
+        sizes.configurations(),
+        " configurations, and the most is 1048576; with `--large` and symmetries any number is \
+        taken",
+    )
 }
 
 /// The words for a board with too many configurations for a document that lists them.

@@ -35,7 +35,7 @@ use Rattle.runs.specs.declared.verdicts.DocumentVersion.{DocumentVersion}
 use Rattle.runs.specs.declared.verdicts.DocumentVersion.TheVariants.{ByConfigurations}
 use Rattle.runs.specs.declared.fault.RunFault.{RunFault}
 use Rattle.runs.specs.declared.fault.RunFault.TheVariants.{Board, TooLarge, Proof, Memory, Worker, Read, Write, Limit}
-use Rattle.runs.specs.declared.fault.RunFault.TheVariants.{DocumentTooLarge, LastsForever, TooManyChains}
+use Rattle.runs.specs.declared.fault.RunFault.TheVariants.{DocumentTooLarge, LastsForever, TooManyChains, TooManyOrbits}
 use Rattle.runs.specs.declared.fault.RunFault.TheVariants.{Symmetries}
 use Rattle.runs.specs.declared.verdicts.Verdict.{Verdict}
 use Rattle.runs.specs.declared.verdicts.Verdict.TheVariants.{Accepted, Refused, RefusedByClasses}
@@ -86,6 +86,7 @@ not_wrong_among IsSmall text board small Read wrong = wrong
 not_wrong_among IsSmall text board small Write wrong = wrong
 not_wrong_among IsSmall text board small DocumentTooLarge wrong = wrong
 not_wrong_among IsSmall text board small TooManyChains wrong = wrong
+not_wrong_among IsSmall text board small TooManyOrbits wrong = wrong
 not_wrong_among IsSmall text board small (Symmetries why) wrong = wrong
 not_wrong_among IsSmall text board small LastsForever wrong = wrong
 not_wrong_among IsSmall text board small Limit wrong = wrong
@@ -111,6 +112,7 @@ module _ (text written : List ℕ) (value : Value) (solution : IsSolution text v
   no_fault_of_board Write wrong = absurd wrong
   no_fault_of_board DocumentTooLarge wrong = absurd wrong
   no_fault_of_board TooManyChains wrong = absurd wrong
+  no_fault_of_board TooManyOrbits wrong = absurd wrong
   no_fault_of_board (Symmetries why) wrong = absurd wrong
   no_fault_of_board LastsForever wrong = absurd wrong
   no_fault_of_board Limit wrong = absurd wrong
@@ -161,6 +163,7 @@ module _ (text written : List ℕ) (value : Value) (solution : IsSolution text v
     no_fault_of_document Write wrong = absurd wrong
     no_fault_of_document DocumentTooLarge wrong = absurd wrong
     no_fault_of_document TooManyChains wrong = absurd wrong
+    no_fault_of_document TooManyOrbits wrong = absurd wrong
     no_fault_of_document (Symmetries why) wrong = absurd wrong
     no_fault_of_document LastsForever wrong = absurd wrong
     no_fault_of_document Limit wrong = absurd wrong

@@ -1,16 +1,19 @@
 -- A check accepts what is written for a board that is solved up to symmetries.
-use Rattle.std.proofs.Common.{◌≡◌, ◌-◌, ◌≤◌, ℕ, List, None, length, refl, sym, ap, ◌∙◌, subst, arith, inl, inr}
-use Rattle.board_text.specs.PlainBoard.{PlainBoard, IsBoard, places}
-use Rattle.classes.specs.Numbers.{ways}
-use Rattle.command_line.specs.declared.asked.BoardLimit.{BoardLimit}
-use Rattle.gap_values.specs.declared.rounds.TheConstants.{MAX_GAPS}
+use Rattle.std.proofs.Common.{◌≡◌, ℕ, List, None, length, refl, sym, ap, ◌∙◌, subst, arith, inl, inr}
+use Rattle.std.specs.List.{All}
+use Rattle.board_text.specs.PlainBoard.{PlainBoard, IsBoard}
+use Rattle.orbits.specs.OrbitsUpTo.{HasFewOrbitsUpTo}
+use Rattle.orbits.proofs.Cited.{has_group, less_than_orbits}
 use Rattle.positions.specs.Claim.{claim_of}
+use Rattle.positions.specs.Value.{HasValue}
 use Rattle.positions.specs.declared.value.Value.{Value}
+use Rattle.positions.specs.declared.value.Value.TheVariants.{Finite, Forever}
 use Rattle.positions.proofs.Cited.{same_value}
 use Rattle.proof_check.specs.SymmetryFaults.{BreaksNoRuleUpTo}
 use Rattle.proof_check.proofs.Cited.{has_places, only_symmetry_memory}
 use Rattle.proof_check.proofs.DocumentFaults.{HasPlaces}
 use Rattle.proof_text.specs.Documents.{IsSymmetryProof}
+use Rattle.proof_text.specs.Proof.{IsClaim}
 use Rattle.proof_text.specs.ProofText.{symmetry_text}
 use Rattle.proof_text.specs.SymmetryProof.{PlainSymmetryProof}
 use Rattle.proof_text.specs.declared.fault.ProofFault.{ProofFault}
@@ -18,31 +21,40 @@ use Rattle.proof_text.specs.declared.fault.ProofKind.TheVariants.{Memory as OutO
 use Rattle.proof_text.proofs.Cited.{no_symmetry_text_fault as faultless_document}
 use Rattle.proof_text.proofs.Cited.{one_symmetry_document as one_of_text}
 use Rattle.strategies.specs.SymmetricDocument.{IsSymmetryDocumentOf}
+use Rattle.symmetries.specs.Symmetries.{IsSymmetry}
 use Rattle.strategies.proofs.Cited.{breaks_no_rule_up_to, has_symmetry_form, short_symmetry_text_fits}
 use Rattle.runs.specs.SymmetricSolveRun.{IsSolutionUpTo, IsSolvedUpTo}
 use Rattle.runs.specs.Symmetries.{SpellsSymmetries}
-use Rattle.runs.specs.Texts.{BeginsAs, HasFaultAs, HasNoProof, IsMemory, IsWithinLimit}
+use Rattle.runs.specs.Texts.{BeginsAs, HasFaultAs, HasNoProof, IsMemory}
 use Rattle.runs.specs.Verdicts.{IsAcceptance, IsChecked, IsProofOf, IsSymmetryVerdict, IsVerdictOf, text_of_proof}
 use Rattle.runs.specs.declared.checking.TheConstants.{MAX_PROOF_BYTES}
 use Rattle.runs.specs.declared.fault.RunFault.{RunFault}
 use Rattle.runs.specs.declared.fault.RunFault.TheVariants.{Board, TooLarge, Proof, Memory, Worker, Read, Write, Limit}
 use Rattle.runs.specs.declared.fault.RunFault.TheVariants.{DocumentTooLarge, LastsForever, Symmetries, TooManyChains}
+use Rattle.runs.specs.declared.fault.RunFault.TheVariants.{TooManyOrbits}
 use Rattle.runs.specs.declared.verdicts.DocumentVersion.{DocumentVersion}
 use Rattle.runs.specs.declared.verdicts.DocumentVersion.TheVariants.{UpToSymmetries}
 use Rattle.runs.specs.declared.verdicts.Verdict.{Verdict}
 use Rattle.runs.specs.declared.verdicts.Verdict.TheVariants.{Accepted, Refused, RefusedByClasses}
 use Rattle.runs.specs.declared.verdicts.Verdict.TheVariants.{RefusedUpToSymmetries}
-use Rattle.runs.proofs.BoardLimits.{few_gaps}
 use Rattle.runs.proofs.DocumentKinds.{begins_as, one_version}
 
-module _ (board : PlainBoard) (is : IsBoard board) (text : List ℕ) (limit : BoardLimit)
-    (within : IsWithinLimit limit board) (value : Value) (written : List ℕ)
+-- a finite value is less than the number of orbits, so its claim fits
+claim_of_orbits : (board : PlainBoard) → IsBoard board → (maps : List (List ℕ)) → All (IsSymmetry board) maps
+    → HasFewOrbitsUpTo board maps → (value : Value) → HasValue board board.start value → IsClaim (claim_of value)
+claim_of_orbits board is maps each few (Finite number) has =
+    let less = less_than_orbits board few.alike (has_group board maps each few.alike few.by) few.few.0 few.few.1
+    board.start number is.start has in
+    omega (arith, less, few.few.1.few)
+claim_of_orbits board is maps each few Forever has = tt
+
+module _ (board : PlainBoard) (is : IsBoard board) (text : List ℕ) (value : Value) (written : List ℕ)
     (solution : IsSolutionUpTo None board text value written) where
   abbrev maps : List (List ℕ)
   maps = solution.0
 
   abbrev spells : SpellsSymmetries board text maps
-  spells = solution.1
+  spells = solution.1.0
 
   abbrev solved : IsSolvedUpTo None board maps value written
   solved = solution.2
@@ -54,10 +66,13 @@ module _ (board : PlainBoard) (is : IsBoard board) (text : List ℕ) (limit : Bo
   -- the text is short enough for a check, so the document has the form of documents
   has_the_form : IsSymmetryProof board solved.document
   has_the_form =
-      let few : ways (board.pebbles - 1) (places board) ≤ MAX_GAPS = few_gaps limit board is within in
+      let rows = document_is.rows in
+      let fits : IsClaim solved.document.rows.claim =
+      subst IsClaim (sym rows.claim)
+      (claim_of_orbits board is maps spells.are_made.symmetries solution.1.1 rows.value rows.has_value) in
       let size : length (symmetry_text board solved.document) ≡ length written = ap length (sym solved.written_is) in
       has_symmetry_form board maps is.start spells.are_made.symmetries spells.spells.are_maps solved.document
-      document_is (short_symmetry_text_fits board maps solved.document document_is (omega (arith, few))
+      document_is (short_symmetry_text_fits board maps solved.document document_is fits
       (omega (arith, size, solved.short)))
 
   rules : BreaksNoRuleUpTo board solved.document
@@ -122,5 +137,6 @@ module _ (board : PlainBoard) (is : IsBoard board) (text : List ℕ) (limit : Bo
   symmetric_document_faultless Write wrong = absurd wrong
   symmetric_document_faultless DocumentTooLarge wrong = absurd wrong
   symmetric_document_faultless TooManyChains wrong = absurd wrong
+  symmetric_document_faultless TooManyOrbits wrong = absurd wrong
   symmetric_document_faultless LastsForever wrong = absurd wrong
   symmetric_document_faultless Limit wrong = absurd wrong

@@ -15,7 +15,7 @@ use Rattle.runs.specs.Report.{size_line}
 use Rattle.runs.specs.Texts.{HasNoneAmong, IsBoardAmong, IsWrongAmong, OfAnySize}
 use Rattle.runs.specs.declared.fault.RunFault.{RunFault}
 use Rattle.runs.specs.declared.fault.RunFault.TheVariants.{Board, TooLarge, Proof, Memory, Worker, Read, Write, Limit}
-use Rattle.runs.specs.declared.fault.RunFault.TheVariants.{DocumentTooLarge, LastsForever, TooManyChains}
+use Rattle.runs.specs.declared.fault.RunFault.TheVariants.{DocumentTooLarge, LastsForever, TooManyChains, TooManyOrbits}
 use Rattle.runs.specs.declared.fault.RunFault.TheVariants.{Symmetries}
 use Rattle.runs.proofs.AcceptedDocuments.{not_wrong_among}
 use Rattle.runs.proofs.OneOutcome.{one_wrong_among}
@@ -82,6 +82,7 @@ any_fault most text DocumentTooLarge h = absurd h
 any_fault most text LastsForever h = absurd h
 any_fault most text (Symmetries why) h = absurd h
 any_fault most text TooManyChains h = absurd h
+any_fault most text TooManyOrbits h = absurd h
 any_fault most text Limit h = absurd h
 
 pub wrong_counting : (most : ℕ) (text : List ℕ) (fault : RunFault) → CannotCountChains most text fault
@@ -97,6 +98,7 @@ wrong_counting most text DocumentTooLarge h = inr (inr h)
 wrong_counting most text LastsForever h = inr (inr h)
 wrong_counting most text (Symmetries why) h = inr (inr h)
 wrong_counting most text TooManyChains h = inr (inr h)
+wrong_counting most text TooManyOrbits h = inr (inr h)
 wrong_counting most text Limit h = inr (inr h)
 
 -- ---- one text, or one fault
@@ -129,6 +131,7 @@ module _ (most : ℕ) (text : List ℕ) where
   fault_is DocumentTooLarge h = inr h
   fault_is LastsForever h = inr h
   fault_is (Symmetries why) h = inr h
+  fault_is TooManyOrbits h = inr h
   fault_is Limit h = inr h
 
   pub one_chain_fault : (fault other : RunFault) → HasNoChains most text fault → HasNoChains most text other

@@ -5,9 +5,10 @@ use Rattle.board_text.specs.PlainBoard.{PlainBoard, places}
 use Rattle.board_text.proofs.Cited.{one_board}
 use Rattle.proof_check.proofs.Cited.{no_class_fault}
 use Rattle.strategies.proofs.Cited.{breaks_no_class_rule, has_class_form as is_formed, one_class_document as one_made}
-use Rattle.strategies.proofs.Cited.{class_document_exists, short_text_fits}
+use Rattle.strategies.proofs.Cited.{class_document_exists, few_gaps_claim, short_text_fits}
 use Rattle.proof_text.proofs.Cited.{no_class_text_fault as faultless_document, one_class_document}
 use Rattle.proof_text.specs.Arranged.{arranged}
+use Rattle.proof_text.specs.Positions.{class_positions}
 use Rattle.proof_text.specs.ProofText.{class_text}
 use Rattle.proof_text.specs.Documents.{IsClassProof}
 use Rattle.classes.specs.Numbers.{ways}
@@ -29,7 +30,7 @@ use Rattle.runs.specs.declared.checking.TheConstants.{MAX_PROOF_BYTES}
 use Rattle.runs.specs.Verdicts.{IsAcceptance, IsChecked, IsClassVerdict, IsProofOf, IsVerdictOf, text_of_proof}
 use Rattle.runs.specs.declared.fault.RunFault.{RunFault}
 use Rattle.runs.specs.declared.fault.RunFault.TheVariants.{Board, TooLarge, Proof, Memory, Worker, Read, Write, Limit}
-use Rattle.runs.specs.declared.fault.RunFault.TheVariants.{DocumentTooLarge, LastsForever, TooManyChains}
+use Rattle.runs.specs.declared.fault.RunFault.TheVariants.{DocumentTooLarge, LastsForever, TooManyChains, TooManyOrbits}
 use Rattle.runs.specs.declared.fault.RunFault.TheVariants.{Symmetries}
 use Rattle.runs.specs.declared.verdicts.Verdict.{Verdict}
 use Rattle.runs.specs.declared.verdicts.Verdict.TheVariants.{Accepted, Refused, RefusedByClasses}
@@ -74,6 +75,7 @@ module _ (text : List ℕ) where
       → ((fault ≡ DocumentTooLarge) × IsUnsolvedByClasses text DocumentTooLarge) ⊎ IsWrongWithin Large text fault
   fault_is DocumentTooLarge h = inl (refl, h)
   fault_is TooManyChains h = inr h
+  fault_is TooManyOrbits h = inr h
   fault_is (Symmetries why) h = inr h
   fault_is LastsForever h = inr h
   fault_is (Board told) h = inr h
@@ -117,6 +119,7 @@ module _ (text : List ℕ) where
   wrong_unsolved : (fault : RunFault) → IsWrongWithin Large text fault → IsUnsolvedByClasses text fault
   wrong_unsolved DocumentTooLarge wrong = absurd wrong
   wrong_unsolved TooManyChains wrong = absurd wrong
+  wrong_unsolved TooManyOrbits wrong = absurd wrong
   wrong_unsolved (Symmetries why) wrong = absurd wrong
   wrong_unsolved LastsForever wrong = absurd wrong
   wrong_unsolved (Board told) wrong = wrong
@@ -165,7 +168,9 @@ module _ (text written : List ℕ) (value : Value) (solution : IsClassSolution t
       solution.1.few in
       let size : length (class_text board solved.document) ≡ length written = ap length (sym solved.text_is) in
       is_formed board solved.document is.is_board.start solved.is_document
-      (short_text_fits board solved.document solved.is_document (omega (arith, few))
+      (short_text_fits board solved.document solved.is_document
+      (few_gaps_claim (class_positions board.labels) board solved.document is.is_board.start solved.is_document
+      (omega (arith, few)))
       (omega (arith, size, solved.short)))
 
   by_class : BeginsAs ByClasses written
@@ -223,6 +228,7 @@ module _ (text written : List ℕ) (value : Value) (solution : IsClassSolution t
   class_document_faultless Write wrong = absurd wrong
   class_document_faultless DocumentTooLarge wrong = absurd wrong
   class_document_faultless TooManyChains wrong = absurd wrong
+  class_document_faultless TooManyOrbits wrong = absurd wrong
   class_document_faultless (Symmetries why) wrong = absurd wrong
   class_document_faultless LastsForever wrong = absurd wrong
   class_document_faultless Limit wrong = absurd wrong

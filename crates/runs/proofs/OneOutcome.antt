@@ -21,7 +21,7 @@ use Rattle.command_line.specs.declared.asked.BoardLimit.{BoardLimit}
 use Rattle.command_line.specs.declared.asked.BoardLimit.TheVariants.{Small}
 use Rattle.runs.specs.declared.fault.RunFault.{RunFault}
 use Rattle.runs.specs.declared.fault.RunFault.TheVariants.{Board, TooLarge, Proof, Memory, Worker, Read, Write, Limit}
-use Rattle.runs.specs.declared.fault.RunFault.TheVariants.{DocumentTooLarge, LastsForever, TooManyChains}
+use Rattle.runs.specs.declared.fault.RunFault.TheVariants.{DocumentTooLarge, LastsForever, TooManyChains, TooManyOrbits}
 use Rattle.runs.specs.declared.fault.RunFault.TheVariants.{Symmetries}
 
 -- two bounds with the same numbers below them are equal
@@ -107,6 +107,7 @@ module _ (IsSmall : PlainBoard → Type 0) (text : List ℕ) where
   wrong_is Write wrong = absurd wrong
   wrong_is DocumentTooLarge wrong = absurd wrong
   wrong_is TooManyChains wrong = absurd wrong
+  wrong_is TooManyOrbits wrong = absurd wrong
   wrong_is (Symmetries why) wrong = absurd wrong
   wrong_is LastsForever wrong = absurd wrong
   wrong_is Limit wrong = absurd wrong

@@ -24,7 +24,7 @@ use Rattle.runs.specs.declared.verdicts.DocumentVersion.{DocumentVersion}
 use Rattle.runs.specs.declared.verdicts.DocumentVersion.TheVariants.{ByClasses, ByConfigurations, UpToSymmetries}
 use Rattle.runs.specs.declared.fault.RunFault.{RunFault}
 use Rattle.runs.specs.declared.fault.RunFault.TheVariants.{Board, TooLarge, Proof, Memory, Worker, Read, Write, Limit}
-use Rattle.runs.specs.declared.fault.RunFault.TheVariants.{DocumentTooLarge, LastsForever, TooManyChains}
+use Rattle.runs.specs.declared.fault.RunFault.TheVariants.{DocumentTooLarge, LastsForever, TooManyChains, TooManyOrbits}
 use Rattle.runs.specs.declared.fault.RunFault.TheVariants.{Symmetries}
 use Rattle.runs.specs.declared.verdicts.Verdict.{Verdict}
 use Rattle.runs.specs.declared.verdicts.Verdict.TheVariants.{Accepted, Refused, RefusedByClasses}
@@ -159,6 +159,7 @@ module _ (board : PlainBoard) (text : List ℕ) (is_board : IsBoard board) where
   faultless_of kind proof Write is spelled wrong = wrong
   faultless_of kind proof DocumentTooLarge is spelled wrong = wrong
   faultless_of kind proof TooManyChains is spelled wrong = wrong
+  faultless_of kind proof TooManyOrbits is spelled wrong = wrong
   faultless_of kind proof (Symmetries why) is spelled wrong = wrong
   faultless_of kind proof LastsForever is spelled wrong = wrong
   faultless_of kind proof Limit is spelled wrong = wrong
@@ -210,6 +211,7 @@ module _ (board : PlainBoard) (text : List ℕ) (is_board : IsBoard board) where
   one_wrong_proof Write other wrong also = absurd wrong
   one_wrong_proof DocumentTooLarge other wrong also = absurd wrong
   one_wrong_proof TooManyChains other wrong also = absurd wrong
+  one_wrong_proof TooManyOrbits other wrong also = absurd wrong
   one_wrong_proof (Symmetries why) other wrong also = absurd wrong
   one_wrong_proof LastsForever other wrong also = absurd wrong
   one_wrong_proof Limit other wrong also = absurd wrong
@@ -220,6 +222,7 @@ module _ (board : PlainBoard) (text : List ℕ) (is_board : IsBoard board) where
   one_wrong_proof (Proof told) Write wrong also = absurd also
   one_wrong_proof (Proof told) DocumentTooLarge wrong also = absurd also
   one_wrong_proof (Proof told) TooManyChains wrong also = absurd also
+  one_wrong_proof (Proof told) TooManyOrbits wrong also = absurd also
   one_wrong_proof (Proof told) (Symmetries why) wrong also = absurd also
   one_wrong_proof (Proof told) LastsForever wrong also = absurd also
   one_wrong_proof (Proof told) Limit wrong also = absurd also
@@ -230,6 +233,7 @@ module _ (board : PlainBoard) (text : List ℕ) (is_board : IsBoard board) where
   one_wrong_proof TooLarge Write wrong also = absurd also
   one_wrong_proof TooLarge DocumentTooLarge wrong also = absurd also
   one_wrong_proof TooLarge TooManyChains wrong also = absurd also
+  one_wrong_proof TooLarge TooManyOrbits wrong also = absurd also
   one_wrong_proof TooLarge (Symmetries why) wrong also = absurd also
   one_wrong_proof TooLarge LastsForever wrong also = absurd also
   one_wrong_proof TooLarge Limit wrong also = absurd also

@@ -20,7 +20,7 @@ use Rattle.runs.specs.Texts.{IsBoardWithin, IsWrongWithin}
 use Rattle.runs.specs.declared.checking.TheConstants.{MAX_PROOF_BYTES}
 use Rattle.runs.specs.declared.fault.RunFault.{RunFault}
 use Rattle.runs.specs.declared.fault.RunFault.TheVariants.{Board, TooLarge, Proof, Memory, Worker, Read, Write, Limit}
-use Rattle.runs.specs.declared.fault.RunFault.TheVariants.{DocumentTooLarge, LastsForever, TooManyChains}
+use Rattle.runs.specs.declared.fault.RunFault.TheVariants.{DocumentTooLarge, LastsForever, TooManyChains, TooManyOrbits}
 use Rattle.runs.specs.declared.fault.RunFault.TheVariants.{Symmetries}
 use Rattle.runs.proofs.AcceptedDocuments.{not_wrong}
 use Rattle.runs.proofs.OneOutcome.{one_wrong}
@@ -94,6 +94,7 @@ module _ (limit : BoardLimit) (side : Side) (text : List ℕ) where
   fault_is LastsForever h = inl (record { told = refl; is = h })
   fault_is DocumentTooLarge h = inr (inl (record { told = refl; is = h }))
   fault_is TooManyChains h = inr (inr h)
+  fault_is TooManyOrbits h = inr (inr h)
   fault_is (Symmetries why) h = inr (inr h)
   fault_is (Board told) h = inr (inr h)
   fault_is TooLarge h = inr (inr h)
@@ -160,6 +161,7 @@ module _ (limit : BoardLimit) (side : Side) (text : List ℕ) where
   wrong_unsolved DocumentTooLarge wrong = absurd wrong
   wrong_unsolved LastsForever wrong = absurd wrong
   wrong_unsolved TooManyChains wrong = absurd wrong
+  wrong_unsolved TooManyOrbits wrong = absurd wrong
   wrong_unsolved (Symmetries why) wrong = absurd wrong
   wrong_unsolved (Board told) wrong = wrong
   wrong_unsolved TooLarge wrong = wrong

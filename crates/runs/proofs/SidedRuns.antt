@@ -13,7 +13,7 @@ use Rattle.proof_text.specs.ProofText.{class_text}
 use Rattle.strategies.specs.Sides.{HasStrategy}
 use Rattle.runs.specs.declared.fault.RunFault.{RunFault}
 use Rattle.runs.specs.declared.fault.RunFault.TheVariants.{Board, TooLarge, Proof, Memory, Worker, Read, Write, Limit}
-use Rattle.runs.specs.declared.fault.RunFault.TheVariants.{DocumentTooLarge, LastsForever, TooManyChains}
+use Rattle.runs.specs.declared.fault.RunFault.TheVariants.{DocumentTooLarge, LastsForever, TooManyChains, TooManyOrbits}
 use Rattle.runs.specs.declared.fault.RunFault.TheVariants.{Symmetries}
 use Rattle.runs.specs.Inside.SolveRun.{IsRefused, IsSolvedByClassesFor, IsSolvedFor, IsUnmade, IsUnshown}
 use Rattle.runs.specs.LimitedSolveRun.{CannotSolveWithin, SolutionWithin}
@@ -56,6 +56,7 @@ no_board Large None workers text Write h = absurd h
 no_board Large None workers text DocumentTooLarge h = absurd h
 no_board Large None workers text LastsForever h = absurd h
 no_board Large None workers text TooManyChains h = absurd h
+no_board Large None workers text TooManyOrbits h = absurd h
 no_board Large None workers text (Symmetries why) h = absurd h
 no_board Large None workers text Limit h = absurd h
 no_board limit (Some side) workers text Memory h = tt
@@ -68,6 +69,7 @@ no_board limit (Some side) workers text Write h = absurd h
 no_board limit (Some side) workers text DocumentTooLarge h = absurd h
 no_board limit (Some side) workers text LastsForever h = absurd h
 no_board limit (Some side) workers text TooManyChains h = absurd h
+no_board limit (Some side) workers text TooManyOrbits h = absurd h
 no_board limit (Some side) workers text (Symmetries why) h = absurd h
 no_board limit (Some side) workers text Limit h = absurd h
 
@@ -91,6 +93,7 @@ module _ (text : List ℕ) (board : PlainBoard) (workers : ℕ) where
   refused None DocumentTooLarge within h = absurd h
   refused None LastsForever within h = absurd h
   refused None TooManyChains within h = absurd h
+  refused None TooManyOrbits within h = absurd h
   refused None (Symmetries why) within h = absurd h
   refused None Limit within h = absurd h
   refused (Some side) Memory within h = tt
@@ -103,6 +106,7 @@ module _ (text : List ℕ) (board : PlainBoard) (workers : ℕ) where
   refused (Some side) DocumentTooLarge within h = absurd h
   refused (Some side) LastsForever within h = absurd h
   refused (Some side) TooManyChains within h = absurd h
+  refused (Some side) TooManyOrbits within h = absurd h
   refused (Some side) (Symmetries why) within h = absurd h
   refused (Some side) Limit within h = absurd h
 
@@ -119,6 +123,7 @@ module _ (text : List ℕ) (board : PlainBoard) (workers : ℕ) where
   unmade limit side Write within h = absurd h
   unmade limit side DocumentTooLarge within h = absurd h
   unmade limit side TooManyChains within h = absurd h
+  unmade limit side TooManyOrbits within h = absurd h
   unmade limit side (Symmetries why) within h = absurd h
   unmade limit side Limit within h = absurd h
 
@@ -143,6 +148,7 @@ module _ (text : List ℕ) (board : PlainBoard) (workers : ℕ) where
   unshown side Read within h = absurd h
   unshown side Write within h = absurd h
   unshown side TooManyChains within h = absurd h
+  unshown side TooManyOrbits within h = absurd h
   unshown side (Symmetries why) within h = absurd h
   unshown side Limit within h = absurd h
 

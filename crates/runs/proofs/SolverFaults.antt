@@ -16,7 +16,7 @@ use Rattle.command_line.specs.declared.asked.BoardLimit.{BoardLimit}
 use Rattle.command_line.specs.declared.asked.BoardLimit.TheVariants.{Small}
 use Rattle.runs.specs.declared.fault.RunFault.{RunFault}
 use Rattle.runs.specs.declared.fault.RunFault.TheVariants.{Board, TooLarge, Proof, Memory, Worker, Read, Write, Limit}
-use Rattle.runs.specs.declared.fault.RunFault.TheVariants.{DocumentTooLarge, LastsForever, TooManyChains}
+use Rattle.runs.specs.declared.fault.RunFault.TheVariants.{DocumentTooLarge, LastsForever, TooManyChains, TooManyOrbits}
 use Rattle.runs.specs.declared.fault.RunFault.TheVariants.{Symmetries}
 use Rattle.runs.specs.Inside.Faults.{fault_of_making, fault_of_solving}
 use Rattle.runs.specs.declared.checking.TheConstants.{MAX_PROOF_BYTES}
@@ -62,6 +62,7 @@ any_worker limit workers text Read h = absurd h
 any_worker limit workers text Write h = absurd h
 any_worker limit workers text DocumentTooLarge h = absurd h
 any_worker limit workers text TooManyChains h = absurd h
+any_worker limit workers text TooManyOrbits h = absurd h
 any_worker limit workers text (Symmetries why) h = absurd h
 any_worker limit workers text LastsForever h = absurd h
 any_worker limit workers text Limit h = absurd h

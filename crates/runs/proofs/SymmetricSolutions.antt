@@ -6,6 +6,8 @@ use Rattle.std.proofs.lemmas.Bool.{cases_lt}
 use Rattle.std.proofs.lemmas.List.Elements.{All-nil}
 use Rattle.board_text.specs.PlainBoard.{PlainBoard, IsBoard}
 use Rattle.command_line.specs.declared.asked.BoardLimit.{BoardLimit}
+use Rattle.orbits.specs.OrbitsUpTo.{HasManyOrbitsUpTo}
+use Rattle.orbits.proofs.Cited.{few_and_many, few_or_many_up_to}
 use Rattle.positions.specs.Claim.{claim_of}
 use Rattle.positions.specs.Table.{AnswerRow, RequestRow}
 use Rattle.positions.specs.Value.{HasValue}
@@ -31,11 +33,13 @@ use Rattle.symmetries.specs.ClosingLoop.{HasLargeGroup}
 use Rattle.symmetries.specs.Symmetries.{IsSymmetry}
 use Rattle.symmetries.specs.declared.maps.MapFault.{MapFault}
 use Rattle.runs.specs.SymmetricSolveRun.{IsLongUpTo, IsSolutionUpTo, IsSolvedUpTo, IsUnsolvedUpTo}
+use Rattle.runs.specs.SymmetricSolveRun.{SpellsFewOrbits}
 use Rattle.runs.specs.Symmetries.{AreWrongSymmetries, HasSymmetries, SpellsMaps, SpellsSymmetries}
 use Rattle.runs.specs.declared.checking.TheConstants.{MAX_PROOF_BYTES}
 use Rattle.runs.specs.declared.fault.RunFault.{RunFault}
 use Rattle.runs.specs.declared.fault.RunFault.TheVariants.{Board, TooLarge, Proof, Memory, Worker, Read, Write, Limit}
 use Rattle.runs.specs.declared.fault.RunFault.TheVariants.{DocumentTooLarge, LastsForever, Symmetries, TooManyChains}
+use Rattle.runs.specs.declared.fault.RunFault.TheVariants.{TooManyOrbits}
 use Rattle.runs.specs.declared.fault.SymmetriesFault.{SymmetriesFault}
 use Rattle.runs.specs.declared.fault.SymmetriesFault.TheVariants.{Map, Text, TooMany}
 
@@ -137,9 +141,9 @@ module _ (board : PlainBoard) (is_board : IsBoard board) (text : List ℕ) where
     one_symmetric_solution value worth first second (maps, spells, one) (others, spells_too, other) =
         let also : IsSolvedUpTo side board maps worth second =
         subst (λ m. IsSolvedUpTo side board m worth second)
-        (same_maps maps others spells.spells spells_too.spells) other in
+        (same_maps maps others spells.0.spells spells_too.0.spells) other in
         let same : one.document ≡ also.document =
-        one_document maps spells.are_made.symmetries one.document also.document one.is_document also.is_document in (
+        one_document maps spells.0.are_made.symmetries one.document also.document one.is_document also.is_document in (
           same_value board board.start value worth one.has_value also.has_value,
           one.written_is ∙ ap (symmetry_text board) same ∙ sym also.written_is,
         )
@@ -154,16 +158,21 @@ module _ (board : PlainBoard) (is_board : IsBoard board) (text : List ℕ) where
       told : fault ≡ DocumentTooLarge
       is : IsUnsolvedUpTo side board text DocumentTooLarge
 
+    record IsOfOrbits (fault : RunFault) : Type 0 where
+      told : fault ≡ TooManyOrbits
+      is : IsUnsolvedUpTo side board text TooManyOrbits
+
     record IsOfSymmetries (fault : RunFault) : Type 0 where
       why : SymmetriesFault
       told : fault ≡ Symmetries why
       is : AreWrongSymmetries board text why
 
     fault_is : (fault : RunFault) → IsUnsolvedUpTo side board text fault
-        → IsOfSide fault ⊎ IsOfDocument fault ⊎ IsOfSymmetries fault
+        → IsOfSide fault ⊎ IsOfDocument fault ⊎ IsOfOrbits fault ⊎ IsOfSymmetries fault
     fault_is LastsForever h = inl (record { told = refl; is = h })
     fault_is DocumentTooLarge h = inr (inl (record { told = refl; is = h }))
-    fault_is (Symmetries why) h = inr (inr (record { why = why; told = refl; is = h }))
+    fault_is TooManyOrbits h = inr (inr (inl (record { told = refl; is = h })))
+    fault_is (Symmetries why) h = inr (inr (inr (record { why = why; told = refl; is = h })))
     fault_is (Board fault) h = absurd h
     fault_is TooLarge h = absurd h
     fault_is (Proof fault) h = absurd h
@@ -179,6 +188,13 @@ module _ (board : PlainBoard) (is_board : IsBoard board) (text : List ℕ) where
     no_value value has strategy is lasts =
         no_strategy side value is (same_value board board.start value Forever has lasts) strategy
 
+    -- few orbits up to these maps, and too many up to those of the same text
+    not_many : (maps : List (List ℕ)) → SpellsFewOrbits board text maps
+        → IsUnsolvedUpTo side board text TooManyOrbits → ⊥
+    not_many maps (spells, few) (others, also, many) =
+        few_and_many board maps spells.are_made.symmetries few
+        (subst (HasManyOrbitsUpTo board) (same_maps maps others spells.spells also.spells) many)
+
     short_or_long : (maps : List (List ℕ)) (value : Value) (written : List ℕ) → All (IsSymmetry board) maps
         → IsSolvedUpTo side board maps value written → IsLongUpTo side board maps → ⊥
     short_or_long maps value written each solved long =
@@ -191,36 +207,57 @@ module _ (board : PlainBoard) (is_board : IsBoard board) (text : List ℕ) where
 
     pub symmetric_solution_or_fault : (value : Value) (written : List ℕ) (fault : RunFault)
         → IsSolutionUpTo side board text value written → IsUnsolvedUpTo side board text fault → ⊥
-    symmetric_solution_or_fault value written fault (maps, spells, solved) bad = elim (fault_is fault bad) [
-      | inl of_side ↦ no_value value solved.has_value solved.strategy of_side.is.1 of_side.is.2
-      | inr (inl of_document) ↦
-          short_or_long maps value written spells.are_made.symmetries solved
-          (subst (IsLongUpTo side board) (same_maps maps of_document.is.0 spells.spells of_document.is.1.spells)
-          of_document.is.2)
-      | inr (inr wrong) ↦ not_wrong_maps maps spells wrong.why wrong.is
-    ]
+    symmetric_solution_or_fault value written fault (maps, few, solved) bad =
+        let spells = few.0 in
+        elim (fault_is fault bad) [
+          | inl of_side ↦ no_value value solved.has_value solved.strategy of_side.is.2 of_side.is.3
+          | inr (inl of_document) ↦
+              short_or_long maps value written spells.are_made.symmetries solved
+              (subst (IsLongUpTo side board) (same_maps maps of_document.is.0 spells.spells of_document.is.1.0.spells)
+              of_document.is.2)
+          | inr (inr (inl of_orbits)) ↦ not_many maps few of_orbits.is
+          | inr (inr (inr wrong)) ↦ not_wrong_maps maps spells wrong.why wrong.is
+        ]
+
+    -- few orbits and no fault of the text
+    no_others : (maps : List (List ℕ)) → SpellsFewOrbits board text maps → (fault : RunFault)
+        → IsOfOrbits fault ⊎ IsOfSymmetries fault → ⊥
+    no_others maps few fault (inl of_orbits) = not_many maps few of_orbits.is
+    no_others maps few fault (inr wrong) = not_wrong_maps maps few.0 wrong.why wrong.is
+
+    -- a side without a strategy, and a document for it
+    side_or_long : IsUnsolvedUpTo side board text LastsForever → IsUnsolvedUpTo side board text DocumentTooLarge → ⊥
+    side_or_long of_side of_document =
+        let long = of_document.2 in
+        no_value long.value long.has_value long.strategy of_side.2 of_side.3
+
+    one_of_given : (fault other : RunFault) → IsOfOrbits fault ⊎ IsOfSymmetries fault
+        → IsOfOrbits other ⊎ IsOfSymmetries other → fault ≡ other
+    one_of_given fault other (inl many) (inl too) = many.told ∙ sym too.told
+    one_of_given fault other (inl many) (inr wrong) =
+        absurd (not_wrong_maps many.is.0 many.is.1 wrong.why wrong.is)
+    one_of_given fault other (inr wrong) (inl many) =
+        absurd (not_wrong_maps many.is.0 many.is.1 wrong.why wrong.is)
+    one_of_given fault other (inr wrong) (inr too) =
+        wrong.told ∙ ap Symmetries (one_wrong wrong.why too.why wrong.is too.is) ∙ sym too.told
 
     pub one_unsolved_up_to : (fault other : RunFault) → IsUnsolvedUpTo side board text fault
         → IsUnsolvedUpTo side board text other → fault ≡ other
     one_unsolved_up_to fault other bad also = elim (fault_is fault bad) [
       | inl of_side ↦ elim (fault_is other also) [
         | inl too ↦ of_side.told ∙ sym too.told
-        | inr (inl of_document) ↦
-            let long = of_document.is.2 in
-            absurd (no_value long.value long.has_value long.strategy of_side.is.1 of_side.is.2)
-        | inr (inr wrong) ↦ absurd (not_wrong_maps of_side.is.0.0 of_side.is.0.1 wrong.why wrong.is)
+        | inr (inl of_document) ↦ absurd (side_or_long of_side.is of_document.is)
+        | inr (inr none) ↦ absurd (no_others of_side.is.0 of_side.is.1 other none)
       ]
       | inr (inl of_document) ↦ elim (fault_is other also) [
-        | inl of_side ↦
-            let long = of_document.is.2 in
-            absurd (no_value long.value long.has_value long.strategy of_side.is.1 of_side.is.2)
+        | inl of_side ↦ absurd (side_or_long of_side.is of_document.is)
         | inr (inl too) ↦ of_document.told ∙ sym too.told
-        | inr (inr wrong) ↦ absurd (not_wrong_maps of_document.is.0 of_document.is.1 wrong.why wrong.is)
+        | inr (inr none) ↦ absurd (no_others of_document.is.0 of_document.is.1 other none)
       ]
-      | inr (inr wrong) ↦ elim (fault_is other also) [
-        | inl of_side ↦ absurd (not_wrong_maps of_side.is.0.0 of_side.is.0.1 wrong.why wrong.is)
-        | inr (inl of_document) ↦ absurd (not_wrong_maps of_document.is.0 of_document.is.1 wrong.why wrong.is)
-        | inr (inr too) ↦ wrong.told ∙ ap Symmetries (one_wrong wrong.why too.why wrong.is too.is) ∙ sym too.told
+      | inr (inr none) ↦ elim (fault_is other also) [
+        | inl of_side ↦ absurd (no_others of_side.is.0 of_side.is.1 fault none)
+        | inr (inl of_document) ↦ absurd (no_others of_document.is.0 of_document.is.1 fault none)
+        | inr (inr too) ↦ one_of_given fault other none too
       ]
     ]
 
@@ -228,9 +265,10 @@ module _ (board : PlainBoard) (is_board : IsBoard board) (text : List ℕ) where
     IsEither = ((value : Value) × (written : List ℕ) × IsSolutionUpTo side board text value written)
         ⊎ ((fault : RunFault) × IsUnsolvedUpTo side board text fault)
 
-    solved_or_long : (maps : List (List ℕ)) (value : Value) → SpellsSymmetries board text maps
+    solved_or_long : (maps : List (List ℕ)) (value : Value) → SpellsFewOrbits board text maps
         → HasValue board board.start value → HasStrategy side value → IsEither
-    solved_or_long maps value spells has strategy =
+    solved_or_long maps value few has strategy =
+        let spells = few.0 in
         let document = symmetry_document_exists board maps is_board.start spells.are_made.symmetries spells.group
         spells.are_made.are_group in
         let whole : PlainSymmetryProof = symmetric_document_for side document.0 in
@@ -242,7 +280,7 @@ module _ (board : PlainBoard) (is_board : IsBoard board) (text : List ℕ) where
                 strategy = strategy;
                 long = (document.0, document.1, long);
               } in
-              inr (DocumentTooLarge, (maps, spells, is_long))
+              inr (DocumentTooLarge, (maps, few, is_long))
           | inr short ↦
               let solved : IsSolvedUpTo side board maps value (symmetry_text board whole) = record {
                 has_value = has;
@@ -252,20 +290,24 @@ module _ (board : PlainBoard) (is_board : IsBoard board) (text : List ℕ) where
                 written_is = refl;
                 short = omega (arith, short);
               } in
-              inl (value, symmetry_text board whole, (maps, spells, solved))
+              inl (value, symmetry_text board whole, (maps, few, solved))
+        ]
+
+    of_few_orbits : (maps : List (List ℕ)) → SpellsFewOrbits board text maps → IsEither
+    of_few_orbits maps few =
+        let value = some_value board board.start is_board.start in
+        elim (strategy_or_not side value.0) [
+          | inl strategy ↦ solved_or_long maps value.0 few value.1 strategy
+          | inr (adversary, lasts) ↦ inr (
+            LastsForever,
+            (maps, few, adversary, subst (λ v. HasValue board board.start v) lasts value.1),
+          )
         ]
 
     pub symmetric_solution_or_unsolved : HasSymmetries board text → IsEither
     symmetric_solution_or_unsolved (maps, spells) =
-        let value = some_value board board.start is_board.start in
-        elim (strategy_or_not side value.0) [
-          | inl strategy ↦ solved_or_long maps value.0 spells value.1 strategy
-          | inr (adversary, lasts) ↦ inr (
-            LastsForever,
-            (
-              (maps, spells),
-              adversary,
-              subst (λ v. HasValue board board.start v) lasts value.1,
-            ),
-          )
+        let made = spells.are_made in
+        elim (few_or_many_up_to board maps made.symmetries spells.group made.are_group) [
+          | inl few ↦ of_few_orbits maps (spells, few)
+          | inr many ↦ inr (TooManyOrbits, (maps, spells, many))
         ]

@@ -26,7 +26,7 @@ use Rattle.positions.specs.declared.side.Side.{Side}
 use Rattle.positions.specs.declared.value.Value.{Value}
 use Rattle.runs.specs.declared.fault.RunFault.{RunFault}
 use Rattle.runs.specs.declared.fault.RunFault.TheVariants.{Board, DocumentTooLarge, LastsForever, Limit, Memory, Proof}
-use Rattle.runs.specs.declared.fault.RunFault.TheVariants.{TooManyChains}
+use Rattle.runs.specs.declared.fault.RunFault.TheVariants.{TooManyChains, TooManyOrbits}
 use Rattle.runs.specs.declared.fault.RunFault.TheVariants.{Read}
 use Rattle.runs.specs.declared.fault.RunFault.TheVariants.{TooLarge, Worker, Write}
 use Rattle.runs.specs.declared.fault.RunFault.TheVariants.{Symmetries}
@@ -240,6 +240,7 @@ unsolved workers text TooLarge cannot = inl cannot
 unsolved workers text DocumentTooLarge cannot = inl cannot
 unsolved workers text LastsForever cannot = inl cannot
 unsolved workers text TooManyChains cannot = inl cannot
+unsolved workers text TooManyOrbits cannot = inl cannot
 unsolved workers text (Symmetries why) cannot = inl cannot
 unsolved workers text (Proof fault) cannot = inl cannot
 unsolved workers text Read cannot = inl cannot
@@ -260,6 +261,7 @@ unsolved_for (Some side) workers text Worker cannot = unsolved workers text Work
 unsolved_for (Some side) workers text (Board fault) cannot = inl cannot
 unsolved_for (Some side) workers text TooLarge cannot = inl cannot
 unsolved_for (Some side) workers text TooManyChains cannot = inl cannot
+unsolved_for (Some side) workers text TooManyOrbits cannot = inl cannot
 unsolved_for (Some side) workers text (Symmetries why) cannot = inl cannot
 unsolved_for (Some side) workers text (Proof fault) cannot = inl cannot
 unsolved_for (Some side) workers text Read cannot = inl cannot

@@ -7,7 +7,7 @@ use Rattle.runs.specs.Joined.{IsBoardLength}
 use Rattle.runs.specs.Texts.{HasNoneAmong, HasNoProof, IsBoardAmong, OfAnySize}
 use Rattle.runs.specs.declared.fault.RunFault.{RunFault}
 use Rattle.runs.specs.declared.fault.RunFault.TheVariants.{Board, TooLarge, Proof, Memory, Worker, Read, Write, Limit}
-use Rattle.runs.specs.declared.fault.RunFault.TheVariants.{DocumentTooLarge, LastsForever, TooManyChains}
+use Rattle.runs.specs.declared.fault.RunFault.TheVariants.{DocumentTooLarge, LastsForever, TooManyChains, TooManyOrbits}
 use Rattle.runs.specs.declared.fault.RunFault.TheVariants.{Symmetries}
 
 pub begins_with : (text front rest : List ℕ) (board : PlainBoard) → IsBoard board → text ≡ front ++ rest
@@ -28,6 +28,7 @@ no_board text front rest size Read first is whole h = absurd h
 no_board text front rest size Write first is whole h = absurd h
 no_board text front rest size DocumentTooLarge first is whole h = absurd h
 no_board text front rest size TooManyChains first is whole h = absurd h
+no_board text front rest size TooManyOrbits first is whole h = absurd h
 no_board text front rest size (Symmetries why) first is whole h = absurd h
 no_board text front rest size LastsForever first is whole h = absurd h
 no_board text front rest size Limit first is whole h = absurd h
@@ -47,6 +48,7 @@ no_proof text front rest board Read is whole h = absurd h
 no_proof text front rest board Write is whole h = absurd h
 no_proof text front rest board DocumentTooLarge is whole h = absurd h
 no_proof text front rest board TooManyChains is whole h = absurd h
+no_proof text front rest board TooManyOrbits is whole h = absurd h
 no_proof text front rest board (Symmetries why) is whole h = absurd h
 no_proof text front rest board LastsForever is whole h = absurd h
 no_proof text front rest board Limit is whole h = absurd h

@@ -1,7 +1,8 @@
 -- Solutions of boards up to symmetries of their domains, for both sides or for one.
-use Rattle.std.specs.Prelude.{◌≡◌, ℕ, ◌≤◌, ◌⊎◌, Bool, List, Option, Some, Result, length}
+use Rattle.std.specs.Prelude.{◌≡◌, ℕ, ◌≤◌, List, Option, Some, length}
 use Rattle.board_text.specs.PlainBoard.{PlainBoard}
 use Rattle.command_line.specs.declared.asked.BoardLimit.{BoardLimit}
+use Rattle.orbits.specs.OrbitsUpTo.{HasFewOrbitsUpTo, HasManyOrbitsUpTo}
 use Rattle.positions.specs.Value.{HasValue}
 use Rattle.positions.specs.declared.side.Side.{Side}
 use Rattle.positions.specs.declared.side.Side.TheVariants.{Adversary}
@@ -11,15 +12,14 @@ use Rattle.proof_text.specs.ProofText.{symmetry_text}
 use Rattle.proof_text.specs.SymmetryProof.{PlainSymmetryProof}
 use Rattle.strategies.specs.Sides.{HasStrategy}
 use Rattle.strategies.specs.SymmetricDocument.{HasLongSymmetryText, IsSymmetryDocumentFor}
-use Rattle.runs.specs.BoardRun.{FailsOn, GaveBoard, GaveNoBoard, RanOn}
-use Rattle.runs.specs.Notices.{IsNoticed}
+use Rattle.runs.specs.BoardRun.{FailsOn, RanOn}
 use Rattle.runs.specs.Run.{Bytes, Fails, Ran}
-use Rattle.runs.specs.Symmetries.{GaveNoSymmetries, GaveSymmetries, HasNoSymmetries, HasSymmetries}
 use Rattle.runs.specs.Symmetries.{LacksSymmetries, SpellsSymmetries}
-use Rattle.runs.specs.Texts.{IsWithinLimit}
+use Rattle.runs.specs.Texts.{IsWithinUpTo}
 use Rattle.runs.specs.declared.checking.TheConstants.{MAX_PROOF_BYTES}
 use Rattle.runs.specs.declared.fault.RunFault.{RunFault}
 use Rattle.runs.specs.declared.fault.RunFault.TheVariants.{DocumentTooLarge, LastsForever, Memory}
+use Rattle.runs.specs.declared.fault.RunFault.TheVariants.{TooManyOrbits}
 use Rattle.runs.specs.declared.reading.TheConstants.{MAX_BOARD_BYTES}
 use Rattle.runs.specs.declared.given_symmetries.TheConstants.{MAX_SYMMETRIES_BYTES}
 
@@ -35,10 +35,14 @@ pub record IsSolvedUpTo (side : Option Side) (board : PlainBoard) (maps : List (
   pub written_is : written ≡ symmetry_text board document
   pub short : length written ≤ MAX_PROOF_BYTES
 
--- the same up to the symmetries whose text this is
+-- the text is that of these symmetries of the board's domain, up to which it has few enough orbits
+abbrev pub SpellsFewOrbits : PlainBoard → List ℕ → List (List ℕ) → Type 0
+SpellsFewOrbits board text maps = SpellsSymmetries board text maps × HasFewOrbitsUpTo board maps
+
+-- the solution up to the symmetries whose text this is
 abbrev pub IsSolutionUpTo : Option Side → PlainBoard → List ℕ → Value → List ℕ → Type 0
 IsSolutionUpTo side board text value written = (maps : List (List ℕ))
-    × SpellsSymmetries board text maps × IsSolvedUpTo side board maps value written
+    × SpellsFewOrbits board text maps × IsSolvedUpTo side board maps value written
 
 -- the side has a strategy on the board's start, and the document for it is longer than a check
 -- reads
@@ -50,12 +54,15 @@ pub record IsLongUpTo (side : Option Side) (board : PlainBoard) (maps : List (Li
   pub long : HasLongSymmetryText side board maps MAX_PROOF_BYTES
 
 -- the fault of a text of symmetries without such a solution of the board: the adversary is asked
--- for where requests are answered for ever, the document is too long, or the text has no symmetries
+-- for where requests are answered for ever, the document is too long, there are too many orbits, or
+-- the text has no symmetries
 abbrev pub IsUnsolvedUpTo : Option Side → PlainBoard → List ℕ → RunFault → Type 0
-IsUnsolvedUpTo side board text LastsForever = HasSymmetries board text × (side ≡ Some Adversary)
-    × HasValue board board.start Forever
+IsUnsolvedUpTo side board text LastsForever = (maps : List (List ℕ))
+    × SpellsFewOrbits board text maps × (side ≡ Some Adversary) × HasValue board board.start Forever
 IsUnsolvedUpTo side board text DocumentTooLarge = (maps : List (List ℕ))
-    × SpellsSymmetries board text maps × IsLongUpTo side board maps
+    × SpellsFewOrbits board text maps × IsLongUpTo side board maps
+IsUnsolvedUpTo side board text TooManyOrbits = (maps : List (List ℕ))
+    × SpellsSymmetries board text maps × HasManyOrbitsUpTo board maps
 IsUnsolvedUpTo side board text fault = LacksSymmetries board text fault
 
 -- the same, or out of memory
@@ -68,29 +75,12 @@ CannotSolveUpTo side board text fault = IsUnsolvedUpTo side board text fault
 -- both were read, and the solution was written
 abbrev pub RanUpTo : BoardLimit → Option Side → Bytes → Bytes → Bytes → Value → Type 0
 RanUpTo limit side board symmetries written value =
-    RanOn (IsWithinLimit limit) MAX_BOARD_BYTES board
+    RanOn (IsWithinUpTo limit) MAX_BOARD_BYTES board
     (λ b. Ran (IsSolutionUpTo side b) MAX_SYMMETRIES_BYTES symmetries written value)
 
 -- the faults of such a run; if there is no board, the symmetries are untouched
 abbrev pub FailsUpTo : BoardLimit → Option Side → Type 0 → Bytes → Bytes → Bytes → RunFault → Type 0
 FailsUpTo limit side IsUntouched board symmetries written fault =
-    FailsOn (IsWithinLimit limit) MAX_BOARD_BYTES board IsUntouched
+    FailsOn (IsWithinUpTo limit) MAX_BOARD_BYTES board IsUntouched
     (λ b. Fails (IsSolutionUpTo side b) (CannotSolveUpTo side b) MAX_SYMMETRIES_BYTES symmetries
     written) fault
-
--- a person is told of the board after its symmetries were read, and of its rounds; or there is no
--- board or there are no symmetries, and nothing is told
-abbrev pub IsNoticedUpTo : {Answer : Type 0} → BoardLimit → Bytes → Bytes → Bool
-    → Result Answer RunFault → List ℕ → Type 0
-IsNoticedUpTo limit board symmetries shows result told =
-    IsNoticed (λ b. GaveBoard limit MAX_BOARD_BYTES board b × GaveSymmetries b symmetries)
-    (λ fault. GaveNoBoard limit MAX_BOARD_BYTES board fault
-    ⊎ ((b : PlainBoard) × GaveBoard limit MAX_BOARD_BYTES board b
-    × GaveNoSymmetries b symmetries fault)) shows result told
-
--- the same of this board and the text of symmetries
-abbrev pub IsNoticedOfSymmetries : {Answer : Type 0} → PlainBoard → List ℕ → Bool
-    → Result Answer RunFault → List ℕ → Type 0
-IsNoticedOfSymmetries board text shows result told =
-    IsNoticed (λ b. (b ≡ board) × HasSymmetries board text) (HasNoSymmetries board text) shows
-    result told

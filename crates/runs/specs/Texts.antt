@@ -51,6 +51,12 @@ abbrev pub IsWithinLimit : BoardLimit → PlainBoard → Type 0
 IsWithinLimit Small board = configurations board ≤ MAX_CONFIGURATIONS
 IsWithinLimit Large board = ways (board.pebbles - 1) (places board) ≤ MAX_GAPS
 
+-- the same of a board whose values are found up to symmetries of its domain, where gaps aren't
+-- counted
+abbrev pub IsWithinUpTo : BoardLimit → PlainBoard → Type 0
+IsWithinUpTo Small board = IsWithinLimit Small board
+IsWithinUpTo Large board = OfAnySize board
+
 -- the text is this board's, which is within the limit
 abbrev pub IsBoardWithin : BoardLimit → List ℕ → PlainBoard → Type 0
 IsBoardWithin limit = IsBoardAmong (IsWithinLimit limit)

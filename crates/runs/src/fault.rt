@@ -3,11 +3,13 @@
 ghost use Rattle.std.specs.Prelude.{◌≡◌};
 ghost use Rattle.runs.specs.Faults.{fault_of_play};
 ghost use Rattle.runs.specs.Inside.Faults.{IsFaultOfBoard, IsFaultOfProof, fault_of_reading};
-ghost use Rattle.runs.specs.Inside.Faults.{fault_of_chains, fault_of_making, fault_of_solving};
+ghost use Rattle.runs.specs.Inside.Faults.{fault_of_chains, fault_of_making, fault_of_orbits};
+ghost use Rattle.runs.specs.Inside.Faults.{fault_of_solving};
 ghost use Rattle.runs.specs.declared.fault.RunFault.TheVariants as faults;
 
 use board_text::{BoardFault, BoardKind, Memory, ReadFault};
 use chains::ChainFault;
+use orbits::OrbitFault;
 use player::PlayFault;
 use positions::TooLarge;
 use proof_check::MapFault;
@@ -29,6 +31,8 @@ pub enum RunFault {
     LastsForever,
     /// The board has more than `MAX_CHAINS` chains of one length.
     TooManyChains,
+    /// The board has more than `MAX_ORBITS` orbits up to the symmetries that are given.
+    TooManyOrbits,
     /// The text of the document has a fault.
     Proof(ProofFault),
     /// The symmetries that are given can't be taken.
@@ -123,6 +127,17 @@ impl From<ChainFault> for RunFault {
         match fault {
             ChainFault::TooMany => RunFault::TooManyChains,
             ChainFault::Memory => RunFault::Memory,
+        }
+    }
+}
+
+impl From<OrbitFault> for RunFault {
+    ghost from_gives = { λ fault told. told ≡ fault_of_orbits fault };
+
+    fn from(fault: OrbitFault) -> RunFault {
+        match fault {
+            OrbitFault::TooManyOrbits => RunFault::TooManyOrbits,
+            OrbitFault::Memory => RunFault::Memory,
         }
     }
 }

@@ -21,7 +21,7 @@ ghost use Rattle.runs.specs.SolveRun.{IsSolution, IsSolved};
 ghost use Rattle.positions.specs.declared.side.Side.{Side as SideData};
 ghost use Rattle.runs.specs.SideSolveRun.{IsSideSolution, IsUnsolvedFor};
 ghost use Rattle.runs.specs.Texts.{HasNoBoard, HasNoProof, IsMemory, IsSmallBoard, IsWrongBoard};
-ghost use Rattle.runs.specs.Texts.{IsBoardAmong, IsWithinLimit, IsWrongWithin, OfAnySize};
+ghost use Rattle.runs.specs.Texts.{IsBoardAmong, IsWrongWithin, OfAnySize};
 ghost use Rattle.runs.specs.ClassSolveRun.{IsClassSolution, IsUnsolvedByClasses};
 ghost use Rattle.runs.specs.Symmetries.{HasSymmetries};
 ghost use Rattle.runs.specs.SymmetricSolveRun.{IsSolutionUpTo, IsUnsolvedUpTo};
@@ -198,18 +198,17 @@ pub fn side_solution_or_fault()
 /// What is written for a board that is solved up to symmetries of its domain claims the value of
 /// its start, and a check of the same board accepts it, or runs out of memory: the text has no fault.
 /// Each text of symmetries gives one such document and value, for a side alone or for both, or one
-/// fault: requests are answered for ever and the adversary is asked for alone, or the document is
-/// longer than a check reads. A text without symmetries of this domain has one fault at most, and
-/// no text has both a document and a fault.
+/// fault: the board has too many orbits, or requests are answered for ever and the adversary is
+/// asked for alone, or the document is longer than a check reads. A text without symmetries of this
+/// domain has one fault at most, and no text has both a document and a fault.
 pub fn symmetric_solutions_are_accepted()
-    ensures verdict { (board : PlainBoard) → IsBoard board → (text : List ℕ) → (limit : Limit)
-        → IsWithinLimit limit board → (value : ValueData) → (written : List ℕ)
-        → IsSolutionUpTo None board text value written → (verdict : VerdictData)
-        → (line : List ℕ) → IsChecked board written verdict line
+    ensures verdict { (board : PlainBoard) → IsBoard board → (text : List ℕ) → (value : ValueData)
+        → (written : List ℕ) → IsSolutionUpTo None board text value written
+        → (verdict : VerdictData) → (line : List ℕ) → IsChecked board written verdict line
         → IsAcceptance (claim_of value) verdict }
     ensures faultless_document { (board : PlainBoard) → IsBoard board → (text : List ℕ)
-        → (limit : Limit) → IsWithinLimit limit board → (value : ValueData)
-        → (written : List ℕ) → IsSolutionUpTo None board text value written → (fault : Fault)
+        → (value : ValueData) → (written : List ℕ)
+        → IsSolutionUpTo None board text value written → (fault : Fault)
         → HasNoProof board written fault → IsMemory fault }
     ensures one { (board : PlainBoard) → IsBoard board → (text : List ℕ)
         → (side : Option SideData) → (value : ValueData) → (worth : ValueData)

@@ -3,7 +3,7 @@
 ghost use Rattle.std.specs.Prelude.{◌≡◌, ◌≢◌, ◌<◌, ◌↔◌, true, false, Err, IfOk, IfErr};
 ghost use Rattle.runs.specs.BoardRun.{GaveBoard, GaveBoardAmong, GaveNoBoard, GaveNoneAmong};
 ghost use Rattle.runs.specs.Run.{Gave, IsUnread, bytes_of};
-ghost use Rattle.runs.specs.Texts.{OfAnySize};
+ghost use Rattle.runs.specs.Texts.{IsWithinUpTo, OfAnySize};
 ghost use Rattle.runs.specs.declared.fault.RunFault.TheVariants.{Read, Write};
 
 use crate::boards::{any_board, board_within};
@@ -64,4 +64,26 @@ pub(crate) fn read_any_board<R: Source>(alloc: Global, reader: &mut R) -> Result
 {
     let text = read_text(alloc, reader, MAX_BOARD_BYTES)?;
     any_board(alloc, text.as_slice())
+}
+
+/// The board whose text the reader gives, within the `limit` of boards whose values are found up to
+/// symmetries of their domains.
+pub(crate) fn read_board_up_to<R: Source>(
+    alloc: Global,
+    limit: BoardLimit,
+    reader: &mut R,
+) -> Result<Board, RunFault>
+    requires ready { R.has_failed reader.old ≡ false }
+    requires unended { R.has_ended reader.old ≡ false }
+    ensures found { IfOk result (GaveBoardAmong (IsWithinUpTo limit) MAX_BOARD_BYTES
+        (bytes_of R.remaining reader.old reader.new)) }
+    ensures fault { IfErr result (GaveNoneAmong (IsWithinUpTo limit) MAX_BOARD_BYTES
+        (bytes_of R.remaining reader.old reader.new)) }
+    ensures read { (R.has_failed reader.new ≡ true) ↔ (result ≡ Err Read) }
+    ensures unwritten { result ≢ Err Write }
+{
+    match limit {
+        BoardLimit::Small => read_board(alloc, limit, reader),
+        BoardLimit::Large => read_any_board(alloc, reader),
+    }
 }

@@ -3,27 +3,23 @@
 ghost use Rattle.std.specs.Prelude.{◌≡◌, ◌≤◌, ◌⊎◌, ℕ, List, true, false, IfOk, IfErr, flat_map};
 ghost use Rattle.board_text.specs.PlainBoard.{IsBoard};
 ghost use Rattle.board_text.specs.Ranges.{InRange};
-ghost use Rattle.console.specs.Showing.{IsMore};
 ghost use Rattle.proof_text.specs.Images.{elements_of};
 ghost use Rattle.runs.specs.Inside.SolveRun.{IsUnshownUpTo};
 ghost use Rattle.runs.specs.Inside.Symmetries.{AreGiven};
 ghost use Rattle.runs.specs.Run.{TellsStreams, bytes_of, stream_of};
-ghost use Rattle.runs.specs.SymmetricSolveRun.{CannotSolveUpTo, FailsUpTo, IsNoticedOfSymmetries};
-ghost use Rattle.runs.specs.SymmetricSolveRun.{IsNoticedUpTo, IsSolutionUpTo, IsSolvedUpTo};
-ghost use Rattle.runs.specs.SymmetricSolveRun.{RanUpTo};
-ghost use Rattle.runs.specs.Texts.{IsWithinLimit};
+ghost use Rattle.runs.specs.SymmetricSolveRun.{CannotSolveUpTo, FailsUpTo, IsSolutionUpTo};
+ghost use Rattle.runs.specs.SymmetricSolveRun.{IsSolvedUpTo, RanUpTo};
 
 use crate::checking::MAX_PROOF_BYTES;
 use crate::class_solving::whole;
 use crate::fault::RunFault;
 use crate::given_symmetries::{MAX_SYMMETRIES_BYTES, Symmetries, symmetries_of};
-use crate::notices::tell_size;
-use crate::reading::{read_board, read_text};
+use crate::reading::{read_board_up_to, read_text};
 use crate::solving::{Solved, expect_strategy};
 use crate::work::Work;
 use crate::writing::write_parts;
 use board_text::{Board, Sink, Source};
-use gap_values::GapValues;
+use orbits::OrbitValues;
 use positions::{Side, Value};
 use proof_text::print_symmetric;
 use round_workers::MAX_WORKERS;
@@ -34,13 +30,13 @@ use strategies::{GapMoves, Moves, SymmetricDocument, document_up_to_symmetries};
 impl Work {
     /// Reads a board and then symmetries of its domain, and writes the board's document up to what
     /// these make, for `side` alone or for both, which a check reads and accepts. The bytes written
-    /// are the same for every number of workers. A person is told on `errors` what is to be told.
+    /// are the same for every number of workers. Values are found by orbits, so that a board that
+    /// may be large may have any number of gaps, and at most `MAX_ORBITS` orbits.
     ///
     /// The board is read and parsed before anything of the symmetries is read, and these are
     /// checked before anything is solved. No reader or writer must have failed before, nor a
-    /// reader have reported its end. Nothing is written before the whole text is built. If `errors`
-    /// fails, or has failed before, nothing more is written there, and the run goes on.
-    pub fn solve_up_to_symmetries<B: Source, S: Source, W: Sink, E: Sink>(
+    /// reader have reported its end. Nothing is written before the whole text is built.
+    pub fn solve_up_to_symmetries<B: Source, S: Source, W: Sink>(
         self,
         rt: &(impl Threads + Sync),
         alloc: Global,
@@ -48,7 +44,6 @@ impl Work {
         board: &mut B,
         symmetries: &mut S,
         writer: &mut W,
-        errors: &mut E,
     ) -> Result<Value, RunFault>
         requires workers { InRange 1 MAX_WORKERS self.workers }
         requires board_ready { B.has_failed board.old ≡ false }
@@ -67,42 +62,32 @@ impl Work {
         ensures streams { TellsStreams result
             ((B.has_failed board.new ≡ true) ⊎ (S.has_failed symmetries.new ≡ true))
             (stream_of W.contents W.has_failed writer.old writer.new) }
-        ensures notice { (told : List ℕ) × IsNoticedUpTo self.limit
-            (bytes_of B.remaining board.old board.new)
-            (bytes_of S.remaining symmetries.old symmetries.new) self.shows_size result told
-            × IsMore E.contents E.has_failed errors.old errors.new told }
     {
-        let board = read_board(alloc, self.limit, board)?;
+        let board = read_board_up_to(alloc, self.limit, board)?;
         let text = read_text(alloc, symmetries, MAX_SYMMETRIES_BYTES)?;
-        let solved = self.symmetric_solution(rt, alloc, side, &board, text.as_slice(), errors)?;
+        let solved = self.symmetric_solution(rt, alloc, side, &board, text.as_slice())?;
         write_parts(writer, &solved.parts)?;
         Ok(solved.value)
     }
 
     /// The value of the start of `board`, and the text of its document up to the symmetries whose
-    /// text is `text`, for `side` alone or for both, with the notice and the lines of its rounds.
-    fn symmetric_solution<E: Sink>(
+    /// text is `text`, for `side` alone or for both.
+    fn symmetric_solution(
         self,
         rt: &(impl Threads + Sync),
         alloc: Global,
         side: Option<Side>,
         board: &Board,
         text: &[u8],
-        errors: &mut E,
     ) -> Result<Solved, RunFault>
         requires board { IsBoard board.now }
-        requires within { IsWithinLimit self.limit board.now }
         requires workers { InRange 1 MAX_WORKERS self.workers }
         ensures ok { IfOk result (λ solved. IsSolutionUpTo side board.now text.now solved.value
             (flat_map (λ part. part.items) solved.parts.items)) }
         ensures fault { IfErr result (CannotSolveUpTo side board.now text.now) }
-        ensures notice { (told : List ℕ)
-            × IsNoticedOfSymmetries board.now text.now self.shows_size result told
-            × IsMore E.contents E.has_failed errors.old errors.new told }
     {
         let symmetries = symmetries_of(alloc, board, text)?;
-        tell_size(board, self.shows_size, errors);
-        let values = self.values(rt, alloc, board, errors)?;
+        let values = OrbitValues::of(alloc, board, &symmetries.alike)?;
         let moves = GapMoves::new(board, &values);
         solution_up_to(rt, alloc, &moves, &symmetries, side, self.workers)
     }
@@ -114,7 +99,7 @@ impl Work {
 fn solution_up_to(
     rt: &(impl Threads + Sync),
     alloc: Global,
-    moves: &GapMoves<'_, GapValues>,
+    moves: &GapMoves<'_, OrbitValues<'_>>,
     symmetries: &Symmetries,
     side: Option<Side>,
     parts: u8,

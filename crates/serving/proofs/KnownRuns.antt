@@ -9,7 +9,7 @@ use Rattle.serving.specs.Outcomes.{EndsAs}
 use Rattle.runs.specs.Run.{Bytes, Fails, IsUnread, Ran, Stream}
 use Rattle.runs.specs.declared.fault.RunFault.{RunFault}
 use Rattle.runs.specs.declared.fault.RunFault.TheVariants.{Board, TooLarge, Proof, Memory, Worker, Read, Write, Limit}
-use Rattle.runs.specs.declared.fault.RunFault.TheVariants.{DocumentTooLarge, LastsForever, TooManyChains}
+use Rattle.runs.specs.declared.fault.RunFault.TheVariants.{DocumentTooLarge, LastsForever, TooManyChains, TooManyOrbits}
 use Rattle.runs.specs.declared.fault.RunFault.TheVariants.{Symmetries}
 use Rattle.serving.specs.declared.outcome.Outcome.{Outcome}
 use Rattle.serving.specs.declared.outcome.Outcome.TheVariants.{Broken}
@@ -81,6 +81,7 @@ unread_is limit read bytes Worker outcome old is same h = absurd h
 unread_is limit read bytes Write outcome old is same h = absurd h
 unread_is limit read bytes DocumentTooLarge outcome old is same h = absurd h
 unread_is limit read bytes TooManyChains outcome old is same h = absurd h
+unread_is limit read bytes TooManyOrbits outcome old is same h = absurd h
 unread_is limit read bytes (Symmetries why) outcome old is same h = absurd h
 unread_is limit read bytes LastsForever outcome old is same h = absurd h
 

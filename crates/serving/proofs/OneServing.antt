@@ -67,7 +67,7 @@ use Rattle.runs.specs.SolveRun.{CannotSolve, IsSolution}
 use Rattle.runs.specs.SymmetricSolveRun.{CannotSolveUpTo, IsSolutionUpTo, IsUnsolvedUpTo}
 use Rattle.runs.specs.declared.given_symmetries.TheConstants.{MAX_SYMMETRIES_BYTES}
 use Rattle.runs.specs.Texts.{HasNoneAmong, HasNoProof, IsBoardAmong, IsBoardWithin, IsWrongAmong, IsWrongBoard}
-use Rattle.runs.specs.Texts.{IsWithinLimit, IsWrongProof, IsWrongWithin, OfAnySize}
+use Rattle.runs.specs.Texts.{IsWithinLimit, IsWithinUpTo, IsWrongProof, IsWrongWithin, OfAnySize}
 use Rattle.command_line.specs.declared.asked.BoardLimit.{BoardLimit}
 use Rattle.command_line.specs.declared.asked.BoardLimit.TheVariants.{Small, Large}
 use Rattle.runs.specs.Verdicts.{BeginsWithBoard, CannotAnswer, IsAnswered, IsChecked, IsWrongText}
@@ -75,7 +75,7 @@ use Rattle.runs.specs.declared.checking.TheConstants.{MAX_JOINED_BYTES, MAX_PROO
 use Rattle.runs.specs.declared.reading.TheConstants.{MAX_BOARD_BYTES}
 use Rattle.runs.specs.declared.fault.RunFault.{RunFault}
 use Rattle.runs.specs.declared.fault.RunFault.TheVariants.{Board, TooLarge, Proof, Memory, Worker, Read, Write, Limit}
-use Rattle.runs.specs.declared.fault.RunFault.TheVariants.{DocumentTooLarge, LastsForever, TooManyChains}
+use Rattle.runs.specs.declared.fault.RunFault.TheVariants.{DocumentTooLarge, LastsForever, TooManyChains, TooManyOrbits}
 use Rattle.runs.specs.declared.fault.RunFault.TheVariants.{Symmetries}
 use Rattle.serving.specs.declared.outcome.Outcome.{Outcome}
 use Rattle.serving.specs.declared.outcome.Outcome.TheVariants.{Broken, Done, Refused}
@@ -108,6 +108,7 @@ wrong_solving limit workers text Read h = absurd h
 wrong_solving limit workers text Write h = absurd h
 wrong_solving limit workers text DocumentTooLarge h = absurd h
 wrong_solving limit workers text TooManyChains h = absurd h
+wrong_solving limit workers text TooManyOrbits h = absurd h
 wrong_solving limit workers text (Symmetries why) h = absurd h
 wrong_solving limit workers text LastsForever h = absurd h
 wrong_solving limit workers text Limit h = absurd h
@@ -120,6 +121,7 @@ wrong_class_solving text (Board fault) h = inr (inr h)
 wrong_class_solving text TooLarge h = inr (inr h)
 wrong_class_solving text DocumentTooLarge h = inr (inr h)
 wrong_class_solving text TooManyChains h = absurd h
+wrong_class_solving text TooManyOrbits h = absurd h
 wrong_class_solving text (Symmetries why) h = absurd h
 wrong_class_solving text LastsForever h = absurd h
 wrong_class_solving text (Proof fault) h = absurd h
@@ -137,6 +139,7 @@ wrong_side_solving limit side workers text TooLarge h = inr (inr h)
 wrong_side_solving limit side workers text DocumentTooLarge h = inr (inr h)
 wrong_side_solving limit side workers text LastsForever h = inr (inr h)
 wrong_side_solving limit side workers text TooManyChains h = absurd h
+wrong_side_solving limit side workers text TooManyOrbits h = absurd h
 wrong_side_solving limit side workers text (Symmetries why) h = absurd h
 wrong_side_solving limit side workers text (Proof fault) h = absurd h
 wrong_side_solving limit side workers text Read h = absurd h
@@ -154,6 +157,7 @@ wrong_up_to side board text Worker h = absurd h
 wrong_up_to side board text (Board fault) h = absurd h
 wrong_up_to side board text TooLarge h = absurd h
 wrong_up_to side board text TooManyChains h = absurd h
+wrong_up_to side board text TooManyOrbits h = inr (inr h)
 wrong_up_to side board text (Proof fault) h = absurd h
 wrong_up_to side board text Read h = absurd h
 wrong_up_to side board text Write h = absurd h
@@ -170,6 +174,7 @@ wrong_board IsSmall text Read h = absurd h
 wrong_board IsSmall text Write h = absurd h
 wrong_board IsSmall text DocumentTooLarge h = absurd h
 wrong_board IsSmall text TooManyChains h = absurd h
+wrong_board IsSmall text TooManyOrbits h = absurd h
 wrong_board IsSmall text (Symmetries why) h = absurd h
 wrong_board IsSmall text LastsForever h = absurd h
 wrong_board IsSmall text Limit h = absurd h
@@ -185,6 +190,7 @@ wrong_proof board text Read h = absurd h
 wrong_proof board text Write h = absurd h
 wrong_proof board text DocumentTooLarge h = absurd h
 wrong_proof board text TooManyChains h = absurd h
+wrong_proof board text TooManyOrbits h = absurd h
 wrong_proof board text (Symmetries why) h = absurd h
 wrong_proof board text LastsForever h = absurd h
 wrong_proof board text Limit h = absurd h
@@ -431,6 +437,7 @@ module _ (text : List ℕ) where
   wrong_joined Write h = inr (inr h)
   wrong_joined DocumentTooLarge h = inr (inr h)
   wrong_joined TooManyChains h = inr (inr h)
+  wrong_joined TooManyOrbits h = inr (inr h)
   wrong_joined (Symmetries why) h = inr (inr h)
   wrong_joined LastsForever h = inr (inr h)
   wrong_joined Limit h = inr (inr h)
@@ -463,6 +470,7 @@ module _ (text : List ℕ) where
   wrong_text_is Write h = inr h
   wrong_text_is DocumentTooLarge h = inr h
   wrong_text_is TooManyChains h = inr h
+  wrong_text_is TooManyOrbits h = inr h
   wrong_text_is (Symmetries why) h = inr h
   wrong_text_is LastsForever h = inr h
   wrong_text_is Limit h = inr h
@@ -918,7 +926,7 @@ module _ (at : List ℕ → File) (known : AreKnown at) (input output other_inpu
       → SolvesUpTo side limit (at second) (at others) other_output other
       → AreAlike outcome other output other_output
   two_up_to side limit path second given others =
-      two_opened (IsWithinLimit limit) (outcome_of_run {Answer = Value}) (IsSolutionUpTo side) (CannotSolveUpTo side)
+      two_opened (IsWithinUpTo limit) (outcome_of_run {Answer = Value}) (IsSolutionUpTo side) (CannotSolveUpTo side)
       (IsUnsolvedUpTo side) MAX_SYMMETRIES_BYTES
       (λ board bytes is. one_end outcome_of_run (IsSolutionUpTo side board) (IsUnsolvedUpTo side board)
       MAX_SYMMETRIES_BYTES bytes

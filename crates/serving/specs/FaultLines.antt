@@ -10,7 +10,7 @@ use Rattle.runs.specs.Output.{map_fault_words}
 use Rattle.runs.specs.declared.fault.RunFault.{RunFault}
 use Rattle.runs.specs.declared.fault.RunFault.TheVariants.{Board, TooLarge, Proof, Memory, Worker}
 use Rattle.runs.specs.declared.fault.RunFault.TheVariants.{DocumentTooLarge, LastsForever}
-use Rattle.runs.specs.declared.fault.RunFault.TheVariants.{TooManyChains, Read}
+use Rattle.runs.specs.declared.fault.RunFault.TheVariants.{TooManyChains, TooManyOrbits, Read}
 use Rattle.runs.specs.declared.fault.RunFault.TheVariants.{Write, Limit, Symmetries}
 use Rattle.runs.specs.declared.fault.SymmetriesFault.{SymmetriesFault}
 use Rattle.runs.specs.declared.fault.SymmetriesFault.TheVariants.{Text, Map, TooMany}
@@ -67,6 +67,7 @@ line_of_fault TooLarge = with_line_feed (codes "board too large")
 line_of_fault DocumentTooLarge = with_line_feed (codes "document too large")
 line_of_fault LastsForever = with_line_feed (codes "start lasts forever")
 line_of_fault TooManyChains = with_line_feed (codes "too many chains")
+line_of_fault TooManyOrbits = with_line_feed (codes "too many orbits")
 line_of_fault (Proof fault) = line_at (codes "proof") fault.line (name_of_proof_kind fault.kind)
 line_of_fault (Symmetries fault) = line_of_symmetries fault
 line_of_fault Memory = with_line_feed (codes "out of memory")

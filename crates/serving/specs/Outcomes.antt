@@ -4,6 +4,7 @@ use Rattle.runs.specs.declared.fault.RunFault.{RunFault}
 use Rattle.runs.specs.declared.fault.RunFault.TheVariants.{Board, TooLarge, Proof, Memory, Worker}
 use Rattle.runs.specs.declared.fault.RunFault.TheVariants.{DocumentTooLarge, LastsForever}
 use Rattle.runs.specs.declared.fault.RunFault.TheVariants.{Symmetries, TooManyChains, Read}
+use Rattle.runs.specs.declared.fault.RunFault.TheVariants.{TooManyOrbits}
 use Rattle.runs.specs.declared.fault.RunFault.TheVariants.{Write, Limit}
 use Rattle.serving.specs.declared.outcome.Outcome.{Outcome}
 use Rattle.serving.specs.declared.outcome.Outcome.TheVariants.{Done, Refused, Broken}
@@ -39,6 +40,7 @@ status_of_fault TooLarge = 1
 status_of_fault DocumentTooLarge = 1
 status_of_fault LastsForever = 1
 status_of_fault TooManyChains = 1
+status_of_fault TooManyOrbits = 1
 status_of_fault (Proof fault) = 1
 status_of_fault (Symmetries fault) = 1
 status_of_fault Memory = 4

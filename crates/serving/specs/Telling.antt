@@ -17,7 +17,6 @@ use Rattle.runs.specs.CheckRun.{RanCheck}
 use Rattle.runs.specs.Notices.{IsNoticedInRun, IsToldOfChains}
 use Rattle.runs.specs.PlayRun.{IsToldInRun, run_of_play}
 use Rattle.runs.specs.Run.{Bytes, Ran, Stream}
-use Rattle.runs.specs.SymmetricSolveRun.{IsNoticedUpTo}
 use Rattle.runs.specs.Verdicts.{IsAnswered}
 use Rattle.runs.specs.declared.checking.TheConstants.{MAX_JOINED_BYTES, MAX_PROOF_BYTES}
 use Rattle.runs.specs.declared.fault.RunFault.{RunFault}
@@ -77,15 +76,6 @@ OpensAndTells {Answer} file Tells outcome told =
     ⊎ ((read : Bytes) × OpensWith file read.old × (result : Result Answer RunFault)
     × (outcome ≡ outcome_of_run result) × Tells read result told)
 
--- the same of two files
-abbrev pub OpensBothAndTells : {Answer : Type 0} → File → File
-    → (Bytes → Bytes → Result Answer RunFault → List ℕ → Type 0) → Outcome → List ℕ → Type 0
-OpensBothAndTells {Answer} first second Tells outcome told =
-    ((CanFail first ⊎ CanFail second) × (told ≡ []))
-    ⊎ ((one two : Bytes) × OpensWith first one.old × OpensWith second two.old
-    × (result : Result Answer RunFault) × (outcome ≡ outcome_of_run result)
-    × Tells one two result told)
-
 -- the prompts of a play on the nested board of the level, and its outcome
 abbrev pub IsToldInClimb : Bool → ℕ → Bytes → Bytes → Outcome → List ℕ → Type 0
 IsToldInClimb shows levels lines written outcome told = (played : Result PlayEnd PlayFault)
@@ -105,9 +95,7 @@ module _ (at : List ℕ → File) (terminals : Terminals) (input output : Stream
   IsToldInJob (Solve workers side limit None board) told =
       OpensAndTells {Answer = Value} (at board.now)
       (λ read. IsNoticedInRun limit read terminals.errors) outcome told
-  IsToldInJob (Solve workers side limit (Some symmetries) board) told =
-      OpensBothAndTells {Answer = Value} (at board.now) (at symmetries.now)
-      (λ read given. IsNoticedUpTo limit read given terminals.errors) outcome told
+  IsToldInJob (Solve workers side limit (Some symmetries) board) told = told ≡ []
   IsToldInJob (Report workers limit board) told = OpensAndTells {Answer = Unit {0}} (at board.now)
       (λ read. IsNoticedInRun limit read terminals.errors) outcome told
   IsToldInJob (Starts workers limit board) told = OpensAndTells {Answer = Unit {0}} (at board.now)

@@ -28,6 +28,7 @@ pub(crate) fn fault_line(fault: RunFault) -> FaultLine
         RunFault::DocumentTooLarge => line("document too large"),
         RunFault::LastsForever => line("start lasts forever"),
         RunFault::TooManyChains => line("too many chains"),
+        RunFault::TooManyOrbits => line("too many orbits"),
         RunFault::Proof(fault) => line_at("proof", fault.line, proof_kind_name(fault.kind)),
         RunFault::Symmetries(fault) => symmetries_line(fault),
         RunFault::Memory => line("out of memory"),

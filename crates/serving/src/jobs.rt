@@ -11,14 +11,13 @@ ghost use Rattle.positions.specs.declared.value.Value.{Value as ValueData};
 ghost use Rattle.runs.specs.Notices.{IsNoticedInRun, IsToldOfChains};
 ghost use Rattle.runs.specs.PlayRun.{IsToldInRun};
 ghost use Rattle.runs.specs.Run.{bytes_of, stream_of};
-ghost use Rattle.runs.specs.SymmetricSolveRun.{IsNoticedUpTo};
 ghost use Rattle.serving.specs.Consoles.{IsReady};
 ghost use Rattle.serving.specs.Folders.{CanFail};
 ghost use Rattle.serving.specs.Jobs.{IsDone, Checks, ChecksJoined, Climbs, Counts, CountsChains};
 ghost use Rattle.serving.specs.Jobs.{Plays, Solves, SolvesUpTo};
 ghost use Rattle.serving.specs.Jobs.{TellsReads, TellsWrites, WritesNested, WritesStarts};
 ghost use Rattle.serving.specs.Telling.{IsToldInClimb, IsToldInJob, IsToldOfFiles, IsToldOfJoined};
-ghost use Rattle.serving.specs.Telling.{OpensAndTells, OpensBothAndTells, joined_greeting};
+ghost use Rattle.serving.specs.Telling.{OpensAndTells, joined_greeting};
 ghost use Rattle.serving.specs.Telling.{rows_line, rows_told};
 ghost use Rattle.serving.specs.Telling.{types_and_sees};
 
@@ -139,7 +138,10 @@ pub(crate) fn carry_out<'a, F: Folder, I: Source, O: Sink, E: Sink>(
             };
             match symmetries {
                 None => solve(rt, alloc, work, side, files, board, console),
-                Some(given) => solve_up_to(rt, alloc, work, side, files, board, given, console),
+                Some(given) => {
+                    let output = &mut console.output;
+                    solve_up_to(rt, alloc, work, side, files, board, given, output)
+                }
             }
         }
         Job::Report {
@@ -356,7 +358,7 @@ fn solve<'a, F: Folder, I: Source, O: Sink, E: Sink>(
 
 /// Solves the board at a path up to the symmetries at another, for `side` alone or for both. Both
 /// are opened before one is read.
-fn solve_up_to<'a, F: Folder, I: Source, O: Sink, E: Sink>(
+fn solve_up_to<'a, F: Folder, O: Sink>(
     rt: &(impl Threads + Sync),
     alloc: Global,
     work: Work,
@@ -364,23 +366,18 @@ fn solve_up_to<'a, F: Folder, I: Source, O: Sink, E: Sink>(
     files: &Files<'_, F>,
     board: &'a str,
     symmetries: &'a str,
-    console: &mut Console<I, O, E>,
+    output: &mut O,
 ) -> Ended<'a>
     requires workers { InRange 1 MAX_WORKERS work.workers }
-    requires output_ready { O.has_failed console.old.output ≡ false }
-    ensures kept { console.new.input ≡ console.old.input }
+    requires output_ready { O.has_failed output.old ≡ false }
     ensures done { SolvesUpTo side work.limit (F.at files.now.folder.now board.now)
         (F.at files.now.folder.now symmetries.now)
-        (stream_of O.contents O.has_failed console.old.output console.new.output) result.outcome }
-    ensures writes { TellsWrites
-        (stream_of O.contents O.has_failed console.old.output console.new.output) result.outcome }
+        (stream_of O.contents O.has_failed output.old output.new) result.outcome }
+    ensures writes { TellsWrites (stream_of O.contents O.has_failed output.old output.new)
+        result.outcome }
     ensures unread { result.outcome ≡ Broken Read
         → CanFail (F.at files.now.folder.now board.now)
         ⊎ CanFail (F.at files.now.folder.now symmetries.now) }
-    ensures told { (told : List ℕ) × OpensBothAndTells {Answer = ValueData}
-        (F.at files.now.folder.now board.now) (F.at files.now.folder.now symmetries.now)
-        (λ read given. IsNoticedUpTo work.limit read given work.shows_size) result.outcome told
-        × IsMore E.contents E.has_failed console.old.errors console.new.errors told }
 {
     let Ok(mut reader) = files.open(alloc, board) else {
         return Ended::unopened(files, board);
@@ -388,15 +385,7 @@ fn solve_up_to<'a, F: Folder, I: Source, O: Sink, E: Sink>(
     let Ok(mut other) = files.open(alloc, symmetries) else {
         return Ended::unopened(files, symmetries);
     };
-    let solved = work.solve_up_to_symmetries(
-        rt,
-        alloc,
-        side,
-        &mut reader,
-        &mut other,
-        &mut console.output,
-        &mut console.errors,
-    );
+    let solved = work.solve_up_to_symmetries(rt, alloc, side, &mut reader, &mut other, output);
     let trouble = files.trouble_of(board, &reader);
     let first = Origin::board(board, reader.text(), reader.count(), trouble);
     let trouble = files.trouble_of(symmetries, &other);

@@ -72,7 +72,7 @@ fn fault_status(fault: RunFault) -> u8
     match fault {
         RunFault::Board(_) | RunFault::Proof(_) | RunFault::Symmetries(_) => 1,
         RunFault::TooLarge | RunFault::DocumentTooLarge => 1,
-        RunFault::LastsForever | RunFault::TooManyChains => 1,
+        RunFault::LastsForever | RunFault::TooManyChains | RunFault::TooManyOrbits => 1,
         RunFault::Memory | RunFault::Worker => 4,
         RunFault::Read | RunFault::Write | RunFault::Limit => 5,
     }

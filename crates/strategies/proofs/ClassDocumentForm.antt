@@ -1,6 +1,6 @@
 -- The document of a board over normal places has the form of documents.
 use Rattle.std.proofs.Common.{◌≡◌, ℕ, ◌-◌, ◌<◌, ◌≤◌, List, [], ◌∷◌, length}
-use Rattle.std.proofs.Common.{get_or, ap, subst, inl, inr, arith}
+use Rattle.std.proofs.Common.{get_or, ap, subst, sym, inl, inr, arith}
 use Rattle.std.specs.List.{All}
 use Rattle.std.proofs.lemmas.Bool.{cases_lt}
 use Rattle.board_text.specs.PlainBoard.{PlainBoard, IsConfiguration, places}
@@ -33,7 +33,7 @@ use Rattle.strategies.proofs.FewClasses.{IsArrangedAt, rows-few}
 use Rattle.strategies.proofs.PositionLaws.{are_normal}
 use Rattle.strategies.specs.Inside.NumberedPositions.{ArePositions}
 use Rattle.strategies.proofs.FewValues.{few_values}
-use Rattle.strategies.proofs.FormedRows.{answer_form, asked_at, claim_form, no_adversary, no_labeller, row_at}
+use Rattle.strategies.proofs.FormedRows.{answer_form, asked_at, no_adversary, no_labeller, row_at}
 use Rattle.strategies.proofs.KeptRules.{start_is, start_value, answered_is, requested_is}
 use Rattle.strategies.proofs.NormalForms.{arranged_form}
 use Rattle.strategies.proofs.GatheredRows.{adversarys_normal, labellers_normal}
@@ -75,6 +75,12 @@ claim_fits : (board : PlainBoard) (value : Value) → IsConfiguration board boar
 claim_fits board (Finite number) is few has = omega (arith, few_values board board.start number is has, few)
 claim_fits board Forever is few has = tt
 
+pub few_gaps_claim : (positions : Positions) (board : PlainBoard) (proof : PlainProof)
+    → IsConfiguration board board.start → IsDocumentOver positions (order_number board.labels) board proof
+    → ways (board.pebbles - 1) (places board) ≤ MOST_TURNS → IsClaim proof.claim
+few_gaps_claim positions board proof start is few =
+    subst IsClaim (sym is.claim) (claim_fits board is.value start few is.has_value)
+
 module _ (board : PlainBoard) (normal : List ℕ → List ℕ) (form : IsNormalForm board normal) (proof : PlainProof)
     (is_start : IsConfiguration board board.start)
     (is : IsDocumentOver (normal_positions normal) (order_number board.labels) board proof) where
@@ -113,9 +119,9 @@ module _ (board : PlainBoard) (normal : List ℕ → List ℕ) (form : IsNormalF
       }
 
   -- the document of a board of few classes fits, since its rows are at different classes
-  pub few_fit : class_count board ≤ MAX_CLASS_ROWS → FitsFormat board proof
+  pub few_fit : class_count board ≤ MAX_CLASS_ROWS → FitsFormat proof
   few_fit few = record {
-    gaps = omega (arith, gaps_few board is_start, few);
+    claim = few_gaps_claim positions board proof is_start is (omega (arith, gaps_few board is_start, few));
     labeller = omega (
       arith,
       few,
@@ -128,9 +134,9 @@ module _ (board : PlainBoard) (normal : List ℕ → List ℕ) (form : IsNormalF
     );
   }
 
-  module _ (gaps : ways (board.pebbles - 1) (places board) ≤ MOST_TURNS) where
+  module _ (fits : IsClaim proof.claim) where
     small : IsClaim (claim_of is.value)
-    small = claim_fits board is.value is_start gaps is.has_value
+    small = subst IsClaim is.claim fits
 
     left_few : (value : Value) → IsClaim (claim_of value) → HasValue board start value → AsksAdversary value
         → (row : RequestRow) → IsAdversaryRowOver positions board row → row.left ≤ MOST_TURNS
@@ -149,9 +155,6 @@ module _ (board : PlainBoard) (normal : List ℕ → List ℕ) (form : IsNormalF
       left = left_few is.value small has_start asks row is_row;
       request = asked_is row is_row.asks;
     }
-
-    pub claim_fits_form : IsClaim proof.claim
-    claim_fits_form = claim_form board positions are (order_number board.labels) proof is_start is small
 
     pub labeller_form : length proof.labeller ≤ MAX_CLASS_ROWS
         → AreRows (answers_by_classes board proof.claim) proof.labeller
@@ -174,11 +177,11 @@ module _ (board : PlainBoard) (normal : List ℕ → List ℕ) (form : IsNormalF
       ascending = is.adversary.ascending;
     }
 
-  pub has_form : FitsFormat board proof → IsClassProof board proof
+  pub has_form : FitsFormat proof → IsClassProof board proof
   has_form fits = record {
-    claim = claim_fits_form fits.gaps;
-    labeller = labeller_form fits.gaps fits.labeller;
-    adversary = adversary_form fits.gaps fits.adversary;
+    claim = fits.claim;
+    labeller = labeller_form fits.claim fits.labeller;
+    adversary = adversary_form fits.claim fits.adversary;
     no_labeller = no_labeller positions (order_number board.labels) board proof is;
     no_adversary = no_adversary positions (order_number board.labels) board proof is;
   }
@@ -186,9 +189,9 @@ module _ (board : PlainBoard) (normal : List ℕ → List ℕ) (form : IsNormalF
 -- ---- by classes
 
 pub few_classes_fit : (board : PlainBoard) (proof : PlainProof) → IsConfiguration board board.start
-    → IsClassDocumentOf board proof → class_count board ≤ MAX_CLASS_ROWS → FitsFormat board proof
+    → IsClassDocumentOf board proof → class_count board ≤ MAX_CLASS_ROWS → FitsFormat proof
 few_classes_fit board = few_fit board (arranged board.labels) (arranged_form board)
 
 pub has_class_form : (board : PlainBoard) (proof : PlainProof) → IsConfiguration board board.start
-    → IsClassDocumentOf board proof → FitsFormat board proof → IsClassProof board proof
+    → IsClassDocumentOf board proof → FitsFormat proof → IsClassProof board proof
 has_class_form board = has_form board (arranged board.labels) (arranged_form board)

@@ -32,12 +32,12 @@ module _ (board : PlainBoard) (side : Option Side)
       (breaks_no_rule_for board made.0 made.1.value made.1.claim (class_positions board.labels) side
       (strategy made.1.value made.1.has_value) (breaks_no_class_rule board made.0 start made.1))
 
-  pub class_form_made : AreClassPadded board proof → FitsFormat board (plain_class_proof board proof)
+  pub class_form_made : AreClassPadded board proof → FitsFormat (plain_class_proof board proof)
       → IsClassDocument board proof
   class_form_made padded fits = record {
     is_proof = subst (IsClassProof board) (sym made.2)
         (class_form_for board made.0 made.1.value made.1.claim side (strategy made.1.value made.1.has_value) start
-        made.1 (subst (FitsFormat board) made.2 fits));
+        made.1 (subst FitsFormat made.2 fits));
     places_padded = padded.places;
     answers_padded = padded.answers;
     asked_padded = padded.asked;

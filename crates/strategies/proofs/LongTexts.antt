@@ -1,5 +1,5 @@
 -- The text of a document has at least eight bytes for each row, so that a short text has few rows.
-use Rattle.std.proofs.Common.{◌≡◌, ℕ, ◌-◌, ◌*◌, ◌≤◌, Bool, true, false, true≢false, List, [], ◌∷◌, ◌++◌, length}
+use Rattle.std.proofs.Common.{◌≡◌, ℕ, ◌*◌, ◌≤◌, Bool, true, false, true≢false, List, [], ◌∷◌, ◌++◌, length}
 use Rattle.std.proofs.Common.{codes}
 use Rattle.std.proofs.Common.{refl, sym, inl, inr, arith}
 use Rattle.std.specs.List.{flat_map}
@@ -8,10 +8,9 @@ use Rattle.std.proofs.lemmas.List.{length-append}
 use Rattle.board_text.specs.BoardText.{end_line}
 use Rattle.board_text.specs.LineForms.{with_line_feed, number_line}
 use Rattle.board_text.specs.PlaceForms.{spaced_places}
-use Rattle.board_text.specs.PlainBoard.{PlainBoard, places}
+use Rattle.board_text.specs.PlainBoard.{PlainBoard}
 use Rattle.positions.specs.Table.{AnswerRow, RequestRow}
-use Rattle.classes.specs.Numbers.{ways}
-use Rattle.proof_text.specs.Proof.{PlainProof, asks_labeller, asks_adversary}
+use Rattle.proof_text.specs.Proof.{PlainProof, IsClaim, asks_labeller, asks_adversary}
 use Rattle.proof_text.specs.Arranged.{order_number}
 use Rattle.proof_text.specs.Positions.{Positions, class_positions}
 use Rattle.proof_text.specs.ProofText.{answer_line, class_request_line, class_sections_text, class_text}
@@ -19,7 +18,6 @@ use Rattle.proof_text.specs.ProofText.{class_version_line, first_two_lines, maps
 use Rattle.proof_text.specs.ProofText.{symmetry_version_line, turns_text}
 use Rattle.proof_text.specs.SymmetryProof.{PlainSymmetryProof}
 use Rattle.proof_text.specs.declared.class_proof.TheConstants.{MAX_CLASS_ROWS}
-use Rattle.proof_text.specs.declared.proof.TheConstants.{MOST_TURNS}
 use Rattle.strategies.specs.ClassDocument.{IsClassDocumentOf, FitsFormat}
 use Rattle.strategies.specs.PositionDocument.{IsDocumentOver}
 use Rattle.strategies.proofs.FormedRows.{labeller_asked, adversary_asked}
@@ -109,10 +107,10 @@ module _ (positions : Positions) (board : PlainBoard) (proof : PlainProof)
   ]
 
   -- sections of at most eight bytes for each of the most rows
-  pub short_sections_fit : ways (board.pebbles - 1) (places board) ≤ MOST_TURNS
-      → length (class_sections_text board proof) ≤ 8 * MAX_CLASS_ROWS → FitsFormat board proof
-  short_sections_fit few short = record {
-    gaps = few;
+  pub short_sections_fit : IsClaim proof.claim → length (class_sections_text board proof) ≤ 8 * MAX_CLASS_ROWS
+      → FitsFormat proof
+  short_sections_fit fits short = record {
+    claim = fits;
     labeller = omega (arith, short, labeller_long);
     adversary = omega (arith, short, adversary_long);
   }
@@ -141,8 +139,7 @@ in_symmetry_text board document =
 
 -- a text by classes of at most eight bytes for each of the most rows
 pub short_text_fits : (board : PlainBoard) (proof : PlainProof) → IsClassDocumentOf board proof
-    → ways (board.pebbles - 1) (places board) ≤ MOST_TURNS
-    → length (class_text board proof) ≤ 8 * MAX_CLASS_ROWS → FitsFormat board proof
-short_text_fits board proof is few short =
-    short_sections_fit (class_positions board.labels) board proof is few
+    → IsClaim proof.claim → length (class_text board proof) ≤ 8 * MAX_CLASS_ROWS → FitsFormat proof
+short_text_fits board proof is fits short =
+    short_sections_fit (class_positions board.labels) board proof is fits
     (omega (arith, short, in_class_text board proof))

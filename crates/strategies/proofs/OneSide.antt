@@ -31,7 +31,7 @@ use Rattle.strategies.specs.PositionDocument.{AsksAdversary, IsDocumentOver}
 use Rattle.strategies.specs.Inside.NormalForm.{IsNormalForm}
 use Rattle.strategies.specs.Sides.{HasStrategy, claim_for, document_for, part_of}
 use Rattle.strategies.specs.SymmetricDocument.{IsSymmetryDocumentOf, symmetric_document_for}
-use Rattle.strategies.proofs.ClassDocumentForm.{adversary_form, claim_fits_form, has_form, labeller_form}
+use Rattle.strategies.proofs.ClassDocumentForm.{adversary_form, has_form, labeller_form}
 use Rattle.strategies.proofs.FormedRows.{always_asked, labeller_asked}
 use Rattle.strategies.proofs.NormalForms.{arranged_form, least_form}
 
@@ -142,6 +142,17 @@ claim_part Adversary (AtLeast number) is = is
 claim_part Adversary (AtMost number) is = is
 claim_part Adversary Forever is = is
 
+-- a claim fits if a part of it does
+part_claim : (side : Side) (claim : Claim) → IsClaim (part_of side claim) → IsClaim claim
+part_claim Labeller (Exactly number) is = is
+part_claim Labeller (AtLeast number) is = is
+part_claim Labeller (AtMost number) is = is
+part_claim Labeller Forever is = is
+part_claim Adversary (Exactly number) is = is
+part_claim Adversary (AtLeast number) is = is
+part_claim Adversary (AtMost number) is = is
+part_claim Adversary Forever is = is
+
 turns_part : (claim : Claim) (turns : Turns) → AreTurns claim turns → AreTurns (part_of Labeller claim) turns
 turns_part (Exactly number) (Count turns) are = are
 turns_part (Exactly number) Always are = are
@@ -181,11 +192,12 @@ no_formed form = record {
 module _ (board : PlainBoard) (normal : List ℕ → List ℕ) (form : IsNormalForm board normal) (proof : PlainProof)
     (start : IsConfiguration board board.start)
     (is : IsDocumentOver (normal_positions normal) (order_number board.labels) board proof) where
-  pub labeller_has_form : FitsFormat board (document_for (Some Labeller) proof)
+  pub labeller_has_form : FitsFormat (document_for (Some Labeller) proof)
       → IsClassProof board (document_for (Some Labeller) proof)
   labeller_has_form fits =
-      let rows = labeller_form board normal form proof start is fits.gaps fits.labeller in record {
-        claim = claim_part Labeller proof.claim (claim_fits_form board normal form proof start is fits.gaps);
+      let whole = part_claim Labeller proof.claim fits.claim in
+      let rows = labeller_form board normal form proof start is whole fits.labeller in record {
+        claim = fits.claim;
         labeller = record {
           few = fits.labeller;
           each = answers_part board proof.claim proof.labeller rows.each;
@@ -199,11 +211,12 @@ module _ (board : PlainBoard) (normal : List ℕ → List ℕ) (form : IsNormalF
       }
 
   pub adversary_has_form : asks_adversary proof.claim ≡ true
-      → FitsFormat board (document_for (Some Adversary) proof)
+      → FitsFormat (document_for (Some Adversary) proof)
       → IsClassProof board (document_for (Some Adversary) proof)
   adversary_has_form asked fits =
-      let rows = adversary_form board normal form proof start is fits.gaps fits.adversary in record {
-        claim = claim_part Adversary proof.claim (claim_fits_form board normal form proof start is fits.gaps);
+      let whole = part_claim Adversary proof.claim fits.claim in
+      let rows = adversary_form board normal form proof start is whole fits.adversary in record {
+        claim = fits.claim;
         labeller = no_formed (answers_by_classes board (part_of Adversary proof.claim));
         adversary = record {
           few = fits.adversary;
@@ -303,7 +316,7 @@ module _ (board : PlainBoard) (proof : PlainProof) (value : Value) (claim_is_of 
   pub form_over_for : (normal : List ℕ → List ℕ) → IsNormalForm board normal → (side : Option Side)
       → HasStrategy side value → IsConfiguration board board.start
       → IsDocumentOver (normal_positions normal) (order_number board.labels) board proof
-      → FitsFormat board (document_for side proof) → IsClassProof board (document_for side proof)
+      → FitsFormat (document_for side proof) → IsClassProof board (document_for side proof)
   form_over_for normal form None strategy start is fits = has_form board normal form proof start is fits
   form_over_for normal form (Some Labeller) strategy start is fits =
       labeller_has_form board normal form proof start is fits
@@ -311,7 +324,7 @@ module _ (board : PlainBoard) (proof : PlainProof) (value : Value) (claim_is_of 
       adversary_has_form board normal form proof start is (adversary_asks strategy) fits
 
   pub class_form_for : (side : Option Side) → HasStrategy side value → IsConfiguration board board.start
-      → IsClassDocumentOf board proof → FitsFormat board (document_for side proof)
+      → IsClassDocumentOf board proof → FitsFormat (document_for side proof)
       → IsClassProof board (document_for side proof)
   class_form_for = form_over_for (arranged board.labels) (arranged_form board)
 
@@ -363,7 +376,7 @@ module _ (board : PlainBoard) (proof : PlainSymmetryProof) (value : Value)
 
   pub symmetry_form_for : IsConfiguration board board.start → (maps : List (List ℕ)) → AreMaps board.labels maps
       → All (IsSymmetry board) maps → IsSymmetryDocumentOf board maps proof
-      → FitsFormat board (document_for side proof.rows)
+      → FitsFormat (document_for side proof.rows)
       → IsSymmetryProof board (symmetric_document_for side proof)
   symmetry_form_for start maps are each of fits = record {
     maps = subst (AreMaps board.labels) (sym of.maps_are) are;

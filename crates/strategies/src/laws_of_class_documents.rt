@@ -24,18 +24,22 @@ pub fn class_documents_break_no_rule()
 {}
 
 /// The document by classes of a board is one as the format has it, if it fits there. It does if the
-/// board has at most `MAX_CLASS_ROWS` classes; and also if the board has at most `MOST_TURNS` gaps,
-/// and the text at most eight bytes for each of `MAX_CLASS_ROWS` rows.
+/// board has at most `MAX_CLASS_ROWS` classes; and also if its claim fits, as it does if the board
+/// has at most `MOST_TURNS` gaps, and the text has at most eight bytes for each of `MAX_CLASS_ROWS`
+/// rows.
 pub fn class_documents_have_the_form()
     ensures form { (board : PlainBoard) → (proof : PlainProof)
         → IsConfiguration board board.start → IsClassDocumentOf board proof
-        → FitsFormat board proof → IsClassProof board proof }
+        → FitsFormat proof → IsClassProof board proof }
     ensures few { (board : PlainBoard) → (proof : PlainProof)
         → IsConfiguration board board.start → IsClassDocumentOf board proof
-        → class_count board ≤ MAX_CLASS_ROWS → FitsFormat board proof }
+        → class_count board ≤ MAX_CLASS_ROWS → FitsFormat proof }
+    ensures claim { (board : PlainBoard) → (proof : PlainProof)
+        → IsConfiguration board board.start → IsClassDocumentOf board proof
+        → ways (board.pebbles - 1) (places board) ≤ MOST_TURNS → IsClaim proof.claim }
     ensures short { (board : PlainBoard) → (proof : PlainProof) → IsClassDocumentOf board proof
-        → ways (board.pebbles - 1) (places board) ≤ MOST_TURNS
-        → length (class_text board proof) ≤ 8 * MAX_CLASS_ROWS → FitsFormat board proof }
+        → IsClaim proof.claim → length (class_text board proof) ≤ 8 * MAX_CLASS_ROWS
+        → FitsFormat proof }
 {}
 
 /// Each board has a document by classes.

@@ -40,7 +40,7 @@ pub fn one_side_shows_its_part()
     ensures class_form { (board : PlainBoard) → (proof : PlainProof) → (value : ValueData)
         → proof.claim ≡ claim_of value → (side : Option SideData) → HasStrategy side value
         → IsConfiguration board board.start → IsClassDocumentOf board proof
-        → FitsFormat board (document_for side proof)
+        → FitsFormat (document_for side proof)
         → IsClassProof board (document_for side proof) }
     ensures symmetry_rules { (board : PlainBoard) → (proof : PlainSymmetryProof)
         → (value : ValueData) → proof.rows.claim ≡ claim_of value → (side : Option SideData)
@@ -50,6 +50,6 @@ pub fn one_side_shows_its_part()
         → (value : ValueData) → proof.rows.claim ≡ claim_of value → (side : Option SideData)
         → HasStrategy side value → IsConfiguration board board.start → (maps : List (List ℕ))
         → AreMaps board.labels maps → All (IsSymmetry board) maps
-        → IsSymmetryDocumentOf board maps proof → FitsFormat board (document_for side proof.rows)
+        → IsSymmetryDocumentOf board maps proof → FitsFormat (document_for side proof.rows)
         → IsSymmetryProof board (symmetric_document_for side proof) }
 {}

@@ -6,6 +6,8 @@ use Rattle.board_text.specs.declared.read_write.ReadFault.{ReadFault}
 use Rattle.board_text.specs.declared.read_write.ReadFault.TheVariants as read_faults
 use Rattle.chains.specs.declared.counting.ChainFault.{ChainFault}
 use Rattle.chains.specs.declared.counting.ChainFault.TheVariants as chain_faults
+use Rattle.orbits.specs.declared.fault.OrbitFault.{OrbitFault}
+use Rattle.orbits.specs.declared.fault.OrbitFault.TheVariants as orbit_faults
 use Rattle.proof_text.specs.declared.fault.ProofFault.{ProofFault}
 use Rattle.proof_text.specs.declared.fault.ProofKind.TheVariants as proof_kinds
 use Rattle.solver.specs.declared.fault.SolveFault.{SolveFault}
@@ -15,7 +17,7 @@ use Rattle.strategies.specs.declared.unmade.Unmade.{Unmade}
 use Rattle.strategies.specs.declared.unmade.Unmade.TheVariants as unmade
 use Rattle.runs.specs.declared.fault.RunFault.TheVariants.{Board, TooLarge, Proof, Memory, Worker}
 use Rattle.runs.specs.declared.fault.RunFault.TheVariants.{DocumentTooLarge, TooManyChains, Read}
-use Rattle.runs.specs.declared.fault.RunFault.TheVariants.{Limit}
+use Rattle.runs.specs.declared.fault.RunFault.TheVariants.{Limit, TooManyOrbits}
 
 -- of a text that wasn't read to its end
 abbrev pub fault_of_reading : ReadFault → RunFault
@@ -45,6 +47,11 @@ fault_of_solving solve_faults.Worker = Worker
 abbrev pub fault_of_chains : ChainFault → RunFault
 fault_of_chains chain_faults.TooMany = TooManyChains
 fault_of_chains chain_faults.Memory = Memory
+
+-- of orbits that weren't found
+abbrev pub fault_of_orbits : OrbitFault → RunFault
+fault_of_orbits orbit_faults.TooManyOrbits = TooManyOrbits
+fault_of_orbits orbit_faults.Memory = Memory
 
 -- of a document by classes that wasn't made
 abbrev pub fault_of_making : Unmade → RunFault

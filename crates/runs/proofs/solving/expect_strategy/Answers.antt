@@ -1,6 +1,5 @@
 use Rattle.std.proofs.Common.{subst}
 use Rattle.positions.specs.Value.{HasValue}
-use Rattle.positions.specs.declared.value.Value.TheVariants.{Finite}
 use Rattle.runs.proofs.SidedRuns.{finite_strategy}
 use Rattle.runs.proofs.solving.expect_strategy.Goals as goal
 

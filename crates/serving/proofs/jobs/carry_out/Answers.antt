@@ -60,9 +60,9 @@ pub returns-in-Some-clause-done : goal.returns-in-Some-clause-done
 returns-in-Some-clause-done g c =
     let run = c.solve_up_to.ensures in
     rw (c.in-Solve.is, c.in-Some.is) record {
-      does = (run.done, run.kept);
+      does = (run.done, refl);
       writes = run.writes;
-      reads = (λ failed. absurd (true≢false (sym (rw run.kept at failed) ∙ c.requires.ready.input)));
+      reads = (λ failed. absurd (true≢false (sym failed ∙ c.requires.ready.input)));
       unread = run.unread;
     }
 
@@ -110,7 +110,9 @@ pub returns-in-None-clause-told : goal.returns-in-None-clause-told
 returns-in-None-clause-told g c = rw (c.in-Solve.is, c.in-None.is) c.solve.ensures.told
 
 pub returns-in-Some-clause-told : goal.returns-in-Some-clause-told
-returns-in-Some-clause-told g c = rw (c.in-Solve.is, c.in-Some.is) c.solve_up_to.ensures.told
+returns-in-Some-clause-told g c =
+    rw (c.in-Solve.is, c.in-Some.is)
+    ([], refl, none_more g.E.Sink.contents g.E.Sink.has_failed c.args.console.now.errors)
 
 pub returns-in-Report-clause-told : goal.returns-in-Report-clause-told
 returns-in-Report-clause-told g c = rw c.in-Report.is c.report.ensures.told

@@ -1,38 +1,15 @@
-use Rattle.std.proofs.Common.{[], inl, inr, refl}
+use Rattle.std.proofs.Common.{inl, inr}
 use Rattle.std.proofs.lemmas.Result.{err_from_is_err_and}
-use Rattle.console.proofs.Cited.{none_more}
 use Rattle.runs.specs.Run.{bytes_of}
 use Rattle.runs.specs.SymmetricSolveRun.{CannotSolveUpTo, IsSolutionUpTo}
 use Rattle.runs.specs.declared.given_symmetries.TheConstants.{MAX_SYMMETRIES_BYTES}
 use Rattle.runs.proofs.FailedRuns.{cut_short, nothing_to_write}
-use Rattle.runs.proofs.GivenSymmetries.{noticed_before, noticed_then}
 use Rattle.runs.proofs.work.Work.solve_up_to_symmetries.Goals as goal
-
-pub returns-in_err-board-clause-notice : goal.returns-in_err-board-clause-notice
-returns-in_err-board-clause-notice g c =
-    let p = err_from_is_err_and c.from_residual.result c.from_residual.ensures.1 in (
-      [],
-      rw (p.1, p.2) (inr (c.in_err-board.field-0.0, refl, inl c.in_err-board.ensures.fault, refl)),
-      none_more g.E.Sink.contents g.E.Sink.has_failed c.args.errors.now,
-    )
 
 pub returns-in_err-text-clause-fault : goal.returns-in_err-text-clause-fault
 returns-in_err-text-clause-fault g c =
     let p = err_from_is_err_and c.from_residual-in_err-text.result c.from_residual-in_err-text.ensures.1 in
     rw (p.1, p.2) (inr (c.in_ok-board.board, c.in_ok-board.ensures.found, inl c.in_err-text.ensures.fault))
-
-pub returns-in_err-text-clause-notice : goal.returns-in_err-text-clause-notice
-returns-in_err-text-clause-notice g c =
-    let p = err_from_is_err_and c.from_residual-in_err-text.result c.from_residual-in_err-text.ensures.1 in (
-      [],
-      rw (p.1, p.2) (inr (
-        c.in_err-text.field-0.0,
-        refl,
-        inr (c.in_ok-board.board, c.in_ok-board.ensures.found, inl c.in_err-text.ensures.fault),
-        refl,
-      )),
-      none_more g.E.Sink.contents g.E.Sink.has_failed c.args.errors.now,
-    )
 
 pub returns-in_err-solved-clause-fault : goal.returns-in_err-solved-clause-fault
 returns-in_err-solved-clause-fault g c =
@@ -78,42 +55,3 @@ returns-clause-ok g c = (
     ),
   ),
 )
-
-pub returns-in_err-solved-clause-notice : goal.returns-in_err-solved-clause-notice
-returns-in_err-solved-clause-notice g c =
-    let p = err_from_is_err_and c.from_residual-in_err-solved.result c.from_residual-in_err-solved.ensures.1 in
-    let read = bytes_of g.B.Source.remaining c.args.board.now c.read_board.new.reader in
-    let given = bytes_of g.S.Source.remaining c.args.symmetries.now c.read_text.new.reader in
-    let told = rw c.as_slice.ensures.value at c.symmetric_solution.ensures.notice in (
-      told.0,
-      rw (p.1, p.2) (noticed_before c.args.self.limit read given c.in_ok-board.board c.in_ok-board.ensures.found
-          c.in_ok-text.text.items c.in_ok-text.ensures.ok c.args.self.shows_size told.0 c.symmetric_solution.result
-          told.1 c.in_err-solved.field-0.0 c.in_err-solved.was),
-      told.2,
-    )
-
-pub returns-in_err-write_parts-clause-notice : goal.returns-in_err-write_parts-clause-notice
-returns-in_err-write_parts-clause-notice g c =
-    let from = c.from_residual-in_err-write_parts in
-    let p = err_from_is_err_and from.result from.ensures.1 in
-    let read = bytes_of g.B.Source.remaining c.args.board.now c.read_board.new.reader in
-    let given = bytes_of g.S.Source.remaining c.args.symmetries.now c.read_text.new.reader in
-    let told = rw c.as_slice.ensures.value at c.symmetric_solution.ensures.notice in (
-      told.0,
-      noticed_then c.args.self.limit read given c.in_ok-board.board c.in_ok-board.ensures.found
-          c.in_ok-text.text.items c.in_ok-text.ensures.ok c.args.self.shows_size told.0 c.symmetric_solution.result
-          told.1 c.in_ok-solved.solved c.in_ok-solved.was _,
-      told.2,
-    )
-
-pub returns-clause-notice : goal.returns-clause-notice
-returns-clause-notice g c =
-    let read = bytes_of g.B.Source.remaining c.args.board.now c.read_board.new.reader in
-    let given = bytes_of g.S.Source.remaining c.args.symmetries.now c.read_text.new.reader in
-    let told = rw c.as_slice.ensures.value at c.symmetric_solution.ensures.notice in (
-      told.0,
-      noticed_then c.args.self.limit read given c.in_ok-board.board c.in_ok-board.ensures.found
-          c.in_ok-text.text.items c.in_ok-text.ensures.ok c.args.self.shows_size told.0 c.symmetric_solution.result
-          told.1 c.in_ok-solved.solved c.in_ok-solved.was _,
-      told.2,
-    )
