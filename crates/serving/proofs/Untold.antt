@@ -110,10 +110,7 @@ module _ (at : List ℕ → File) (terminals : Terminals) (off : terminals.error
       uncounted terminals.errors off (RanCheck MAX_BOARD_BYTES MAX_PROOF_BYTES b p output.bytes) outcome told after
   nothing_in_job (Nested levels pebbles) told is = is
   nothing_in_job (Solve workers side limit None board) told is = size_untold limit (at board.now) told is
-  nothing_in_job (Solve workers side limit (Some symmetries) board) told (inl (fails, is)) = is
-  nothing_in_job (Solve workers side limit (Some symmetries) board) told
-      (inr (read, given, opens, more, result, same, is)) =
-      untold_of _ _ terminals.errors off result told is
+  nothing_in_job (Solve workers side limit (Some symmetries) board) told is = is
   nothing_in_job (Report workers limit board) told is = size_untold limit (at board.now) told is
   nothing_in_job (Starts workers limit board) told is = size_untold limit (at board.now) told is
   nothing_in_job (Chains workers most board) told is =
