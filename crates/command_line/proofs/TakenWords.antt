@@ -258,13 +258,19 @@ report_row = record {
   good = (
     (refl, inl (refl, omega arith)),
     (
-      (refl, inr (inl (refl, omega arith))),
-      ((refl, inl (refl, omega arith)), ((refl, inr (inl (refl, omega arith))), ((refl, inr (inr refl)), tt))),
+      (refl, inl (refl, omega arith)),
+      (
+        (refl, inr (inl (refl, omega arith))),
+        ((refl, inl (refl, omega arith)), ((refl, inr (inl (refl, omega arith))), ((refl, inr (inr refl)), tt))),
+      ),
     ),
   );
   arguments = (
     (inr (inl (omega arith)), refl, inl (refl, inr (inl (MAX_WORKERS, refl)))),
-    (word_given (codes "large"), ((inl refl, refl, inl (refl, inl refl)), (word_given (codes "explain"), tt))),
+    (
+      (inr (inr refl), refl, inl (refl, inl refl)),
+      (word_given (codes "large"), ((inl refl, refl, inl (refl, inl refl)), (word_given (codes "explain"), tt))),
+    ),
   );
 }
 
@@ -274,13 +280,19 @@ starts_row = record {
   good = (
     (refl, inl (refl, omega arith)),
     (
-      (refl, inr (inl (refl, omega arith))),
-      ((refl, inl (refl, omega arith)), ((refl, inr (inl (refl, omega arith))), ((refl, inr (inr refl)), tt))),
+      (refl, inl (refl, omega arith)),
+      (
+        (refl, inr (inl (refl, omega arith))),
+        ((refl, inl (refl, omega arith)), ((refl, inr (inl (refl, omega arith))), ((refl, inr (inr refl)), tt))),
+      ),
     ),
   );
   arguments = (
     (inr (inl (omega arith)), refl, inl (refl, inr (inl (MAX_WORKERS, refl)))),
-    (word_given (codes "large"), ((inl refl, refl, inl (refl, inl refl)), (word_given (codes "explain"), tt))),
+    (
+      (inr (inr refl), refl, inl (refl, inl refl)),
+      (word_given (codes "large"), ((inl refl, refl, inl (refl, inl refl)), (word_given (codes "explain"), tt))),
+    ),
   );
 }
 

@@ -48,11 +48,20 @@ command name rules = record (new_shape name) { rules = rules }
 abbrev pub check : Shape
 check = command (codes "check") (path (codes "board") ∷ path (codes "proof") ∷ explain ∷ [])
 
+-- the option for the path of symmetries, which may be left out
+abbrev pub symmetries : Rule
+symmetries = record (new_rule (codes "symmetries")) {
+  long = Some (codes "symmetries");
+  value_names = 1;
+}
+
 abbrev pub report : Shape
-report = command (codes "report") (workers ∷ large ∷ path (codes "board") ∷ explain ∷ [])
+report =
+    command (codes "report") (workers ∷ symmetries ∷ large ∷ path (codes "board") ∷ explain ∷ [])
 
 abbrev pub starts : Shape
-starts = command (codes "starts") (workers ∷ large ∷ path (codes "board") ∷ explain ∷ [])
+starts =
+    command (codes "starts") (workers ∷ symmetries ∷ large ∷ path (codes "board") ∷ explain ∷ [])
 
 -- the option for the greatest length of chains, which is the greatest of all if the option isn't
 -- given
@@ -84,13 +93,6 @@ side_among words must_be_given = record (new_rule (codes "side")) {
   required = must_be_given;
   value_names = 1;
   parser = Some (vp.Names words);
-}
-
--- the option for the path of symmetries, which may be left out
-abbrev pub symmetries : Rule
-symmetries = record (new_rule (codes "symmetries")) {
-  long = Some (codes "symmetries");
-  value_names = 1;
 }
 
 abbrev pub solve_among : Bor (List (Bor Text)) → Shape

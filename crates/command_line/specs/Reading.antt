@@ -72,13 +72,15 @@ AsksFor name rows (jobs.Solve workers side limit symmetries board) = (name ≡ c
     × HasFlag rows (codes "large") (is_large limit)
     × HasPath rows (codes "symmetries") symmetries
     × (first_of (codes "board") rows ≡ Some board.now)
-AsksFor name rows (jobs.Report workers limit board) = (name ≡ codes "report")
+AsksFor name rows (jobs.Report workers limit symmetries board) = (name ≡ codes "report")
     × HasNumber rows (codes "workers") MAX_WORKERS workers
     × HasFlag rows (codes "large") (is_large limit)
+    × HasPath rows (codes "symmetries") symmetries
     × (first_of (codes "board") rows ≡ Some board.now)
-AsksFor name rows (jobs.Starts workers limit board) = (name ≡ codes "starts")
+AsksFor name rows (jobs.Starts workers limit symmetries board) = (name ≡ codes "starts")
     × HasNumber rows (codes "workers") MAX_WORKERS workers
     × HasFlag rows (codes "large") (is_large limit)
+    × HasPath rows (codes "symmetries") symmetries
     × (first_of (codes "board") rows ≡ Some board.now)
 AsksFor name rows (jobs.Chains workers most board) = (name ≡ codes "chains")
     × HasNumber rows (codes "workers") MAX_WORKERS workers
@@ -104,8 +106,8 @@ IsInRange (jobs.Check board proof) = Unit {0}
 IsInRange (jobs.Nested levels pebbles) =
     (1 ≤ levels) × (levels ≤ MAX_BOARD_LEVELS) × (1 ≤ pebbles) × (pebbles ≤ MAX_PEBBLES)
 IsInRange (jobs.Solve workers side limit symmetries board) = (1 ≤ workers) × (workers ≤ MAX_WORKERS)
-IsInRange (jobs.Report workers limit board) = (1 ≤ workers) × (workers ≤ MAX_WORKERS)
-IsInRange (jobs.Starts workers limit board) = (1 ≤ workers) × (workers ≤ MAX_WORKERS)
+IsInRange (jobs.Report workers limit symmetries board) = (1 ≤ workers) × (workers ≤ MAX_WORKERS)
+IsInRange (jobs.Starts workers limit symmetries board) = (1 ≤ workers) × (workers ≤ MAX_WORKERS)
 IsInRange (jobs.Chains workers most board) =
     (1 ≤ workers) × (workers ≤ MAX_WORKERS) × (1 ≤ most) × (most ≤ MAX_LENGTH)
 IsInRange (jobs.Play side limit board) = Unit {0}

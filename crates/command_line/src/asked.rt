@@ -35,8 +35,8 @@ pub enum Job<'a> {
     },
     /// Solve the board, a path, with 1 to `MAX_WORKERS` workers, and write its strategy document,
     /// which is that by classes if the board may be large, for this side alone or for both.
-    /// `symmetries` is the path of symmetries of its domain, up to which the document is written,
-    /// if there is one.
+    /// `symmetries` is the path of symmetries of its domain, if there is one: then values are found
+    /// up to these, and the document is written so.
     Solve {
         workers: u8,
         side: Option<Side>,
@@ -45,17 +45,19 @@ pub enum Job<'a> {
         board: &'a str,
     },
     /// Solve the board, a path, with 1 to `MAX_WORKERS` workers, and write the number of
-    /// configurations of each value.
+    /// configurations of each value. With a path of symmetries values are found up to these.
     Report {
         workers: u8,
         limit: BoardLimit,
+        symmetries: Option<&'a str>,
         board: &'a str,
     },
     /// Solve the board, a path, with 1 to `MAX_WORKERS` workers, and write the value with all
-    /// pebbles on each label.
+    /// pebbles on each label. With a path of symmetries values are found up to these.
     Starts {
         workers: u8,
         limit: BoardLimit,
+        symmetries: Option<&'a str>,
         board: &'a str,
     },
     /// Count the chains of the board, a path, with 1 to `MAX_WORKERS` workers: of each length up to

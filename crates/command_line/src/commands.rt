@@ -59,8 +59,8 @@ const ABOUT_SOLVING: &str =
     same for every number of workers. With --large it is the document by classes,\n\
     whose rows say nothing of which pebble holds which label.\n\n\
     With --symmetries its rows are for all configurations that the maps in FILE\n\
-    take to one another. Then --large takes any number of gaps: those that the maps\n\
-    take to one another are solved as one.\n\n\
+    take to one another, which are solved as one: then --large takes any number of\n\
+    gaps.\n\n\
     With --side its claim is `least` or `forever` for the labeller, `most` for the\n\
     adversary.\n\n\
     Common faults:\n  \
@@ -79,7 +79,10 @@ const ABOUT_SOLVING: &str =
     pebbles solve chain.board > chain.proof";
 
 /// The help of `report`.
-const ABOUT_REPORTING: &str = "The report is the same for every number of workers.\n\n\
+const ABOUT_REPORTING: &str =
+    "The report is the same for every number of workers. With --symmetries what the\n\
+    maps in FILE take to one another is solved as one: then --large takes any number\n\
+    of gaps.\n\n\
     Common faults:\n  \
     board fault line 1 Version  neither `board 1` nor `board 2`: Windows line ends\n  \
     board fault line 4 Start    each pebble's label, below V, or `-` in `board 2`\n  \
@@ -93,7 +96,9 @@ const ABOUT_REPORTING: &str = "The report is the same for every number of worker
 const ABOUT_STARTS: &str =
     "A line for each label has the value with all pebbles on it, and in a `board 2`\n\
     one more the value with none on a label. If any start lasts for ever, one of\n\
-    these does. The text is the same for every number of workers.\n\n\
+    these does. The text is the same for every number of workers. With --symmetries\n\
+    what the maps in FILE take to one another is solved as one: then --large takes\n\
+    any number of gaps.\n\n\
     Common faults:\n  \
     board fault line 1 Version  neither `board 1` nor `board 2`: Windows line ends\n  \
     board fault line 4 Start    each pebble's label, below V, or `-` in `board 2`\n  \
@@ -245,7 +250,8 @@ fn report<'a>(alloc: Global) -> Result<Command<'a>, AllocError>
     let command = Command::new(alloc, "report")
         .about("Reads a board, and writes how many configurations have each value")
         .after_help(ABOUT_REPORTING)
-        .arg(workers(alloc))?;
+        .arg(workers(alloc))?
+        .arg(symmetries(alloc))?;
     on_board(alloc, command)
 }
 
@@ -256,7 +262,8 @@ fn starts<'a>(alloc: Global) -> Result<Command<'a>, AllocError>
     let command = Command::new(alloc, "starts")
         .about("Reads a board, and writes the value with all pebbles on each label")
         .after_help(ABOUT_STARTS)
-        .arg(workers(alloc))?;
+        .arg(workers(alloc))?
+        .arg(symmetries(alloc))?;
     on_board(alloc, command)
 }
 
@@ -446,7 +453,7 @@ fn symmetries<'a>(alloc: Global) -> Arg<'a>
     Arg::new(alloc, "symmetries")
         .long("symmetries")
         .value_name("FILE")
-        .help("Write rows up to the symmetries in FILE")
+        .help("Solve up to the symmetries in FILE")
 }
 
 /// The option for the number of workers, 1 to `MAX_WORKERS`; 1 if it isn't given.

@@ -253,10 +253,12 @@ fn report_job<'a>(values: &ArgMatches<'a>) -> Option<Job<'a>>
 {
     let workers = number(values, "workers", MAX_WORKERS)?;
     let limit = limit(values)?;
+    let symmetries = text(values, "symmetries");
     let board = text(values, "board")?;
     Some(Job::Report {
         workers,
         limit,
+        symmetries,
         board,
     })
 }
@@ -267,10 +269,12 @@ fn starts_job<'a>(values: &ArgMatches<'a>) -> Option<Job<'a>>
 {
     let workers = number(values, "workers", MAX_WORKERS)?;
     let limit = limit(values)?;
+    let symmetries = text(values, "symmetries");
     let board = text(values, "board")?;
     Some(Job::Starts {
         workers,
         limit,
+        symmetries,
         board,
     })
 }

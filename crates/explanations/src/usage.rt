@@ -51,13 +51,13 @@ pub(crate) fn usage_hint(words: &[&str]) -> &'static str {
         if is_for_a_side(word) && words[1] != "solve" && words[1] != "play" {
             return "only `solve` and `play` have `--side`; ";
         }
-        if is_for_symmetries(word) && words[1] != "solve" {
-            return "only `solve` has `--symmetries`; ";
+        if is_for_symmetries(word) && !takes_symmetries(words[1]) {
+            return "only `solve`, `report` and `starts` have `--symmetries`; ";
         }
         if is_unknown_option(word) {
             return "the only options are `--workers` of `solve`, `report`, `starts` and `chains`, \
                 `--most` of `chains`, `--side` of `solve` and `play`, `--symmetries` of `solve`, \
-                `--large` of `solve`, `report`, `starts` and `play`, `--explain`, `--help` and \
+                `report` and `starts`, `--large` of `solve`, `report`, `starts` and `play`, `--explain`, `--help` and \
                 `--version`; a path that begins with `-` comes after `--`; ";
         }
     }
@@ -71,7 +71,7 @@ fn takes_large(command: &str) -> bool {
 
 /// Whether the command of this name has the option for workers.
 fn takes_workers(command: &str) -> bool {
-    command == "solve" || command == "report" || command == "starts" || command == "chains"
+    takes_symmetries(command) || command == "chains"
 }
 
 /// Whether a word is the option for workers.
@@ -87,6 +87,11 @@ fn is_for_a_length(word: &str) -> bool {
 /// Whether a word is the option for a side.
 fn is_for_a_side(word: &str) -> bool {
     word == "--side" || word.starts_with(SIDE_IS)
+}
+
+/// Whether a command has the option for symmetries.
+fn takes_symmetries(command: &str) -> bool {
+    command == "solve" || command == "report" || command == "starts"
 }
 
 /// Whether a word is the option for symmetries.

@@ -62,6 +62,13 @@ same_report board first second one other =
     rw (start, counts, forever) refl in
     same
 
+-- a board has one report
+pub one_report_of : (board : PlainBoard) (first second : List ℕ) → IsReportOf board first → IsReportOf board second
+    → first ≡ second
+one_report_of board first second one other =
+    let same : one.report ≡ other.report = same_report board one.report other.report one.is_report other.is_report in
+    one.text_is ∙ ap (report_text_alone board) same ∙ sym other.text_is
+
 module _ (text : List ℕ) where
   -- the text is that of one board at most
   same_board : (limit more : BoardLimit) (first second : PlainBoard) → IsBoardWithin limit text first
@@ -74,10 +81,8 @@ module _ (text : List ℕ) where
       → IsReportOfText more text second → first ≡ second
   one_report limit more first second one other =
       let board : PlainBoard = one.0 in
-      let is : IsReportOf board second = subst (λ (b : PlainBoard). IsReportOf b second)
-      (same_board limit more board other.0 one.1 other.1) other.2 in
-      let same : one.2.report ≡ is.report = same_report board one.2.report is.report one.2.is_report is.is_report in
-      one.2.text_is ∙ ap (report_text_alone board) same ∙ sym is.text_is
+      one_report_of board first second one.2
+      (subst (λ (b : PlainBoard). IsReportOf b second) (same_board limit more board other.0 one.1 other.1) other.2)
 
   pub one_solution : (value worth : Value) (first second : List ℕ) → IsSolution text value first
       → IsSolution text worth second

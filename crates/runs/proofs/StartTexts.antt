@@ -90,11 +90,16 @@ same_values board first second one other =
     (λ place inside. same_value board (replicate board.pebbles place) (slice_index_or first place Forever)
     (slice_index_or second place Forever) (one.each place inside) (other.each place (omega (arith, inside, size))))
 
+-- a board has one text of its starts
+pub one_starts_of : (board : PlainBoard) (first second : List ℕ) → AreStartsOf board first → AreStartsOf board second
+    → first ≡ second
+one_starts_of board first second one other =
+    one.text_is ∙ ap (starts_text board) (same_values board one.values other.values one.are other.are)
+    ∙ sym other.text_is
+
 pub one_starts : (text : List ℕ) (limit more : BoardLimit) (first second : List ℕ) → AreStartsOfText limit text first
     → AreStartsOfText more text second → first ≡ second
 one_starts text limit more first second (board, is, says) (next, also, says_too) =
-    let here : AreStartsOf board second
-    = subst (λ b. AreStartsOf b second) (sym (one_board board next is.is_board also.is_board
-    (sym is.spelled ∙ also.spelled))) says_too in
-    says.text_is ∙ ap (starts_text board) (same_values board says.values here.values says.are here.are)
-    ∙ sym here.text_is
+    one_starts_of board first second says
+    (subst (λ b. AreStartsOf b second) (sym (one_board board next is.is_board also.is_board
+    (sym is.spelled ∙ also.spelled))) says_too)

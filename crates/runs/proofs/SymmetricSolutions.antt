@@ -33,7 +33,7 @@ use Rattle.symmetries.specs.ClosingLoop.{HasLargeGroup}
 use Rattle.symmetries.specs.Symmetries.{IsSymmetry}
 use Rattle.symmetries.specs.declared.maps.MapFault.{MapFault}
 use Rattle.runs.specs.SymmetricSolveRun.{IsLongUpTo, IsSolutionUpTo, IsSolvedUpTo, IsUnsolvedUpTo}
-use Rattle.runs.specs.SymmetricSolveRun.{SpellsFewOrbits}
+use Rattle.runs.specs.SymmetricRun.{GivesFewOrbits, LacksFewOrbits, SpellsFewOrbits}
 use Rattle.runs.specs.Symmetries.{AreWrongSymmetries, HasSymmetries, SpellsMaps, SpellsSymmetries}
 use Rattle.runs.specs.declared.checking.TheConstants.{MAX_PROOF_BYTES}
 use Rattle.runs.specs.declared.fault.RunFault.{RunFault}
@@ -126,6 +126,73 @@ module _ (board : PlainBoard) (is_board : IsBoard board) (text : List ℕ) where
       (subst (λ m. IsFirstWrongMap board m number fault) (same_maps maps others is is_too) wrong) each)
   one_wrong TooMany TooMany wrong also = refl
 
+  -- ---- few orbits, or the fault of the text
+
+  record IsOfOrbits (fault : RunFault) : Type 0 where
+    told : fault ≡ TooManyOrbits
+    is : LacksFewOrbits board text TooManyOrbits
+
+  record IsOfSymmetries (fault : RunFault) : Type 0 where
+    why : SymmetriesFault
+    told : fault ≡ Symmetries why
+    is : AreWrongSymmetries board text why
+
+  abbrev IsLacking : RunFault → Type 0
+  IsLacking fault = IsOfOrbits fault ⊎ IsOfSymmetries fault
+
+  lacking_is : (fault : RunFault) → LacksFewOrbits board text fault → IsLacking fault
+  lacking_is TooManyOrbits h = inl (record { told = refl; is = h })
+  lacking_is (Symmetries why) h = inr (record { why = why; told = refl; is = h })
+  lacking_is (Board fault) h = absurd h
+  lacking_is TooLarge h = absurd h
+  lacking_is (Proof fault) h = absurd h
+  lacking_is Memory h = absurd h
+  lacking_is Worker h = absurd h
+  lacking_is Read h = absurd h
+  lacking_is Write h = absurd h
+  lacking_is DocumentTooLarge h = absurd h
+  lacking_is LastsForever h = absurd h
+  lacking_is TooManyChains h = absurd h
+  lacking_is Limit h = absurd h
+
+  -- few orbits up to these maps, and too many up to those of the same text
+  not_many : (maps : List (List ℕ)) → SpellsFewOrbits board text maps → LacksFewOrbits board text TooManyOrbits → ⊥
+  not_many maps (spells, few) (others, also, many) =
+      few_and_many board maps spells.are_made.symmetries few
+      (subst (HasManyOrbitsUpTo board) (same_maps maps others spells.spells also.spells) many)
+
+  -- few orbits and no fault of the text
+  no_others : (maps : List (List ℕ)) → SpellsFewOrbits board text maps → (fault : RunFault) → IsLacking fault → ⊥
+  no_others maps few fault (inl of_orbits) = not_many maps few of_orbits.is
+  no_others maps few fault (inr wrong) = not_wrong_maps maps few.0 wrong.why wrong.is
+
+  pub given_or_lacking : (fault : RunFault) → GivesFewOrbits board text → LacksFewOrbits board text fault → ⊥
+  given_or_lacking fault (maps, few) lacks = no_others maps few fault (lacking_is fault lacks)
+
+  one_of_lacking : (fault other : RunFault) → IsLacking fault → IsLacking other → fault ≡ other
+  one_of_lacking fault other (inl many) (inl too) = many.told ∙ sym too.told
+  one_of_lacking fault other (inl many) (inr wrong) =
+      absurd (not_wrong_maps many.is.0 many.is.1 wrong.why wrong.is)
+  one_of_lacking fault other (inr wrong) (inl many) =
+      absurd (not_wrong_maps many.is.0 many.is.1 wrong.why wrong.is)
+  one_of_lacking fault other (inr wrong) (inr too) =
+      wrong.told ∙ ap Symmetries (one_wrong wrong.why too.why wrong.is too.is) ∙ sym too.told
+
+  pub one_lacking : (fault other : RunFault) → LacksFewOrbits board text fault → LacksFewOrbits board text other
+      → fault ≡ other
+  one_lacking fault other lacks also =
+      one_of_lacking fault other (lacking_is fault lacks) (lacking_is other also)
+
+  -- symmetries of the domain leave few orbits, or too many
+  pub few_orbits_or_many : HasSymmetries board text
+      → GivesFewOrbits board text ⊎ LacksFewOrbits board text TooManyOrbits
+  few_orbits_or_many (maps, spells) =
+      let made = spells.are_made in
+      elim (few_or_many_up_to board maps made.symmetries spells.group made.are_group) [
+        | inl few ↦ inl (maps, (spells, few))
+        | inr many ↦ inr (maps, spells, many)
+      ]
+
   -- ---- one solution
 
   module _ (side : Option Side) where
@@ -158,21 +225,12 @@ module _ (board : PlainBoard) (is_board : IsBoard board) (text : List ℕ) where
       told : fault ≡ DocumentTooLarge
       is : IsUnsolvedUpTo side board text DocumentTooLarge
 
-    record IsOfOrbits (fault : RunFault) : Type 0 where
-      told : fault ≡ TooManyOrbits
-      is : IsUnsolvedUpTo side board text TooManyOrbits
-
-    record IsOfSymmetries (fault : RunFault) : Type 0 where
-      why : SymmetriesFault
-      told : fault ≡ Symmetries why
-      is : AreWrongSymmetries board text why
-
     fault_is : (fault : RunFault) → IsUnsolvedUpTo side board text fault
-        → IsOfSide fault ⊎ IsOfDocument fault ⊎ IsOfOrbits fault ⊎ IsOfSymmetries fault
+        → IsOfSide fault ⊎ IsOfDocument fault ⊎ IsLacking fault
     fault_is LastsForever h = inl (record { told = refl; is = h })
     fault_is DocumentTooLarge h = inr (inl (record { told = refl; is = h }))
-    fault_is TooManyOrbits h = inr (inr (inl (record { told = refl; is = h })))
-    fault_is (Symmetries why) h = inr (inr (inr (record { why = why; told = refl; is = h })))
+    fault_is TooManyOrbits h = inr (inr (lacking_is TooManyOrbits h))
+    fault_is (Symmetries why) h = inr (inr (lacking_is (Symmetries why) h))
     fault_is (Board fault) h = absurd h
     fault_is TooLarge h = absurd h
     fault_is (Proof fault) h = absurd h
@@ -187,13 +245,6 @@ module _ (board : PlainBoard) (is_board : IsBoard board) (text : List ℕ) where
         → HasValue board board.start Forever → ⊥
     no_value value has strategy is lasts =
         no_strategy side value is (same_value board board.start value Forever has lasts) strategy
-
-    -- few orbits up to these maps, and too many up to those of the same text
-    not_many : (maps : List (List ℕ)) → SpellsFewOrbits board text maps
-        → IsUnsolvedUpTo side board text TooManyOrbits → ⊥
-    not_many maps (spells, few) (others, also, many) =
-        few_and_many board maps spells.are_made.symmetries few
-        (subst (HasManyOrbitsUpTo board) (same_maps maps others spells.spells also.spells) many)
 
     short_or_long : (maps : List (List ℕ)) (value : Value) (written : List ℕ) → All (IsSymmetry board) maps
         → IsSolvedUpTo side board maps value written → IsLongUpTo side board maps → ⊥
@@ -215,31 +266,14 @@ module _ (board : PlainBoard) (is_board : IsBoard board) (text : List ℕ) where
               short_or_long maps value written spells.are_made.symmetries solved
               (subst (IsLongUpTo side board) (same_maps maps of_document.is.0 spells.spells of_document.is.1.0.spells)
               of_document.is.2)
-          | inr (inr (inl of_orbits)) ↦ not_many maps few of_orbits.is
-          | inr (inr (inr wrong)) ↦ not_wrong_maps maps spells wrong.why wrong.is
+          | inr (inr lacking) ↦ no_others maps few fault lacking
         ]
-
-    -- few orbits and no fault of the text
-    no_others : (maps : List (List ℕ)) → SpellsFewOrbits board text maps → (fault : RunFault)
-        → IsOfOrbits fault ⊎ IsOfSymmetries fault → ⊥
-    no_others maps few fault (inl of_orbits) = not_many maps few of_orbits.is
-    no_others maps few fault (inr wrong) = not_wrong_maps maps few.0 wrong.why wrong.is
 
     -- a side without a strategy, and a document for it
     side_or_long : IsUnsolvedUpTo side board text LastsForever → IsUnsolvedUpTo side board text DocumentTooLarge → ⊥
     side_or_long of_side of_document =
         let long = of_document.2 in
         no_value long.value long.has_value long.strategy of_side.2 of_side.3
-
-    one_of_given : (fault other : RunFault) → IsOfOrbits fault ⊎ IsOfSymmetries fault
-        → IsOfOrbits other ⊎ IsOfSymmetries other → fault ≡ other
-    one_of_given fault other (inl many) (inl too) = many.told ∙ sym too.told
-    one_of_given fault other (inl many) (inr wrong) =
-        absurd (not_wrong_maps many.is.0 many.is.1 wrong.why wrong.is)
-    one_of_given fault other (inr wrong) (inl many) =
-        absurd (not_wrong_maps many.is.0 many.is.1 wrong.why wrong.is)
-    one_of_given fault other (inr wrong) (inr too) =
-        wrong.told ∙ ap Symmetries (one_wrong wrong.why too.why wrong.is too.is) ∙ sym too.told
 
     pub one_unsolved_up_to : (fault other : RunFault) → IsUnsolvedUpTo side board text fault
         → IsUnsolvedUpTo side board text other → fault ≡ other
@@ -257,7 +291,7 @@ module _ (board : PlainBoard) (is_board : IsBoard board) (text : List ℕ) where
       | inr (inr none) ↦ elim (fault_is other also) [
         | inl of_side ↦ absurd (no_others of_side.is.0 of_side.is.1 fault none)
         | inr (inl of_document) ↦ absurd (no_others of_document.is.0 of_document.is.1 fault none)
-        | inr (inr too) ↦ one_of_given fault other none too
+        | inr (inr too) ↦ one_of_lacking fault other none too
       ]
     ]
 
@@ -305,9 +339,7 @@ module _ (board : PlainBoard) (is_board : IsBoard board) (text : List ℕ) where
         ]
 
     pub symmetric_solution_or_unsolved : HasSymmetries board text → IsEither
-    symmetric_solution_or_unsolved (maps, spells) =
-        let made = spells.are_made in
-        elim (few_or_many_up_to board maps made.symmetries spells.group made.are_group) [
-          | inl few ↦ of_few_orbits maps (spells, few)
-          | inr many ↦ inr (TooManyOrbits, (maps, spells, many))
-        ]
+    symmetric_solution_or_unsolved has = elim (few_orbits_or_many has) [
+      | inl (maps, few) ↦ of_few_orbits maps few
+      | inr many ↦ inr (TooManyOrbits, many)
+    ]

@@ -18,6 +18,7 @@ pub mod ChainText
 pub mod StartText
 pub mod Notices
 pub mod Symmetries
+pub mod SymmetricRun
 pub mod SymmetricSolveRun
 pub mod PlayRun
 pub mod Inside

@@ -1,8 +1,6 @@
 -- Solutions of boards up to symmetries of their domains, for both sides or for one.
 use Rattle.std.specs.Prelude.{◌≡◌, ℕ, ◌≤◌, List, Option, Some, length}
 use Rattle.board_text.specs.PlainBoard.{PlainBoard}
-use Rattle.command_line.specs.declared.asked.BoardLimit.{BoardLimit}
-use Rattle.orbits.specs.OrbitsUpTo.{HasFewOrbitsUpTo, HasManyOrbitsUpTo}
 use Rattle.positions.specs.Value.{HasValue}
 use Rattle.positions.specs.declared.side.Side.{Side}
 use Rattle.positions.specs.declared.side.Side.TheVariants.{Adversary}
@@ -12,16 +10,10 @@ use Rattle.proof_text.specs.ProofText.{symmetry_text}
 use Rattle.proof_text.specs.SymmetryProof.{PlainSymmetryProof}
 use Rattle.strategies.specs.Sides.{HasStrategy}
 use Rattle.strategies.specs.SymmetricDocument.{HasLongSymmetryText, IsSymmetryDocumentFor}
-use Rattle.runs.specs.BoardRun.{FailsOn, RanOn}
-use Rattle.runs.specs.Run.{Bytes, Fails, Ran}
-use Rattle.runs.specs.Symmetries.{LacksSymmetries, SpellsSymmetries}
-use Rattle.runs.specs.Texts.{IsWithinUpTo}
+use Rattle.runs.specs.SymmetricRun.{LacksFewOrbits, SpellsFewOrbits}
 use Rattle.runs.specs.declared.checking.TheConstants.{MAX_PROOF_BYTES}
 use Rattle.runs.specs.declared.fault.RunFault.{RunFault}
 use Rattle.runs.specs.declared.fault.RunFault.TheVariants.{DocumentTooLarge, LastsForever, Memory}
-use Rattle.runs.specs.declared.fault.RunFault.TheVariants.{TooManyOrbits}
-use Rattle.runs.specs.declared.reading.TheConstants.{MAX_BOARD_BYTES}
-use Rattle.runs.specs.declared.given_symmetries.TheConstants.{MAX_SYMMETRIES_BYTES}
 
 -- the value of the board's start, on which the side has a strategy, and the text of the board's
 -- document up to the symmetries that the maps make, for the side alone or for both, which a check
@@ -34,10 +26,6 @@ pub record IsSolvedUpTo (side : Option Side) (board : PlainBoard) (maps : List (
   pub is_document : IsSymmetryDocumentFor side board maps document
   pub written_is : written ≡ symmetry_text board document
   pub short : length written ≤ MAX_PROOF_BYTES
-
--- the text is that of these symmetries of the board's domain, up to which it has few enough orbits
-abbrev pub SpellsFewOrbits : PlainBoard → List ℕ → List (List ℕ) → Type 0
-SpellsFewOrbits board text maps = SpellsSymmetries board text maps × HasFewOrbitsUpTo board maps
 
 -- the solution up to the symmetries whose text this is
 abbrev pub IsSolutionUpTo : Option Side → PlainBoard → List ℕ → Value → List ℕ → Type 0
@@ -61,26 +49,9 @@ IsUnsolvedUpTo side board text LastsForever = (maps : List (List ℕ))
     × SpellsFewOrbits board text maps × (side ≡ Some Adversary) × HasValue board board.start Forever
 IsUnsolvedUpTo side board text DocumentTooLarge = (maps : List (List ℕ))
     × SpellsFewOrbits board text maps × IsLongUpTo side board maps
-IsUnsolvedUpTo side board text TooManyOrbits = (maps : List (List ℕ))
-    × SpellsSymmetries board text maps × HasManyOrbitsUpTo board maps
-IsUnsolvedUpTo side board text fault = LacksSymmetries board text fault
+IsUnsolvedUpTo side board text fault = LacksFewOrbits board text fault
 
 -- the same, or out of memory
 abbrev pub CannotSolveUpTo : Option Side → PlainBoard → List ℕ → RunFault → Type 0
 CannotSolveUpTo side board text Memory = Unit {0}
 CannotSolveUpTo side board text fault = IsUnsolvedUpTo side board text fault
-
--- ---- runs that read a board and then symmetries of its domain
-
--- both were read, and the solution was written
-abbrev pub RanUpTo : BoardLimit → Option Side → Bytes → Bytes → Bytes → Value → Type 0
-RanUpTo limit side board symmetries written value =
-    RanOn (IsWithinUpTo limit) MAX_BOARD_BYTES board
-    (λ b. Ran (IsSolutionUpTo side b) MAX_SYMMETRIES_BYTES symmetries written value)
-
--- the faults of such a run; if there is no board, the symmetries are untouched
-abbrev pub FailsUpTo : BoardLimit → Option Side → Type 0 → Bytes → Bytes → Bytes → RunFault → Type 0
-FailsUpTo limit side IsUntouched board symmetries written fault =
-    FailsOn (IsWithinUpTo limit) MAX_BOARD_BYTES board IsUntouched
-    (λ b. Fails (IsSolutionUpTo side b) (CannotSolveUpTo side b) MAX_SYMMETRIES_BYTES symmetries
-    written) fault

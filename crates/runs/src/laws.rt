@@ -24,12 +24,14 @@ ghost use Rattle.runs.specs.Texts.{HasNoBoard, HasNoProof, IsMemory, IsSmallBoar
 ghost use Rattle.runs.specs.Texts.{IsBoardAmong, IsWrongWithin, OfAnySize};
 ghost use Rattle.runs.specs.ClassSolveRun.{IsClassSolution, IsUnsolvedByClasses};
 ghost use Rattle.runs.specs.Symmetries.{HasSymmetries};
+ghost use Rattle.runs.specs.SymmetricRun.{GivesFewOrbits, LacksFewOrbits};
 ghost use Rattle.runs.specs.SymmetricSolveRun.{IsSolutionUpTo, IsUnsolvedUpTo};
 ghost use Rattle.runs.specs.CheckRun.{RanCheck};
 ghost use Rattle.runs.specs.Meaning.{AcceptsLeast, CanAnswer};
 ghost use Rattle.command_line.specs.declared.asked.BoardLimit.{BoardLimit as Limit};
 ghost use Rattle.command_line.specs.declared.asked.BoardLimit.TheVariants.{Small, Large};
 ghost use Rattle.runs.specs.declared.fault.RunFault.{RunFault as Fault};
+ghost use Rattle.runs.specs.declared.fault.RunFault.TheVariants.{TooManyOrbits};
 ghost use Rattle.runs.specs.declared.verdicts.Verdict.{Verdict as VerdictData};
 ghost use Rattle.runs.specs.declared.verdicts.Verdict.TheVariants.{Accepted};
 
@@ -225,6 +227,19 @@ pub fn symmetric_solutions_are_accepted()
     ensures not_both { (board : PlainBoard) → IsBoard board → (text : List ℕ)
         → (side : Option SideData) → (value : ValueData) → (written : List ℕ) → (fault : Fault)
         → IsSolutionUpTo side board text value written → IsUnsolvedUpTo side board text fault → ⊥ }
+{}
+
+/// Each text of symmetries leaves a board few orbits, by which it is solved and its values are
+/// counted, or too many, or has a fault. A text leaves few or has one fault, and not both.
+pub fn symmetries_leave_few_orbits_or_a_fault()
+    ensures either { (board : PlainBoard) → IsBoard board → (text : List ℕ)
+        → HasSymmetries board text
+        → GivesFewOrbits board text ⊎ LacksFewOrbits board text TooManyOrbits }
+    ensures one_fault { (board : PlainBoard) → IsBoard board → (text : List ℕ) → (fault : Fault)
+        → (other : Fault) → LacksFewOrbits board text fault → LacksFewOrbits board text other
+        → fault ≡ other }
+    ensures not_both { (board : PlainBoard) → IsBoard board → (text : List ℕ) → (fault : Fault)
+        → GivesFewOrbits board text → LacksFewOrbits board text fault → ⊥ }
 {}
 
 /// The counts of a report add up to the number of configurations.

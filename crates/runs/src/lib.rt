@@ -19,6 +19,7 @@ mod reading;
 mod reporting;
 mod solving;
 mod starting;
+mod symmetric_reporting;
 mod symmetric_solving;
 mod told_values;
 mod verdicts;
@@ -36,7 +37,7 @@ pub use laws::{
     accepted_claims_hold, class_solutions_are_accepted, limits, printed_documents_are_accepted,
     report_or_fault, reports_add_up, side_solution_or_fault, solution_or_fault,
     solved_boards_show_their_value, symmetric_solutions_are_accepted,
-    written_documents_mean_the_value,
+    symmetries_leave_few_orbits_or_a_fault, written_documents_mean_the_value,
 };
 pub use nesting::run_nested;
 pub use playing::{Playing, run_climb, run_play};

@@ -131,7 +131,11 @@ pub fn report_text_alone(alloc: Global, text: &[u8]) -> Result<String, RunFault>
 }
 
 /// The report of `board`, of which this was counted.
-fn report_of(alloc: Global, board: &Board, counted: &Counted) -> Result<String, AllocError>
+pub(crate) fn report_of(
+    alloc: Global,
+    board: &Board,
+    counted: &Counted,
+) -> Result<String, AllocError>
     requires { IsBoardCounted board.now counted.now }
     ensures { IfOk result (λ text. IsReportOf board.now (string_bytes text)) }
 {

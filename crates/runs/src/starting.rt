@@ -160,7 +160,7 @@ fn start_values_by_classes(
 }
 
 /// The values with all pebbles at each place of the board of `moves`.
-fn values_at_places<M: Moves>(alloc: Global, moves: &M) -> Result<Vec<Value>, Memory>
+pub(crate) fn values_at_places<M: Moves>(alloc: Global, moves: &M) -> Result<Vec<Value>, Memory>
     ensures { IfOk result (λ values. AreStartValues (M.board moves.now) values.items) }
 {
     let board = moves.board();
@@ -173,7 +173,11 @@ fn values_at_places<M: Moves>(alloc: Global, moves: &M) -> Result<Vec<Value>, Me
 }
 
 /// The text of the starts of `board` with these `values`.
-fn starts_of(alloc: Global, board: &Board, values: &[Value]) -> Result<String, AllocError>
+pub(crate) fn starts_of(
+    alloc: Global,
+    board: &Board,
+    values: &[Value],
+) -> Result<String, AllocError>
     requires { AreStartValues board.now values.now }
     ensures { IfOk result (λ text. AreStartsOf board.now (string_bytes text)) }
 {

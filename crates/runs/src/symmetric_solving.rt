@@ -7,8 +7,8 @@ ghost use Rattle.proof_text.specs.Images.{elements_of};
 ghost use Rattle.runs.specs.Inside.SolveRun.{IsUnshownUpTo};
 ghost use Rattle.runs.specs.Inside.Symmetries.{AreGiven};
 ghost use Rattle.runs.specs.Run.{TellsStreams, bytes_of, stream_of};
-ghost use Rattle.runs.specs.SymmetricSolveRun.{CannotSolveUpTo, FailsUpTo, IsSolutionUpTo};
-ghost use Rattle.runs.specs.SymmetricSolveRun.{IsSolvedUpTo, RanUpTo};
+ghost use Rattle.runs.specs.SymmetricRun.{FailsUpTo, RanUpTo};
+ghost use Rattle.runs.specs.SymmetricSolveRun.{CannotSolveUpTo, IsSolutionUpTo, IsSolvedUpTo};
 
 use crate::checking::MAX_PROOF_BYTES;
 use crate::class_solving::whole;
@@ -51,11 +51,12 @@ impl Work {
         requires symmetries_ready { S.has_failed symmetries.old ≡ false }
         requires symmetries_unended { S.has_ended symmetries.old ≡ false }
         requires writer_ready { W.has_failed writer.old ≡ false }
-        ensures ok { IfOk result (RanUpTo self.limit side
+        ensures ok { IfOk result (RanUpTo (IsSolutionUpTo side) self.limit
             (bytes_of B.remaining board.old board.new)
             (bytes_of S.remaining symmetries.old symmetries.new)
             (bytes_of W.contents writer.old writer.new)) }
-        ensures fault { IfErr result (FailsUpTo self.limit side (symmetries.new ≡ symmetries.old)
+        ensures fault { IfErr result (FailsUpTo (IsSolutionUpTo side) (CannotSolveUpTo side)
+            self.limit (symmetries.new ≡ symmetries.old)
             (bytes_of B.remaining board.old board.new)
             (bytes_of S.remaining symmetries.old symmetries.new)
             (bytes_of W.contents writer.old writer.new)) }

@@ -18,7 +18,8 @@ use Rattle.board_text.specs.declared.fault.BoardFault.{BoardFault}
 use Rattle.runs.proofs.Cited.{not_wrong, not_wrong_among, one_length, one_report, one_solution, one_verdict, one_wrong}
 use Rattle.runs.proofs.Cited.{class_solution_or_fault, one_class_solution, one_unsolved, one_wrong_among}
 use Rattle.runs.proofs.Cited.{one_side_solution, one_unsolved_for, one_wrong_proof, side_solution_or_fault}
-use Rattle.runs.proofs.Cited.{one_symmetric_solution, one_unsolved_up_to, symmetric_solution_or_fault, verdict_or_fault}
+use Rattle.runs.proofs.Cited.{given_or_lacking, one_lacking, one_report_of, one_starts_of, one_symmetric_solution}
+use Rattle.runs.proofs.Cited.{one_unsolved_up_to, symmetric_solution_or_fault, verdict_or_fault}
 use Rattle.runs.proofs.Cited.{chains_or_fault, one_chain_fault, one_chains, one_starts, wrong_counting}
 use Rattle.runs.specs.ChainText.{CannotCountChains, HasNoChains, SaysChains}
 use Rattle.runs.specs.ClassSolveRun.{CannotSolveByClasses, IsClassSolution, IsUnsolvedByClasses}
@@ -50,7 +51,8 @@ use Rattle.runs.specs.BoardRun.{FailsOn, GaveBoard, GaveBoardAmong, GaveNoBoard,
 use Rattle.serving.specs.Folders.{CanFail, Closed, File, Holds, Unknown}
 use Rattle.serving.specs.FaultLines.{line_of_fault}
 use Rattle.serving.specs.Jobs.{Checks, ChecksJoined, Climbs, Counts, CountsChains, IsDone, Opening, OpeningBoth}
-use Rattle.serving.specs.Jobs.{Plays, Solves, SolvesUpTo, WritesNested, WritesStarts, WritesWhole}
+use Rattle.serving.specs.Jobs.{CountsUpTo, DoesUpTo, Plays, Solves, SolvesUpTo, WritesNested, WritesStarts}
+use Rattle.serving.specs.Jobs.{WritesStartsUpTo, WritesWhole}
 use Rattle.runs.specs.NestedText.{IsNestedText}
 use Rattle.serving.specs.Outcomes.{EndsAs, outcome_of_check, outcome_of_run, status_of}
 use Rattle.runs.specs.Report.{Reports}
@@ -64,6 +66,7 @@ use Rattle.serving.proofs.Untold.{nothing_in_job}
 use Rattle.serving.specs.Servings.{AreKnown, AskForNoExplanation, HaveOwnText}
 use Rattle.runs.specs.SideSolveRun.{CannotSolveFor, IsSideSolution, IsUnsolvedFor}
 use Rattle.runs.specs.SolveRun.{CannotSolve, IsSolution}
+use Rattle.runs.specs.SymmetricRun.{GivesFewOrbits, HasNoFewOrbits, LacksFewOrbits, ReportsUpTo, SaysStartsUpTo}
 use Rattle.runs.specs.SymmetricSolveRun.{CannotSolveUpTo, IsSolutionUpTo, IsUnsolvedUpTo}
 use Rattle.runs.specs.declared.given_symmetries.TheConstants.{MAX_SYMMETRIES_BYTES}
 use Rattle.runs.specs.Texts.{HasNoneAmong, HasNoProof, IsBoardAmong, IsBoardWithin, IsWrongAmong, IsWrongBoard}
@@ -162,6 +165,22 @@ wrong_up_to side board text (Proof fault) h = absurd h
 wrong_up_to side board text Read h = absurd h
 wrong_up_to side board text Write h = absurd h
 wrong_up_to side board text Limit h = absurd h
+
+wrong_orbits : (board : PlainBoard) (text : List ℕ) (fault : RunFault) → HasNoFewOrbits board text fault
+    → (fault ≡ Memory) ⊎ (fault ≡ Worker) ⊎ LacksFewOrbits board text fault
+wrong_orbits board text Memory h = inl refl
+wrong_orbits board text (Symmetries why) h = inr (inr h)
+wrong_orbits board text TooManyOrbits h = inr (inr h)
+wrong_orbits board text DocumentTooLarge h = absurd h
+wrong_orbits board text LastsForever h = absurd h
+wrong_orbits board text Worker h = absurd h
+wrong_orbits board text (Board fault) h = absurd h
+wrong_orbits board text TooLarge h = absurd h
+wrong_orbits board text TooManyChains h = absurd h
+wrong_orbits board text (Proof fault) h = absurd h
+wrong_orbits board text Read h = absurd h
+wrong_orbits board text Write h = absurd h
+wrong_orbits board text Limit h = absurd h
 
 wrong_board : (IsSmall : PlainBoard → Type 0) (text : List ℕ) (fault : RunFault) → HasNoneAmong IsSmall text fault
     → (fault ≡ Memory) ⊎ IsWrongAmong IsSmall text fault
@@ -935,6 +954,45 @@ module _ (at : List ℕ → File) (known : AreKnown at) (input output other_inpu
       (one_unsolved_up_to board is bytes side) (symmetric_solution_or_fault board is bytes side))
       (run_breaks Value) (wrong_up_to side) path second given others
 
+  -- of runs that need few orbits alone
+  two_found : (Says : PlainBoard → List ℕ → Unit {0} → List ℕ → Type 0) (limit : BoardLimit)
+      → ((board : PlainBoard) (bytes : List ℕ) (answer next : Unit {0}) (line more : List ℕ)
+      → Says board bytes answer line → Says board bytes next more → line ≡ more)
+      → ((board : PlainBoard) (bytes : List ℕ) (answer : Unit {0}) (line : List ℕ) → Says board bytes answer line
+      → GivesFewOrbits board bytes)
+      → (path second given others : List ℕ) → path ≡ second → given ≡ others
+      → (outcome ≡ Broken Read → CanFail (at path) ⊎ CanFail (at given)) →
+      (other ≡ Broken Read → CanFail (at second) ⊎ CanFail (at others))
+      → DoesUpTo Says HasNoFewOrbits limit (at path) (at given) output outcome
+      → DoesUpTo Says HasNoFewOrbits limit (at second) (at others) other_output other
+      → AreAlike outcome other output other_output
+  two_found Says limit one_line few path second given others =
+      two_opened (IsWithinUpTo limit) (outcome_of_run {Answer = Unit {0}}) Says HasNoFewOrbits LacksFewOrbits
+      MAX_SYMMETRIES_BYTES
+      (λ board bytes is. one_end outcome_of_run (Says board) (LacksFewOrbits board) MAX_SYMMETRIES_BYTES bytes
+      (λ answer next line more is_so also. (refl, one_line board bytes answer next line more is_so also))
+      (one_lacking board is bytes)
+      (λ answer line fault says lacks. given_or_lacking board is bytes fault (few board bytes answer line says) lacks))
+      (run_breaks (Unit {0})) wrong_orbits path second given others
+
+  two_counted_up_to : (limit : BoardLimit) (path second given others : List ℕ) → path ≡ second → given ≡ others
+      → (outcome ≡ Broken Read → CanFail (at path) ⊎ CanFail (at given)) →
+      (other ≡ Broken Read → CanFail (at second) ⊎ CanFail (at others))
+      → CountsUpTo limit (at path) (at given) output outcome → CountsUpTo limit (at second) (at others) other_output other
+      → AreAlike outcome other output other_output
+  two_counted_up_to limit =
+      two_found ReportsUpTo limit (λ board bytes answer other line more says also. one_report_of board line more says.1 also.1)
+      (λ board bytes answer line says. says.0)
+
+  two_started_up_to : (limit : BoardLimit) (path second given others : List ℕ) → path ≡ second → given ≡ others
+      → (outcome ≡ Broken Read → CanFail (at path) ⊎ CanFail (at given)) →
+      (other ≡ Broken Read → CanFail (at second) ⊎ CanFail (at others))
+      → WritesStartsUpTo limit (at path) (at given) output outcome → WritesStartsUpTo limit (at second) (at others) other_output other
+      → AreAlike outcome other output other_output
+  two_started_up_to limit =
+      two_found SaysStartsUpTo limit (λ board bytes answer other line more says also. one_starts_of board line more says.1 also.1)
+      (λ board bytes answer line says. says.0)
+
   two_nested : (levels pebbles more others : ℕ) → levels ≡ more → pebbles ≡ others
       → WritesNested levels pebbles output outcome → WritesNested more others other_output other
       → AreAlike outcome other output other_output
@@ -1033,9 +1091,9 @@ module _ (at : List ℕ → File) (known : AreKnown at) (input output other_inpu
       absurd (names_differ (codes "check") (codes "nested") refl (sym asks.0 ∙ asks_too.0))
   two_done name rows (jobs.Check b p) (jobs.Solve ow os og oy ob) asks asks_too is also =
       absurd (names_differ (codes "check") (codes "solve") refl (sym asks.0 ∙ asks_too.0))
-  two_done name rows (jobs.Check b p) (jobs.Report ow og ob) asks asks_too is also =
+  two_done name rows (jobs.Check b p) (jobs.Report ow og oy ob) asks asks_too is also =
       absurd (names_differ (codes "check") (codes "report") refl (sym asks.0 ∙ asks_too.0))
-  two_done name rows (jobs.Check b p) (jobs.Starts ow og ob) asks asks_too is also =
+  two_done name rows (jobs.Check b p) (jobs.Starts ow og oy ob) asks asks_too is also =
       absurd (names_differ (codes "check") (codes "starts") refl (sym asks.0 ∙ asks_too.0))
   two_done name rows (jobs.Check b p) (jobs.Chains ow om ob) asks asks_too is also =
       absurd (names_differ (codes "check") (codes "chains") refl (sym asks.0 ∙ asks_too.0))
@@ -1052,9 +1110,9 @@ module _ (at : List ℕ → File) (known : AreKnown at) (input output other_inpu
       is.does.0 also.does.0
   two_done name rows (jobs.Nested l q) (jobs.Solve ow os og oy ob) asks asks_too is also =
       absurd (names_differ (codes "nested") (codes "solve") refl (sym asks.0 ∙ asks_too.0))
-  two_done name rows (jobs.Nested l q) (jobs.Report ow og ob) asks asks_too is also =
+  two_done name rows (jobs.Nested l q) (jobs.Report ow og oy ob) asks asks_too is also =
       absurd (names_differ (codes "nested") (codes "report") refl (sym asks.0 ∙ asks_too.0))
-  two_done name rows (jobs.Nested l q) (jobs.Starts ow og ob) asks asks_too is also =
+  two_done name rows (jobs.Nested l q) (jobs.Starts ow og oy ob) asks asks_too is also =
       absurd (names_differ (codes "nested") (codes "starts") refl (sym asks.0 ∙ asks_too.0))
   two_done name rows (jobs.Nested l q) (jobs.Chains ow om ob) asks asks_too is also =
       absurd (names_differ (codes "nested") (codes "chains") refl (sym asks.0 ∙ asks_too.0))
@@ -1083,9 +1141,9 @@ module _ (at : List ℕ → File) (known : AreKnown at) (input output other_inpu
       (subst (λ t. SolvesUpTo t g (at b.now) (at y.now) output outcome) (same_side rows s os asks.2 asks_too.2)
       is.does.0))
       also.does.0
-  two_done name rows (jobs.Solve w s g y b) (jobs.Report ow og ob) asks asks_too is also =
+  two_done name rows (jobs.Solve w s g y b) (jobs.Report ow og oy ob) asks asks_too is also =
       absurd (names_differ (codes "solve") (codes "report") refl (sym asks.0 ∙ asks_too.0))
-  two_done name rows (jobs.Solve w s g y b) (jobs.Starts ow og ob) asks asks_too is also =
+  two_done name rows (jobs.Solve w s g y b) (jobs.Starts ow og oy ob) asks asks_too is also =
       absurd (names_differ (codes "solve") (codes "starts") refl (sym asks.0 ∙ asks_too.0))
   two_done name rows (jobs.Solve w s g y b) (jobs.Chains ow om ob) asks asks_too is also =
       absurd (names_differ (codes "solve") (codes "chains") refl (sym asks.0 ∙ asks_too.0))
@@ -1093,45 +1151,65 @@ module _ (at : List ℕ → File) (known : AreKnown at) (input output other_inpu
       absurd (names_differ (codes "solve") (codes "play") refl (sym asks.0 ∙ asks_too.0))
   two_done name rows (jobs.Solve w s g y b) (jobs.Climb ol) asks asks_too is also =
       absurd (names_differ (codes "solve") (codes "climb") refl (sym asks.0 ∙ asks_too.0))
-  two_done name rows (jobs.Report w g b) jobs.Joined asks asks_too is also = absurd asks_too
-  two_done name rows (jobs.Report w g b) (jobs.Check ob op) asks asks_too is also =
+  two_done name rows (jobs.Report w g y b) jobs.Joined asks asks_too is also = absurd asks_too
+  two_done name rows (jobs.Report w g y b) (jobs.Check ob op) asks asks_too is also =
       absurd (names_differ (codes "report") (codes "check") refl (sym asks.0 ∙ asks_too.0))
-  two_done name rows (jobs.Report w g b) (jobs.Nested ol oq) asks asks_too is also =
+  two_done name rows (jobs.Report w g y b) (jobs.Nested ol oq) asks asks_too is also =
       absurd (names_differ (codes "report") (codes "nested") refl (sym asks.0 ∙ asks_too.0))
-  two_done name rows (jobs.Report w g b) (jobs.Solve ow os og oy ob) asks asks_too is also =
+  two_done name rows (jobs.Report w g y b) (jobs.Solve ow os og oy ob) asks asks_too is also =
       absurd (names_differ (codes "report") (codes "solve") refl (sym asks.0 ∙ asks_too.0))
-  two_done name rows (jobs.Report w g b) (jobs.Report ow og ob) asks asks_too is also =
-      two_counted w ow og b.now ob.now (same_path _ b.now ob.now asks.3 asks_too.3) is.unread also.unread
+  two_done name rows (jobs.Report w g None b) (jobs.Report ow og None ob) asks asks_too is also =
+      two_counted w ow og b.now ob.now (same_path _ b.now ob.now asks.4 asks_too.4) is.unread also.unread
       (subst (λ l. Counts w l (at b.now) output outcome)
       (same_limit rows g og asks.2 asks_too.2) is.does.0)
       also.does.0
-  two_done name rows (jobs.Report w g b) (jobs.Starts ow og ob) asks asks_too is also =
+  two_done name rows (jobs.Report w g None b) (jobs.Report ow og (Some oy) ob) asks asks_too is also =
+      absurd (no_text (sym asks_too.3 ∙ asks.3))
+  two_done name rows (jobs.Report w g (Some y) b) (jobs.Report ow og None ob) asks asks_too is also =
+      absurd (no_text (sym asks.3 ∙ asks_too.3))
+  two_done name rows (jobs.Report w g (Some y) b) (jobs.Report ow og (Some oy) ob) asks asks_too is also =
+      two_counted_up_to og b.now ob.now y.now oy.now (same_path _ b.now ob.now asks.4 asks_too.4)
+      (same_path _ y.now oy.now asks.3 asks_too.3) is.unread also.unread
+      (subst (λ l. CountsUpTo l (at b.now) (at y.now) output outcome) (same_limit rows g og asks.2 asks_too.2)
+      is.does.0)
+      also.does.0
+  two_done name rows (jobs.Report w g y b) (jobs.Starts ow og oy ob) asks asks_too is also =
       absurd (names_differ (codes "report") (codes "starts") refl (sym asks.0 ∙ asks_too.0))
-  two_done name rows (jobs.Report w g b) (jobs.Chains ow om ob) asks asks_too is also =
+  two_done name rows (jobs.Report w g y b) (jobs.Chains ow om ob) asks asks_too is also =
       absurd (names_differ (codes "report") (codes "chains") refl (sym asks.0 ∙ asks_too.0))
-  two_done name rows (jobs.Report w g b) (jobs.Play os og ob) asks asks_too is also =
+  two_done name rows (jobs.Report w g y b) (jobs.Play os og ob) asks asks_too is also =
       absurd (names_differ (codes "report") (codes "play") refl (sym asks.0 ∙ asks_too.0))
-  two_done name rows (jobs.Report w g b) (jobs.Climb ol) asks asks_too is also =
+  two_done name rows (jobs.Report w g y b) (jobs.Climb ol) asks asks_too is also =
       absurd (names_differ (codes "report") (codes "climb") refl (sym asks.0 ∙ asks_too.0))
-  two_done name rows (jobs.Starts w g b) jobs.Joined asks asks_too is also = absurd asks_too
-  two_done name rows (jobs.Starts w g b) (jobs.Check ob op) asks asks_too is also =
+  two_done name rows (jobs.Starts w g y b) jobs.Joined asks asks_too is also = absurd asks_too
+  two_done name rows (jobs.Starts w g y b) (jobs.Check ob op) asks asks_too is also =
       absurd (names_differ (codes "starts") (codes "check") refl (sym asks.0 ∙ asks_too.0))
-  two_done name rows (jobs.Starts w g b) (jobs.Nested ol oq) asks asks_too is also =
+  two_done name rows (jobs.Starts w g y b) (jobs.Nested ol oq) asks asks_too is also =
       absurd (names_differ (codes "starts") (codes "nested") refl (sym asks.0 ∙ asks_too.0))
-  two_done name rows (jobs.Starts w g b) (jobs.Solve ow os og oy ob) asks asks_too is also =
+  two_done name rows (jobs.Starts w g y b) (jobs.Solve ow os og oy ob) asks asks_too is also =
       absurd (names_differ (codes "starts") (codes "solve") refl (sym asks.0 ∙ asks_too.0))
-  two_done name rows (jobs.Starts w g b) (jobs.Report ow og ob) asks asks_too is also =
+  two_done name rows (jobs.Starts w g y b) (jobs.Report ow og oy ob) asks asks_too is also =
       absurd (names_differ (codes "starts") (codes "report") refl (sym asks.0 ∙ asks_too.0))
-  two_done name rows (jobs.Starts w g b) (jobs.Starts ow og ob) asks asks_too is also =
-      two_started w ow og b.now ob.now (same_path _ b.now ob.now asks.3 asks_too.3) is.unread also.unread
+  two_done name rows (jobs.Starts w g None b) (jobs.Starts ow og None ob) asks asks_too is also =
+      two_started w ow og b.now ob.now (same_path _ b.now ob.now asks.4 asks_too.4) is.unread also.unread
       (subst (λ l. WritesStarts w l (at b.now) output outcome)
       (same_limit rows g og asks.2 asks_too.2) is.does.0)
       also.does.0
-  two_done name rows (jobs.Starts w g b) (jobs.Chains ow om ob) asks asks_too is also =
+  two_done name rows (jobs.Starts w g None b) (jobs.Starts ow og (Some oy) ob) asks asks_too is also =
+      absurd (no_text (sym asks_too.3 ∙ asks.3))
+  two_done name rows (jobs.Starts w g (Some y) b) (jobs.Starts ow og None ob) asks asks_too is also =
+      absurd (no_text (sym asks.3 ∙ asks_too.3))
+  two_done name rows (jobs.Starts w g (Some y) b) (jobs.Starts ow og (Some oy) ob) asks asks_too is also =
+      two_started_up_to og b.now ob.now y.now oy.now (same_path _ b.now ob.now asks.4 asks_too.4)
+      (same_path _ y.now oy.now asks.3 asks_too.3) is.unread also.unread
+      (subst (λ l. WritesStartsUpTo l (at b.now) (at y.now) output outcome) (same_limit rows g og asks.2 asks_too.2)
+      is.does.0)
+      also.does.0
+  two_done name rows (jobs.Starts w g y b) (jobs.Chains ow om ob) asks asks_too is also =
       absurd (names_differ (codes "starts") (codes "chains") refl (sym asks.0 ∙ asks_too.0))
-  two_done name rows (jobs.Starts w g b) (jobs.Play os og ob) asks asks_too is also =
+  two_done name rows (jobs.Starts w g y b) (jobs.Play os og ob) asks asks_too is also =
       absurd (names_differ (codes "starts") (codes "play") refl (sym asks.0 ∙ asks_too.0))
-  two_done name rows (jobs.Starts w g b) (jobs.Climb ol) asks asks_too is also =
+  two_done name rows (jobs.Starts w g y b) (jobs.Climb ol) asks asks_too is also =
       absurd (names_differ (codes "starts") (codes "climb") refl (sym asks.0 ∙ asks_too.0))
   two_done name rows (jobs.Chains w m b) jobs.Joined asks asks_too is also = absurd asks_too
   two_done name rows (jobs.Chains w m b) (jobs.Check ob op) asks asks_too is also =
@@ -1140,9 +1218,9 @@ module _ (at : List ℕ → File) (known : AreKnown at) (input output other_inpu
       absurd (names_differ (codes "chains") (codes "nested") refl (sym asks.0 ∙ asks_too.0))
   two_done name rows (jobs.Chains w m b) (jobs.Solve ow os og oy ob) asks asks_too is also =
       absurd (names_differ (codes "chains") (codes "solve") refl (sym asks.0 ∙ asks_too.0))
-  two_done name rows (jobs.Chains w m b) (jobs.Report ow og ob) asks asks_too is also =
+  two_done name rows (jobs.Chains w m b) (jobs.Report ow og oy ob) asks asks_too is also =
       absurd (names_differ (codes "chains") (codes "report") refl (sym asks.0 ∙ asks_too.0))
-  two_done name rows (jobs.Chains w m b) (jobs.Starts ow og ob) asks asks_too is also =
+  two_done name rows (jobs.Chains w m b) (jobs.Starts ow og oy ob) asks asks_too is also =
       absurd (names_differ (codes "chains") (codes "starts") refl (sym asks.0 ∙ asks_too.0))
   two_done name rows (jobs.Chains w m b) (jobs.Chains ow om ob) asks asks_too is also =
       two_chains m om b.now ob.now (same_number rows (codes "most") _ m om asks.2 asks_too.2)
@@ -1158,9 +1236,9 @@ module _ (at : List ℕ → File) (known : AreKnown at) (input output other_inpu
       absurd (names_differ (codes "play") (codes "nested") refl (sym asks.0 ∙ asks_too.0))
   two_done name rows (jobs.Play s g b) (jobs.Solve ow os og oy ob) asks asks_too is also =
       absurd (names_differ (codes "play") (codes "solve") refl (sym asks.0 ∙ asks_too.0))
-  two_done name rows (jobs.Play s g b) (jobs.Report ow og ob) asks asks_too is also =
+  two_done name rows (jobs.Play s g b) (jobs.Report ow og oy ob) asks asks_too is also =
       absurd (names_differ (codes "play") (codes "report") refl (sym asks.0 ∙ asks_too.0))
-  two_done name rows (jobs.Play s g b) (jobs.Starts ow og ob) asks asks_too is also =
+  two_done name rows (jobs.Play s g b) (jobs.Starts ow og oy ob) asks asks_too is also =
       absurd (names_differ (codes "play") (codes "starts") refl (sym asks.0 ∙ asks_too.0))
   two_done name rows (jobs.Play s g b) (jobs.Chains ow om ob) asks asks_too is also =
       absurd (names_differ (codes "play") (codes "chains") refl (sym asks.0 ∙ asks_too.0))
@@ -1179,9 +1257,9 @@ module _ (at : List ℕ → File) (known : AreKnown at) (input output other_inpu
       absurd (names_differ (codes "climb") (codes "nested") refl (sym asks.0 ∙ asks_too.0))
   two_done name rows (jobs.Climb l) (jobs.Solve ow os og oy ob) asks asks_too is also =
       absurd (names_differ (codes "climb") (codes "solve") refl (sym asks.0 ∙ asks_too.0))
-  two_done name rows (jobs.Climb l) (jobs.Report ow og ob) asks asks_too is also =
+  two_done name rows (jobs.Climb l) (jobs.Report ow og oy ob) asks asks_too is also =
       absurd (names_differ (codes "climb") (codes "report") refl (sym asks.0 ∙ asks_too.0))
-  two_done name rows (jobs.Climb l) (jobs.Starts ow og ob) asks asks_too is also =
+  two_done name rows (jobs.Climb l) (jobs.Starts ow og oy ob) asks asks_too is also =
       absurd (names_differ (codes "climb") (codes "starts") refl (sym asks.0 ∙ asks_too.0))
   two_done name rows (jobs.Climb l) (jobs.Chains ow om ob) asks asks_too is also =
       absurd (names_differ (codes "climb") (codes "chains") refl (sym asks.0 ∙ asks_too.0))
@@ -1301,8 +1379,8 @@ typed_by_name name rows jobs.Joined asks = absurd asks
 typed_by_name name rows (jobs.Check b p) asks = rw asks.0 refl
 typed_by_name name rows (jobs.Nested l p) asks = rw asks.0 refl
 typed_by_name name rows (jobs.Solve w s g y b) asks = rw asks.0 refl
-typed_by_name name rows (jobs.Report w g b) asks = rw asks.0 refl
-typed_by_name name rows (jobs.Starts w g b) asks = rw asks.0 refl
+typed_by_name name rows (jobs.Report w g y b) asks = rw asks.0 refl
+typed_by_name name rows (jobs.Starts w g y b) asks = rw asks.0 refl
 typed_by_name name rows (jobs.Chains w m b) asks = rw asks.0 refl
 typed_by_name name rows (jobs.Play s g b) asks = rw asks.0 refl
 typed_by_name name rows (jobs.Climb l) asks = rw asks.0 refl

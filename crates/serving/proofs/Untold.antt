@@ -111,8 +111,10 @@ module _ (at : List ℕ → File) (terminals : Terminals) (off : terminals.error
   nothing_in_job (Nested levels pebbles) told is = is
   nothing_in_job (Solve workers side limit None board) told is = size_untold limit (at board.now) told is
   nothing_in_job (Solve workers side limit (Some symmetries) board) told is = is
-  nothing_in_job (Report workers limit board) told is = size_untold limit (at board.now) told is
-  nothing_in_job (Starts workers limit board) told is = size_untold limit (at board.now) told is
+  nothing_in_job (Report workers limit None board) told is = size_untold limit (at board.now) told is
+  nothing_in_job (Report workers limit (Some symmetries) board) told is = is
+  nothing_in_job (Starts workers limit None board) told is = size_untold limit (at board.now) told is
+  nothing_in_job (Starts workers limit (Some symmetries) board) told is = is
   nothing_in_job (Chains workers most board) told is =
       unopened {Answer = Unit {0}} (at board.now) (λ read. IsToldOfChains most read terminals.errors) outcome told
       (λ read result tells. no_lengths most read terminals.errors off result told tells) is

@@ -17,8 +17,10 @@ use Rattle.runs.specs.StartText.{SaysStarts}
 use Rattle.runs.specs.Run.{Bytes, Fails, Ran, Stream, Wrote, WrotePrefix}
 use Rattle.runs.specs.LimitedSolveRun.{CannotSolveWithin, SolutionWithin}
 use Rattle.runs.specs.SolveRun.{CannotSolve}
-use Rattle.runs.specs.SymmetricSolveRun.{FailsUpTo, RanUpTo}
+use Rattle.runs.specs.SymmetricRun.{FailsUpTo, HasNoFewOrbits, RanUpTo, ReportsUpTo, SaysStartsUpTo}
+use Rattle.runs.specs.SymmetricSolveRun.{CannotSolveUpTo, IsSolutionUpTo}
 use Rattle.runs.specs.Verdicts.{CannotAnswer, IsAnswered}
+use Rattle.board_text.specs.PlainBoard.{PlainBoard}
 use Rattle.command_line.specs.declared.asked.BoardLimit.{BoardLimit}
 use Rattle.runs.specs.declared.checking.TheConstants.{MAX_JOINED_BYTES, MAX_PROOF_BYTES}
 use Rattle.runs.specs.declared.reading.TheConstants.{MAX_BOARD_BYTES}
@@ -68,14 +70,28 @@ Checks board proof output outcome =
     (CheckFails MAX_BOARD_BYTES MAX_PROOF_BYTES (p.new ≡ p.old) b p output.bytes)) outcome
     × WritesWhole output outcome
 
--- both files were opened, and the board was solved up to the symmetries, for the side alone or for
--- both; or one can't be opened
-abbrev pub SolvesUpTo : Option Side → BoardLimit → File → File → Stream → Outcome → Type 0
-SolvesUpTo side limit board symmetries output outcome =
+-- both files were opened, and for the board and its symmetries this was written; or one can't be
+-- opened
+abbrev pub DoesUpTo : {Answer : Type 0} → (PlainBoard → List ℕ → Answer → List ℕ → Type 0)
+    → (PlainBoard → List ℕ → RunFault → Type 0) → BoardLimit → File → File → Stream → Outcome
+    → Type 0
+DoesUpTo Says SaysNothing limit board symmetries output outcome =
     OpeningBoth board symmetries (λ b s. EndsAs outcome_of_run
-    (RanUpTo limit side b s output.bytes)
-    (FailsUpTo limit side (s.new ≡ s.old) b s output.bytes)) outcome
+    (RanUpTo Says limit b s output.bytes)
+    (FailsUpTo Says SaysNothing limit (s.new ≡ s.old) b s output.bytes)) outcome
     × WritesWhole output outcome
+
+-- the board was solved up to the symmetries, for the side alone or for both
+abbrev pub SolvesUpTo : Option Side → BoardLimit → File → File → Stream → Outcome → Type 0
+SolvesUpTo side = DoesUpTo (IsSolutionUpTo side) (CannotSolveUpTo side)
+
+-- its values were counted up to these
+abbrev pub CountsUpTo : BoardLimit → File → File → Stream → Outcome → Type 0
+CountsUpTo = DoesUpTo ReportsUpTo HasNoFewOrbits
+
+-- its starts were written, with values up to these
+abbrev pub WritesStartsUpTo : BoardLimit → File → File → Stream → Outcome → Type 0
+WritesStartsUpTo = DoesUpTo SaysStartsUpTo HasNoFewOrbits
 
 -- the board was solved by this number of workers, for the side alone or for both
 abbrev pub Solves : ℕ → Option Side → BoardLimit → File → Stream → Outcome → Type 0
@@ -147,10 +163,14 @@ module _ (at : List ℕ → File) (input output : Stream) where
       Solves workers side limit (at board.now) output outcome × input.IsKept
   DoesJob (Solve workers side limit (Some symmetries) board) outcome =
       SolvesUpTo side limit (at board.now) (at symmetries.now) output outcome × input.IsKept
-  DoesJob (Report workers limit board) outcome =
+  DoesJob (Report workers limit None board) outcome =
       Counts workers limit (at board.now) output outcome × input.IsKept
-  DoesJob (Starts workers limit board) outcome =
+  DoesJob (Report workers limit (Some symmetries) board) outcome =
+      CountsUpTo limit (at board.now) (at symmetries.now) output outcome × input.IsKept
+  DoesJob (Starts workers limit None board) outcome =
       WritesStarts workers limit (at board.now) output outcome × input.IsKept
+  DoesJob (Starts workers limit (Some symmetries) board) outcome =
+      WritesStartsUpTo limit (at board.now) (at symmetries.now) output outcome × input.IsKept
   DoesJob (Chains workers most board) outcome =
       CountsChains most (at board.now) output outcome × input.IsKept
   DoesJob (Play side limit board) outcome = Plays side limit (at board.now) input output outcome
@@ -164,8 +184,12 @@ module _ (at : List ℕ → File) (input output : Stream) where
   CanBeUnread (Solve workers side limit None board) = CanFail (at board.now)
   CanBeUnread (Solve workers side limit (Some symmetries) board) =
       CanFail (at board.now) ⊎ CanFail (at symmetries.now)
-  CanBeUnread (Report workers limit board) = CanFail (at board.now)
-  CanBeUnread (Starts workers limit board) = CanFail (at board.now)
+  CanBeUnread (Report workers limit None board) = CanFail (at board.now)
+  CanBeUnread (Report workers limit (Some symmetries) board) =
+      CanFail (at board.now) ⊎ CanFail (at symmetries.now)
+  CanBeUnread (Starts workers limit None board) = CanFail (at board.now)
+  CanBeUnread (Starts workers limit (Some symmetries) board) =
+      CanFail (at board.now) ⊎ CanFail (at symmetries.now)
   CanBeUnread (Chains workers most board) = CanFail (at board.now)
   CanBeUnread (Play side limit board) = CanFail (at board.now) ⊎ input.HasFailed
   CanBeUnread (Climb levels) = input.HasFailed

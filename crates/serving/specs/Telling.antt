@@ -96,10 +96,14 @@ module _ (at : List ℕ → File) (terminals : Terminals) (input output : Stream
       OpensAndTells {Answer = Value} (at board.now)
       (λ read. IsNoticedInRun limit read terminals.errors) outcome told
   IsToldInJob (Solve workers side limit (Some symmetries) board) told = told ≡ []
-  IsToldInJob (Report workers limit board) told = OpensAndTells {Answer = Unit {0}} (at board.now)
+  IsToldInJob (Report workers limit None board) told =
+      OpensAndTells {Answer = Unit {0}} (at board.now)
       (λ read. IsNoticedInRun limit read terminals.errors) outcome told
-  IsToldInJob (Starts workers limit board) told = OpensAndTells {Answer = Unit {0}} (at board.now)
+  IsToldInJob (Report workers limit (Some symmetries) board) told = told ≡ []
+  IsToldInJob (Starts workers limit None board) told =
+      OpensAndTells {Answer = Unit {0}} (at board.now)
       (λ read. IsNoticedInRun limit read terminals.errors) outcome told
+  IsToldInJob (Starts workers limit (Some symmetries) board) told = told ≡ []
   IsToldInJob (Chains workers most board) told =
       OpensAndTells {Answer = Unit {0}} (at board.now)
       (λ read. IsToldOfChains most read terminals.errors) outcome told

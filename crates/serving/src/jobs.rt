@@ -14,8 +14,8 @@ ghost use Rattle.runs.specs.Run.{bytes_of, stream_of};
 ghost use Rattle.serving.specs.Consoles.{IsReady};
 ghost use Rattle.serving.specs.Folders.{CanFail};
 ghost use Rattle.serving.specs.Jobs.{IsDone, Checks, ChecksJoined, Climbs, Counts, CountsChains};
-ghost use Rattle.serving.specs.Jobs.{Plays, Solves, SolvesUpTo};
-ghost use Rattle.serving.specs.Jobs.{TellsReads, TellsWrites, WritesNested, WritesStarts};
+ghost use Rattle.serving.specs.Jobs.{CountsUpTo, Plays, Solves, SolvesUpTo, TellsReads};
+ghost use Rattle.serving.specs.Jobs.{TellsWrites, WritesNested, WritesStarts, WritesStartsUpTo};
 ghost use Rattle.serving.specs.Telling.{IsToldInClimb, IsToldInJob, IsToldOfFiles, IsToldOfJoined};
 ghost use Rattle.serving.specs.Telling.{OpensAndTells, joined_greeting};
 ghost use Rattle.serving.specs.Telling.{rows_line, rows_told};
@@ -91,6 +91,26 @@ impl<'a> Ended<'a> {
         let text = Origin::board(path, reader.text(), reader.count(), trouble);
         Ended::of(outcome, &Inputs::alone(limit, text, text))
     }
+
+    /// The end of a job over the board at a path, within the `limit`, and the `symmetries` at
+    /// another, as far as the readers gave them.
+    fn up_to<F: Folder>(
+        outcome: Outcome,
+        limit: BoardLimit,
+        files: &Files<'_, F>,
+        board: (&'a str, &Watched<F::Reader>),
+        symmetries: (&'a str, &Watched<F::Reader>),
+    ) -> Ended<'a>
+        ensures { result.outcome ≡ outcome }
+    {
+        let (path, reader) = board;
+        let trouble = files.trouble_of(path, reader);
+        let first = Origin::board(path, reader.text(), reader.count(), trouble);
+        let (path, reader) = symmetries;
+        let trouble = files.trouble_of(path, reader);
+        let second = Origin::symmetries(path, reader.text(), reader.count(), trouble);
+        Ended::of(outcome, &Inputs::with_symmetries(limit, first, second))
+    }
 }
 
 /// Does the job, and says how it ended.
@@ -147,6 +167,7 @@ pub(crate) fn carry_out<'a, F: Folder, I: Source, O: Sink, E: Sink>(
         Job::Report {
             workers,
             limit,
+            symmetries,
             board,
         } => {
             let work = Work {
@@ -154,11 +175,17 @@ pub(crate) fn carry_out<'a, F: Folder, I: Source, O: Sink, E: Sink>(
                 limit,
                 shows_size,
             };
-            report(rt, alloc, work, files, board, console)
+            match symmetries {
+                None => report(rt, alloc, work, files, board, console),
+                Some(given) => {
+                    report_up_to(alloc, work, files, board, given, &mut console.output)
+                }
+            }
         }
         Job::Starts {
             workers,
             limit,
+            symmetries,
             board,
         } => {
             let work = Work {
@@ -166,7 +193,12 @@ pub(crate) fn carry_out<'a, F: Folder, I: Source, O: Sink, E: Sink>(
                 limit,
                 shows_size,
             };
-            starts(rt, alloc, work, files, board, console)
+            match symmetries {
+                None => starts(rt, alloc, work, files, board, console),
+                Some(given) => {
+                    starts_up_to(alloc, work, files, board, given, &mut console.output)
+                }
+            }
         }
         Job::Chains {
             workers,
@@ -386,12 +418,14 @@ fn solve_up_to<'a, F: Folder, O: Sink>(
         return Ended::unopened(files, symmetries);
     };
     let solved = work.solve_up_to_symmetries(rt, alloc, side, &mut reader, &mut other, output);
-    let trouble = files.trouble_of(board, &reader);
-    let first = Origin::board(board, reader.text(), reader.count(), trouble);
-    let trouble = files.trouble_of(symmetries, &other);
-    let second = Origin::symmetries(symmetries, other.text(), other.count(), trouble);
-    let inputs = Inputs::with_symmetries(work.limit, first, second);
-    Ended::of(Outcome::of_run(solved), &inputs)
+    let outcome = Outcome::of_run(solved);
+    Ended::up_to(
+        outcome,
+        work.limit,
+        files,
+        (board, &reader),
+        (symmetries, &other),
+    )
 }
 
 /// Reports on the board at a path.
@@ -429,6 +463,43 @@ fn report<'a, F: Folder, I: Source, O: Sink, E: Sink>(
     Ended::of_board(Outcome::of_run(done), work.limit, files, board, &reader)
 }
 
+/// Reports on the board at a path, with values up to the symmetries at another. Both are opened
+/// before one is read.
+fn report_up_to<'a, F: Folder, O: Sink>(
+    alloc: Global,
+    work: Work,
+    files: &Files<'_, F>,
+    board: &'a str,
+    symmetries: &'a str,
+    output: &mut O,
+) -> Ended<'a>
+    requires { O.has_failed output.old ≡ false }
+    ensures done { CountsUpTo work.limit (F.at files.now.folder.now board.now)
+        (F.at files.now.folder.now symmetries.now)
+        (stream_of O.contents O.has_failed output.old output.new) result.outcome }
+    ensures writes { TellsWrites (stream_of O.contents O.has_failed output.old output.new)
+        result.outcome }
+    ensures unread { result.outcome ≡ Broken Read
+        → CanFail (F.at files.now.folder.now board.now)
+        ⊎ CanFail (F.at files.now.folder.now symmetries.now) }
+{
+    let Ok(mut reader) = files.open(alloc, board) else {
+        return Ended::unopened(files, board);
+    };
+    let Ok(mut other) = files.open(alloc, symmetries) else {
+        return Ended::unopened(files, symmetries);
+    };
+    let done = work.report_up_to_symmetries(alloc, &mut reader, &mut other, output);
+    let outcome = Outcome::of_run(done);
+    Ended::up_to(
+        outcome,
+        work.limit,
+        files,
+        (board, &reader),
+        (symmetries, &other),
+    )
+}
+
 /// Writes the starts of the board at a path.
 fn starts<'a, F: Folder, I: Source, O: Sink, E: Sink>(
     rt: &(impl Threads + Wait + Sync),
@@ -462,6 +533,43 @@ fn starts<'a, F: Folder, I: Source, O: Sink, E: Sink>(
         &mut console.errors,
     );
     Ended::of_board(Outcome::of_run(done), work.limit, files, board, &reader)
+}
+
+/// Writes the starts of the board at a path, with values up to the symmetries at another. Both are
+/// opened before one is read.
+fn starts_up_to<'a, F: Folder, O: Sink>(
+    alloc: Global,
+    work: Work,
+    files: &Files<'_, F>,
+    board: &'a str,
+    symmetries: &'a str,
+    output: &mut O,
+) -> Ended<'a>
+    requires { O.has_failed output.old ≡ false }
+    ensures done { WritesStartsUpTo work.limit (F.at files.now.folder.now board.now)
+        (F.at files.now.folder.now symmetries.now)
+        (stream_of O.contents O.has_failed output.old output.new) result.outcome }
+    ensures writes { TellsWrites (stream_of O.contents O.has_failed output.old output.new)
+        result.outcome }
+    ensures unread { result.outcome ≡ Broken Read
+        → CanFail (F.at files.now.folder.now board.now)
+        ⊎ CanFail (F.at files.now.folder.now symmetries.now) }
+{
+    let Ok(mut reader) = files.open(alloc, board) else {
+        return Ended::unopened(files, board);
+    };
+    let Ok(mut other) = files.open(alloc, symmetries) else {
+        return Ended::unopened(files, symmetries);
+    };
+    let done = work.starts_up_to_symmetries(alloc, &mut reader, &mut other, output);
+    let outcome = Outcome::of_run(done);
+    Ended::up_to(
+        outcome,
+        work.limit,
+        files,
+        (board, &reader),
+        (symmetries, &other),
+    )
 }
 
 /// Counts the chains of the board at a path.

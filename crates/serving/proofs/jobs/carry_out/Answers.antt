@@ -66,22 +66,42 @@ returns-in-Some-clause-done g c =
       unread = run.unread;
     }
 
-pub returns-in-Report-clause-done : goal.returns-in-Report-clause-done
-returns-in-Report-clause-done g c =
-    rw c.in-Report.is record {
+pub returns-in-None-symmetries-clause-done : goal.returns-in-None-symmetries-clause-done
+returns-in-None-symmetries-clause-done g c =
+    rw (c.in-Report.is, c.in-None-symmetries.is) record {
       does = (c.report.ensures.done, c.report.ensures.kept);
       writes = c.report.ensures.writes;
       reads = (λ failed. absurd (true≢false (sym (rw c.report.ensures.kept at failed) ∙ c.requires.ready.input)));
       unread = c.report.ensures.unread;
     }
 
-pub returns-in-Starts-clause-done : goal.returns-in-Starts-clause-done
-returns-in-Starts-clause-done g c =
-    rw c.in-Starts.is record {
+pub returns-in-Some-symmetries-clause-done : goal.returns-in-Some-symmetries-clause-done
+returns-in-Some-symmetries-clause-done g c =
+    let run = c.report_up_to.ensures in
+    rw (c.in-Report.is, c.in-Some-symmetries.is) record {
+      does = (run.done, refl);
+      writes = run.writes;
+      reads = (λ failed. absurd (true≢false (sym failed ∙ c.requires.ready.input)));
+      unread = run.unread;
+    }
+
+pub returns-in-None-symmetries-2-clause-done : goal.returns-in-None-symmetries-2-clause-done
+returns-in-None-symmetries-2-clause-done g c =
+    rw (c.in-Starts.is, c.in-None-symmetries-2.is) record {
       does = (c.starts.ensures.done, c.starts.ensures.kept);
       writes = c.starts.ensures.writes;
       reads = (λ failed. absurd (true≢false (sym (rw c.starts.ensures.kept at failed) ∙ c.requires.ready.input)));
       unread = c.starts.ensures.unread;
+    }
+
+pub returns-in-Some-symmetries-2-clause-done : goal.returns-in-Some-symmetries-2-clause-done
+returns-in-Some-symmetries-2-clause-done g c =
+    let run = c.starts_up_to.ensures in
+    rw (c.in-Starts.is, c.in-Some-symmetries-2.is) record {
+      does = (run.done, refl);
+      writes = run.writes;
+      reads = (λ failed. absurd (true≢false (sym failed ∙ c.requires.ready.input)));
+      unread = run.unread;
     }
 
 pub returns-in-Chains-clause-done : goal.returns-in-Chains-clause-done
@@ -114,11 +134,21 @@ returns-in-Some-clause-told g c =
     rw (c.in-Solve.is, c.in-Some.is)
     ([], refl, none_more g.E.Sink.contents g.E.Sink.has_failed c.args.console.now.errors)
 
-pub returns-in-Report-clause-told : goal.returns-in-Report-clause-told
-returns-in-Report-clause-told g c = rw c.in-Report.is c.report.ensures.told
+pub returns-in-None-symmetries-clause-told : goal.returns-in-None-symmetries-clause-told
+returns-in-None-symmetries-clause-told g c = rw (c.in-Report.is, c.in-None-symmetries.is) c.report.ensures.told
 
-pub returns-in-Starts-clause-told : goal.returns-in-Starts-clause-told
-returns-in-Starts-clause-told g c = rw c.in-Starts.is c.starts.ensures.told
+pub returns-in-Some-symmetries-clause-told : goal.returns-in-Some-symmetries-clause-told
+returns-in-Some-symmetries-clause-told g c =
+    rw (c.in-Report.is, c.in-Some-symmetries.is)
+    ([], refl, none_more g.E.Sink.contents g.E.Sink.has_failed c.args.console.now.errors)
+
+pub returns-in-None-symmetries-2-clause-told : goal.returns-in-None-symmetries-2-clause-told
+returns-in-None-symmetries-2-clause-told g c = rw (c.in-Starts.is, c.in-None-symmetries-2.is) c.starts.ensures.told
+
+pub returns-in-Some-symmetries-2-clause-told : goal.returns-in-Some-symmetries-2-clause-told
+returns-in-Some-symmetries-2-clause-told g c =
+    rw (c.in-Starts.is, c.in-Some-symmetries-2.is)
+    ([], refl, none_more g.E.Sink.contents g.E.Sink.has_failed c.args.console.now.errors)
 
 pub returns-in-Play-clause-told : goal.returns-in-Play-clause-told
 returns-in-Play-clause-told g c = rw (c.in-Play.is, ← c.are_both.ensures) c.play.ensures.told

@@ -18,14 +18,14 @@ returns-clause-done g c =
     (λ s board. Fails (IsSolutionUpTo side board) (CannotSolveUpTo side board) MAX_SYMMETRIES_BYTES s output.bytes)
     (g.F.Folder.at c.args.files.now.folder.now c.args.board.now)
     (g.F.Folder.at c.args.files.now.folder.now c.args.symmetries.now) _ _ c.in-Ok.ensures.opened
-    c.in-Ok-open.ensures.opened output c.solve_up_to_symmetries-solved.result c.of.result.outcome
-    (c.of.ensures ∙ c.of_run.ensures) c.solve_up_to_symmetries-solved.ensures.ok _ (λ same. rw same refl)
+    c.in-Ok-open.ensures.opened output c.solve_up_to_symmetries-solved.result c.up_to.result.outcome
+    (c.up_to.ensures ∙ c.of_run-outcome.ensures) c.solve_up_to_symmetries-solved.ensures.ok _ (λ same. rw same refl)
     c.solve_up_to_symmetries-solved.ensures.fault c.solve_up_to_symmetries-solved.ensures.streams.unwritten
 
 pub returns-clause-unread : goal.returns-clause-unread
 returns-clause-unread g c broke =
-    elim ((told_as outcome_of_run broken_run c.solve_up_to_symmetries-solved.result c.of.result.outcome
-    (c.of.ensures ∙ c.of_run.ensures) Read refl
+    elim ((told_as outcome_of_run broken_run c.solve_up_to_symmetries-solved.result c.up_to.result.outcome
+    (c.up_to.ensures ∙ c.of_run-outcome.ensures) Read refl
     _ c.solve_up_to_symmetries-solved.ensures.streams.failures.read).1 broke) [
       | inl first ↦ inl (c.in-Ok.ensures.sound _ first)
       | inr second ↦ inr (c.in-Ok-open.ensures.sound _ second)

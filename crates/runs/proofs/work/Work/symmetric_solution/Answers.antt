@@ -1,13 +1,15 @@
 use Rattle.std.proofs.lemmas.Result.{IfErr-weaker, IfOk-weaker, err_from_is_err_and}
 use Rattle.runs.proofs.GivenSymmetries.{given_group, maps_of, spells_few, too_many_orbits, unshown_up_to}
-use Rattle.runs.proofs.GivenSymmetries.{without_symmetries}
+use Rattle.runs.proofs.GivenSymmetries.{without_symmetries, without_values}
 use Rattle.runs.proofs.work.Work.symmetric_solution.Goals as goal
 
 pub returns-in_err-symmetries-clause-fault : goal.returns-in_err-symmetries-clause-fault
 returns-in_err-symmetries-clause-fault g c =
     let p = err_from_is_err_and c.from_residual.result c.from_residual.ensures.1 in
-    rw (p.1, p.2) (without_symmetries c.args.board.now c.requires.board c.args.text.now c.args.side
-    c.in_err-symmetries.field-0.0 c.in_err-symmetries.ensures.fault)
+    let board = c.args.board.now in
+    rw (p.1, p.2) (without_values board c.requires.board c.args.text.now c.args.side c.in_err-symmetries.field-0.0
+    (without_symmetries board c.requires.board c.args.text.now c.in_err-symmetries.field-0.0
+    c.in_err-symmetries.ensures.fault))
 
 pub of-requires : goal.of-requires
 of-requires g c =
@@ -17,9 +19,10 @@ of-requires g c =
 pub returns-in_err-values-clause-fault : goal.returns-in_err-values-clause-fault
 returns-in_err-values-clause-fault g c =
     let p = err_from_is_err_and c.from_residual-in_err-values.result c.from_residual-in_err-values.ensures.1 in
-    rw p.1 (too_many_orbits c.args.board.now c.requires.board c.args.text.now c.args.side
-    c.in_ok-symmetries.symmetries c.in_err-values.field-0.0 _ c.in_ok-symmetries.ensures.found p.2
-    c.in_err-values.ensures.values)
+    let board = c.args.board.now in
+    rw p.1 (without_values board c.requires.board c.args.text.now c.args.side _
+    (too_many_orbits board c.requires.board c.args.text.now c.in_ok-symmetries.symmetries
+    c.in_err-values.field-0.0 _ c.in_ok-symmetries.ensures.found p.2 c.in_err-values.ensures.values))
 
 pub solution_up_to-requires-clause-given : goal.solution_up_to-requires-clause-given
 solution_up_to-requires-clause-given g c = λ lifetimes lives.
