@@ -81,7 +81,8 @@ def up_to_symmetries(work):
     lines = ['symmetries 2', *(' '.join(map(str, ('map', *each))) for each in images)]
     maps = written(work, 'alone.maps', '\n'.join([*lines, 'end', '']).encode())
     yield check('a board of too many gaps', TOO_LARGE, ['solve', '--large', path])
-    yield check('a board of too many gaps up to symmetries', Ran(output=alone_up_to_symmetries(lines)), ['solve', '--large', '--symmetries', maps, path])
+    yield check('a board of too many gaps up to symmetries', Ran(output=alone_up_to_symmetries(lines)),
+                ['solve', '--large', '--symmetries', maps, path])
 
 
 def by_laws(work):
@@ -107,7 +108,12 @@ def checks(work):
     for workers in '1', '16':
         yield check(f'the report of a long chain, as a large board, with {workers} workers', Ran(output=chain_report(*LONG_CHAIN)),
                     ['report', '--large', '--workers', workers, chain])
+    none = written(work, 'none.maps', b'symmetries 0\nend\n')
+    yield check('the report of a long chain up to no symmetries', Ran(output=chain_report(*LONG_CHAIN)),
+                ['report', '--large', '--symmetries', none, chain])
     for side, (lines, transcript) in LARGE_PLAYS.items():
+        yield check(f'a play on a long chain up to no symmetries as the {side}', Ran(output=transcript),
+                    ['play', '--large', '--symmetries', none, '--side', side, chain], input=lines)
         yield check(f'a play on a long chain as the {side}', TOO_LARGE, ['play', '--side', side, chain], input=lines)
         yield check(f'a play on a long chain as the {side}, as a large board', Ran(output=transcript),
                     ['play', '--large', '--side', side, chain], input=lines)

@@ -492,8 +492,8 @@ def of_words(work):
             (['check', '--workers', '2', CHAIN, CHAIN], 'only `solve`, `report`, `starts` and `chains` have `--workers`'),
             (['solve', '--most', '3', CHAIN], 'only `chains` has `--most`'), (['starts', '--most', '3', CHAIN], 'only `chains` has `--most`'), (['report', '--most=3', CHAIN], 'only `chains` has `--most`'),
             (['report', '--side', 'labeller', CHAIN], 'only `solve` and `play` have `--side`'), (['climb', '--side=adversary', '3'], 'only `solve` and `play` have `--side`'),
-            (['chains', '--symmetries', 'a.maps', CHAIN], 'only `solve`, `report` and `starts` have `--symmetries`'),
-            (['play', '--symmetries=a.maps', CHAIN], 'only `solve`, `report` and `starts` have `--symmetries`'),
+            (['chains', '--symmetries', 'a.maps', CHAIN], 'only `solve`, `report`, `starts` and `play` have `--symmetries`'),
+            (['check', '--symmetries=a.maps', CHAIN], 'only `solve`, `report`, `starts` and `play` have `--symmetries`'),
             (['climb', '--large', '3'], large), (['check', CHAIN, CHAIN, '--large'], large), (['solve', '--large', '--large', CHAIN], general),
             (['play', '--large', CHAIN], general), (['play', '--side', 'both', CHAIN], general), (['nested', '7', '3'], general), (['climb', '25'], general), (['help', 'solv'], general)]
     for words, says in told:

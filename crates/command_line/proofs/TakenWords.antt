@@ -334,13 +334,19 @@ play_row = record {
   good = (
     (refl, inl (refl, omega arith)),
     (
-      (refl, inr (inl (refl, omega arith))),
-      ((refl, inl (refl, omega arith)), ((refl, inr (inl (refl, omega arith))), ((refl, inr (inr refl)), tt))),
+      (refl, inl (refl, omega arith)),
+      (
+        (refl, inr (inl (refl, omega arith))),
+        ((refl, inl (refl, omega arith)), ((refl, inr (inl (refl, omega arith))), ((refl, inr (inr refl)), tt))),
+      ),
     ),
   );
   arguments = (
     (inl refl, refl, inl (refl, inr (inr refl))),
-    (word_given (codes "large"), ((inl refl, refl, inl (refl, inl refl)), (word_given (codes "explain"), tt))),
+    (
+      (inr (inr refl), refl, inl (refl, inl refl)),
+      (word_given (codes "large"), ((inl refl, refl, inl (refl, inl refl)), (word_given (codes "explain"), tt))),
+    ),
   );
 }
 

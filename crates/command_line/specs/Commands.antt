@@ -102,7 +102,8 @@ solve_among words =
 
 abbrev pub play_among : Bor (List (Bor Text)) → Shape
 play_among words =
-    command (codes "play") (side_among words true ∷ large ∷ path (codes "board") ∷ explain ∷ [])
+    command (codes "play")
+    (side_among words true ∷ symmetries ∷ large ∷ path (codes "board") ∷ explain ∷ [])
 
 abbrev pub climb : Shape
 climb = command (codes "climb") (number (codes "levels") MAX_LEVELS ∷ explain ∷ [])

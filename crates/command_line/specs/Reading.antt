@@ -86,9 +86,10 @@ AsksFor name rows (jobs.Chains workers most board) = (name ≡ codes "chains")
     × HasNumber rows (codes "workers") MAX_WORKERS workers
     × HasNumber rows (codes "most") MAX_LENGTH most
     × (first_of (codes "board") rows ≡ Some board.now)
-AsksFor name rows (jobs.Play side limit board) = (name ≡ codes "play")
+AsksFor name rows (jobs.Play side limit symmetries board) = (name ≡ codes "play")
     × HasSide rows (Some side)
     × HasFlag rows (codes "large") (is_large limit)
+    × HasPath rows (codes "symmetries") symmetries
     × (first_of (codes "board") rows ≡ Some board.now)
 AsksFor name rows (jobs.Climb levels) =
     (name ≡ codes "climb") × HasNumber rows (codes "levels") MAX_LEVELS levels
@@ -110,7 +111,7 @@ IsInRange (jobs.Report workers limit symmetries board) = (1 ≤ workers) × (wor
 IsInRange (jobs.Starts workers limit symmetries board) = (1 ≤ workers) × (workers ≤ MAX_WORKERS)
 IsInRange (jobs.Chains workers most board) =
     (1 ≤ workers) × (workers ≤ MAX_WORKERS) × (1 ≤ most) × (most ≤ MAX_LENGTH)
-IsInRange (jobs.Play side limit board) = Unit {0}
+IsInRange (jobs.Play side limit symmetries board) = Unit {0}
 IsInRange (jobs.Climb levels) = (1 ≤ levels) × (levels ≤ MAX_LEVELS)
 
 -- the word after the program's name is `help`

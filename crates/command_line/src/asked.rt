@@ -68,10 +68,11 @@ pub enum Job<'a> {
         board: &'a str,
     },
     /// Play on the board, a path. The person plays this side, by lines of standard input, and the
-    /// program the other one.
+    /// program the other one. With a path of symmetries values are found up to these.
     Play {
         side: Side,
         limit: BoardLimit,
+        symmetries: Option<&'a str>,
         board: &'a str,
     },
     /// Play on the nested board with 1 to `MAX_LEVELS` levels, and as many pebbles. The person is

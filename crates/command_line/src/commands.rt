@@ -151,7 +151,9 @@ const ABOUT_PLAYING: &str =
     quit                       ends the play, as the end of input does\n\n\
     To anything else it answers `not a request` or `not an answer`, and the play\n\
     goes on. It also ends if no label is legal. As the labeller on a board that\n\
-    lasts for ever you read `no strategy`: the adversary has none.\n\n\
+    lasts for ever you read `no strategy`: the adversary has none. With --symmetries\n\
+    what the maps in FILE take to one another is solved as one: then --large takes\n\
+    any number of gaps.\n\n\
     Common faults:\n  \
     board fault line 1 Version  neither `board 1` nor `board 2`: Windows line ends\n  \
     board fault line 4 Start    each pebble's label, below V, or `-` in `board 2`\n  \
@@ -219,8 +221,7 @@ fn solve<'a>(alloc: Global, sides: &'a [&'a str]) -> Result<Command<'a>, AllocEr
         .about("Reads a board, and writes its start's value and strategies for it")
         .after_help(ABOUT_SOLVING)
         .arg(workers(alloc))?
-        .arg(side(alloc, sides, false, "One side alone"))?
-        .arg(symmetries(alloc))?;
+        .arg(side(alloc, sides, false, "One side alone"))?;
     on_board(alloc, command)
 }
 
@@ -250,8 +251,7 @@ fn report<'a>(alloc: Global) -> Result<Command<'a>, AllocError>
     let command = Command::new(alloc, "report")
         .about("Reads a board, and writes how many configurations have each value")
         .after_help(ABOUT_REPORTING)
-        .arg(workers(alloc))?
-        .arg(symmetries(alloc))?;
+        .arg(workers(alloc))?;
     on_board(alloc, command)
 }
 
@@ -262,8 +262,7 @@ fn starts<'a>(alloc: Global) -> Result<Command<'a>, AllocError>
     let command = Command::new(alloc, "starts")
         .about("Reads a board, and writes the value with all pebbles on each label")
         .after_help(ABOUT_STARTS)
-        .arg(workers(alloc))?
-        .arg(symmetries(alloc))?;
+        .arg(workers(alloc))?;
     on_board(alloc, command)
 }
 
@@ -340,13 +339,18 @@ fn climb<'a>(alloc: Global) -> Result<Command<'a>, AllocError>
 
 /// The command with the words that all commands on a board take which solve it.
 fn on_board<'a>(alloc: Global, command: Command<'a>) -> Result<Command<'a>, AllocError>
-    ensures app { IfOk result (λ c. app_of c ≡ with_rule (with_rule (with_rule (app_of command.entry)
-        commands.large) (commands.path (codes "board"))) commands.explain) }
+    ensures app { IfOk result (λ c. app_of c ≡ with_rule (with_rule (with_rule (with_rule
+        (app_of command.entry) commands.symmetries) commands.large)
+        (commands.path (codes "board"))) commands.explain) }
     ensures local { (out-Command command.entry).has_globals ≡ false
         → IfOk result (λ c. (out-Command c).has_globals ≡ false) }
 {
     let board = path(alloc, "board", "BOARD", "The path of a board");
-    command.arg(large(alloc))?.arg(board)?.arg(explain(alloc))
+    command
+        .arg(symmetries(alloc))?
+        .arg(large(alloc))?
+        .arg(board)?
+        .arg(explain(alloc))
 }
 
 /// The command with the words of one on a board of any size.

@@ -309,8 +309,14 @@ fn play_job<'a>(values: &ArgMatches<'a>) -> Option<Job<'a>>
 {
     let side = side(values)?;
     let limit = limit(values)?;
+    let symmetries = text(values, "symmetries");
     let board = text(values, "board")?;
-    Some(Job::Play { side, limit, board })
+    Some(Job::Play {
+        side,
+        limit,
+        symmetries,
+        board,
+    })
 }
 
 fn climb_job<'a>(values: &ArgMatches<'a>) -> Option<Job<'a>>

@@ -276,6 +276,7 @@ fn reports(rt: HostRuntime) {
         let wanted = Job::Report {
             workers,
             limit,
+            symmetries: None,
             board,
         };
         assert_asks(&rt, rt.alloc(), words, wanted);
@@ -301,6 +302,7 @@ fn starts(rt: HostRuntime) {
         let wanted = Job::Starts {
             workers,
             limit,
+            symmetries: None,
             board,
         };
         assert_asks(&rt, rt.alloc(), words, wanted);
@@ -370,8 +372,45 @@ fn plays(rt: HostRuntime) {
         let wanted = Job::Play {
             side,
             limit,
+            symmetries: None,
             board: "a",
         };
+        assert_asks(&rt, rt.alloc(), words, wanted);
+    }
+}
+
+#[test]
+fn other_commands_up_to_symmetries(rt: HostRuntime) {
+    let symmetries = Some("b");
+    for (words, wanted) in [
+        (
+            ["pebbles", "report", "--symmetries", "b", "a"].as_slice(),
+            Job::Report {
+                workers: 1,
+                limit: BoardLimit::Small,
+                symmetries,
+                board: "a",
+            },
+        ),
+        (
+            ["pebbles", "starts", "a", "--large", "--symmetries=b"].as_slice(),
+            Job::Starts {
+                workers: 1,
+                limit: BoardLimit::Large,
+                symmetries,
+                board: "a",
+            },
+        ),
+        (
+            ["pebbles", "play", "--symmetries=b", "--side=labeller", "a"].as_slice(),
+            Job::Play {
+                side: Side::Labeller,
+                limit: BoardLimit::Small,
+                symmetries,
+                board: "a",
+            },
+        ),
+    ] {
         assert_asks(&rt, rt.alloc(), words, wanted);
     }
 }

@@ -53,6 +53,8 @@ pub struct Inputs<'a, 'h> {
     pub(crate) limit: Option<BoardLimit>,
     pub(crate) board: Origin<'a, 'h>,
     pub(crate) other: Origin<'a, 'h>,
+    /// The lines of a play; the other input, if they are none.
+    pub(crate) lines: Origin<'a, 'h>,
 }
 
 impl<'a, 'h> Inputs<'a, 'h> {
@@ -67,6 +69,7 @@ impl<'a, 'h> Inputs<'a, 'h> {
             limit: Some(limit),
             board,
             other,
+            lines: other,
         }
     }
 
@@ -81,7 +84,13 @@ impl<'a, 'h> Inputs<'a, 'h> {
             limit: Some(limit),
             board,
             other: symmetries,
+            lines: symmetries,
         }
+    }
+
+    /// The same, and the lines of a play.
+    pub fn and_lines(self, lines: Origin<'a, 'h>) -> Inputs<'a, 'h> {
+        Inputs { lines, ..self }
     }
 
     /// Whether the second file has symmetries.
@@ -96,6 +105,7 @@ impl<'a, 'h> Inputs<'a, 'h> {
             limit: None,
             board,
             other,
+            lines: other,
         }
     }
 }
@@ -109,6 +119,11 @@ impl<'h> Inputs<'static, 'h> {
             is_whole: true,
             ..Origin::standard_input(trouble, PROOF_LIMITS)
         };
+        let other = Origin {
+            name: AFTER_THE_BOARD,
+            text: document,
+            ..input
+        };
         Inputs {
             given: Given::Joined,
             limit: None,
@@ -116,11 +131,8 @@ impl<'h> Inputs<'static, 'h> {
                 text: board,
                 ..input
             },
-            other: Origin {
-                name: AFTER_THE_BOARD,
-                text: document,
-                ..input
-            },
+            other,
+            lines: other,
         }
     }
 }

@@ -39,6 +39,7 @@ impl<'a> Note<'a> {
     pub fn of(fault: RunFault, inputs: &Inputs<'a, '_>) -> Note<'a> {
         let board = &inputs.board;
         let other = &inputs.other;
+        let lines = &inputs.lines;
         match fault {
             RunFault::Board(fault) => Note {
                 about: board.name,
@@ -80,16 +81,18 @@ impl<'a> Note<'a> {
                 "threads",
                 "the system started no more of them; one worker, the default, needs none",
             ),
-            RunFault::Read => match board.trouble {
-                Some(trouble) => Note::unread(board.name, trouble),
-                None => Note::unread(other.name, other.trouble.unwrap_or(Trouble::Other)),
+            RunFault::Read => match (board.trouble, other.trouble) {
+                (Some(trouble), _) => Note::unread(board.name, trouble),
+                (None, Some(trouble)) => Note::unread(other.name, trouble),
+                _ => Note::unread(lines.name, lines.trouble.unwrap_or(Trouble::Other)),
             },
             RunFault::Write => Note::new(
                 "standard output",
                 "it took no more; was it closed, as by `head`, or is the disk full?",
             ),
             RunFault::Limit if board.is_too_long => Note::new(board.name, board.limits),
-            RunFault::Limit => Note::new(other.name, other.limits),
+            RunFault::Limit if other.is_too_long => Note::new(other.name, other.limits),
+            RunFault::Limit => Note::new(lines.name, lines.limits),
         }
     }
 

@@ -51,27 +51,27 @@ pub(crate) fn usage_hint(words: &[&str]) -> &'static str {
         if is_for_a_side(word) && words[1] != "solve" && words[1] != "play" {
             return "only `solve` and `play` have `--side`; ";
         }
-        if is_for_symmetries(word) && !takes_symmetries(words[1]) {
-            return "only `solve`, `report` and `starts` have `--symmetries`; ";
+        if is_for_symmetries(word) && !takes_large(words[1]) {
+            return "only `solve`, `report`, `starts` and `play` have `--symmetries`; ";
         }
         if is_unknown_option(word) {
             return "the only options are `--workers` of `solve`, `report`, `starts` and `chains`, \
-                `--most` of `chains`, `--side` of `solve` and `play`, `--symmetries` of `solve`, \
-                `report` and `starts`, `--large` of `solve`, `report`, `starts` and `play`, `--explain`, `--help` and \
-                `--version`; a path that begins with `-` comes after `--`; ";
+                `--most` of `chains`, `--side` of `solve` and `play`, `--large` and \
+                `--symmetries` of `solve`, `report`, `starts` and `play`, `--explain`, `--help` \
+                and `--version`; a path that begins with `-` comes after `--`; ";
         }
     }
     ""
 }
 
-/// Whether the command of this name has the option `--large`.
+/// Whether the command of this name has the options `--large` and `--symmetries`.
 fn takes_large(command: &str) -> bool {
     command == "solve" || command == "report" || command == "starts" || command == "play"
 }
 
 /// Whether the command of this name has the option for workers.
 fn takes_workers(command: &str) -> bool {
-    takes_symmetries(command) || command == "chains"
+    command == "solve" || command == "report" || command == "starts" || command == "chains"
 }
 
 /// Whether a word is the option for workers.
@@ -87,11 +87,6 @@ fn is_for_a_length(word: &str) -> bool {
 /// Whether a word is the option for a side.
 fn is_for_a_side(word: &str) -> bool {
     word == "--side" || word.starts_with(SIDE_IS)
-}
-
-/// Whether a command has the option for symmetries.
-fn takes_symmetries(command: &str) -> bool {
-    command == "solve" || command == "report" || command == "starts"
 }
 
 /// Whether a word is the option for symmetries.

@@ -13,6 +13,7 @@ use Rattle.runs.specs.BoardRun.{FailsOn, GaveBoard, GaveNoBoard, RanOn}
 use Rattle.runs.specs.Faults.{fault_of_play}
 use Rattle.runs.specs.Notices.{AreAllRounds, is_told_of, notice_for}
 use Rattle.runs.specs.Run.{Bytes}
+use Rattle.runs.specs.SymmetricRun.{GaveDomain, GaveNoDomain}
 use Rattle.runs.specs.Texts.{IsWithinLimit}
 use Rattle.command_line.specs.declared.asked.BoardLimit.{BoardLimit}
 use Rattle.runs.specs.declared.fault.RunFault.{RunFault}
@@ -46,6 +47,20 @@ PlayFails limit side most_bytes IsUntouched board lines written fault =
     FailsOn (IsWithinLimit limit) most_bytes board IsUntouched
     (λ b. IsBrokenOff (game_played side b) lines written) fault
 
+-- the same of a play whose values are found up to symmetries: a board and symmetries were read, and
+-- the play is over
+abbrev pub RanPlayUpTo : BoardLimit → Side → Bytes → Bytes → Bytes → Bytes → PlayEnd → Type 0
+RanPlayUpTo limit side board symmetries lines written end = (b : PlainBoard)
+    × GaveDomain limit board symmetries b × IsOver (game_played side b) lines written end
+
+-- its faults: these weren't read, and nothing is played; or the play was broken off
+abbrev pub PlayFailsUpTo : BoardLimit → Side → Type 0 → Type 0 → Bytes → Bytes → Bytes → Bytes
+    → RunFault → Type 0
+PlayFailsUpTo limit side IsUntouched IsUnplayed board symmetries lines written fault =
+    (GaveNoDomain limit IsUntouched board symmetries fault × IsUnplayed)
+    ⊎ ((b : PlainBoard) × GaveDomain limit board symmetries b
+    × IsBrokenOff (game_played side b) lines written fault)
+
 -- the end of a play as that of a run
 abbrev pub run_of_play : Result PlayEnd PlayFault → Result PlayEnd RunFault
 run_of_play (Ok end) = Ok end
@@ -70,3 +85,14 @@ IsToldInRun limit side most_bytes IsUntouched board lines written sees_size sees
     × ArePrompts sees_choices (game_played side b) lines.old lines.new written.old written.new
     played
     prompts)))
+
+-- what a person is told in such a run: the prompts of the play; nothing, if it isn't played
+abbrev pub IsToldUpTo : BoardLimit → Side → Type 0 → Bytes → Bytes → Bytes → Bytes → Bool
+    → Result PlayEnd RunFault → List ℕ → Type 0
+IsToldUpTo limit side IsUnplayed board symmetries lines written sees_choices result told =
+    ((fault : RunFault) × (result ≡ Err fault)
+    × GaveNoDomain limit (Unit {0}) board symmetries fault × IsUnplayed × (told ≡ []))
+    ⊎ ((b : PlainBoard) × GaveDomain limit board symmetries b
+    × (played : Result PlayEnd PlayFault) × (result ≡ run_of_play played)
+    × ArePrompts sees_choices (game_played side b) lines.old lines.new written.old written.new
+    played told)

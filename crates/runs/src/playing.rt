@@ -9,16 +9,17 @@ ghost use Rattle.console.specs.Showing.{IsMore};
 ghost use Rattle.player.specs.Transcript.{IsPlayed, PersonClimbs};
 ghost use Rattle.player.specs.declared.end.PlayEnd.{PlayEnd};
 ghost use Rattle.player.specs.declared.end.PlayFault.{PlayFault};
-ghost use Rattle.runs.specs.PlayRun.{IsBrokenOff, IsOver, IsToldInRun, PlayFails, RanPlay};
-ghost use Rattle.runs.specs.PlayRun.{game_played, run_of_play};
+ghost use Rattle.runs.specs.PlayRun.{IsBrokenOff, IsOver, IsToldInRun, IsToldUpTo, PlayFails};
+ghost use Rattle.runs.specs.PlayRun.{PlayFailsUpTo, RanPlay, RanPlayUpTo, game_played, run_of_play};
 ghost use Rattle.runs.specs.Run.{TellsFailures, bytes_of, stream_of};
 
 use crate::fault::RunFault;
+use crate::given_symmetries::{MAX_SYMMETRIES_BYTES, symmetries_of};
 use crate::notices::tell_size;
-use crate::reading::{MAX_BOARD_BYTES, read_board};
+use crate::reading::{MAX_BOARD_BYTES, read_board, read_board_up_to, read_text};
 use board_text::{Sink, Source, Through};
 use command_line::BoardLimit;
-use gap_values::GapValues;
+use gap_values::ValueTable;
 use nested_cycles::MAX_LEVELS;
 use player::{AsAdversary, AsClimber, AsLabeller, PlayEnd, PlayFault, play};
 use positions::Side;
@@ -122,11 +123,64 @@ impl Playing {
         Ok(self.play(alloc, &moves, lines, writer, errors)?)
     }
 
-    /// Plays with the person on the board of `moves`.
-    fn play<L: Source, W: Sink, E: Sink>(
+    /// Reads a board and then symmetries of its domain, finds its values by orbits and plays on it
+    /// with a person, as `run` does. A board that may be large may have any number of gaps, and at
+    /// most `MAX_ORBITS` orbits. The person is told the prompts alone.
+    ///
+    /// The board is read and parsed before anything of the symmetries is read, and these are
+    /// checked before anything is solved.
+    pub fn run_up_to_symmetries<B: Source, S: Source, L: Source, W: Sink, E: Sink>(
         self,
         alloc: Global,
-        moves: &GapMoves<'_, GapValues>,
+        board: &mut B,
+        symmetries: &mut S,
+        lines: &mut L,
+        writer: &mut W,
+        errors: &mut E,
+    ) -> Result<PlayEnd, RunFault>
+        requires board_ready { B.has_failed board.old ≡ false }
+        requires board_unended { B.has_ended board.old ≡ false }
+        requires symmetries_ready { S.has_failed symmetries.old ≡ false }
+        requires symmetries_unended { S.has_ended symmetries.old ≡ false }
+        requires lines_ready { L.has_failed lines.old ≡ false }
+        requires lines_unended { L.has_ended lines.old ≡ false }
+        requires writer_ready { W.has_failed writer.old ≡ false }
+        ensures ok { IfOk result (RanPlayUpTo self.limit self.side
+            (bytes_of B.remaining board.old board.new)
+            (bytes_of S.remaining symmetries.old symmetries.new)
+            (bytes_of L.remaining lines.old lines.new)
+            (bytes_of W.contents writer.old writer.new)) }
+        ensures fault { IfErr result (PlayFailsUpTo self.limit self.side
+            (symmetries.new ≡ symmetries.old)
+            ((lines.new ≡ lines.old) × (writer.new ≡ writer.old))
+            (bytes_of B.remaining board.old board.new)
+            (bytes_of S.remaining symmetries.old symmetries.new)
+            (bytes_of L.remaining lines.old lines.new)
+            (bytes_of W.contents writer.old writer.new)) }
+        ensures streams { TellsFailures result ((B.has_failed board.new ≡ true)
+            ⊎ (S.has_failed symmetries.new ≡ true) ⊎ (L.has_failed lines.new ≡ true))
+            (stream_of W.contents W.has_failed writer.old writer.new) }
+        ensures prompts { (told : List ℕ) × IsToldUpTo self.limit self.side
+            ((lines.new ≡ lines.old) × (writer.new ≡ writer.old))
+            (bytes_of B.remaining board.old board.new)
+            (bytes_of S.remaining symmetries.old symmetries.new)
+            (bytes_of L.remaining lines.old lines.new)
+            (bytes_of W.contents writer.old writer.new) self.prompts result told
+            × IsMore E.contents E.has_failed errors.old errors.new told }
+    {
+        let board = read_board_up_to(alloc, self.limit, board)?;
+        let text = read_text(alloc, symmetries, MAX_SYMMETRIES_BYTES)?;
+        let symmetries = symmetries_of(alloc, &board, text.as_slice())?;
+        let values = symmetries.values(alloc, &board)?;
+        let moves = GapMoves::new(&board, &values);
+        Ok(self.play(alloc, &moves, lines, writer, errors)?)
+    }
+
+    /// Plays with the person on the board of `moves`.
+    fn play<V: ValueTable, L: Source, W: Sink, E: Sink>(
+        self,
+        alloc: Global,
+        moves: &GapMoves<'_, V>,
         lines: &mut L,
         writer: &mut W,
         errors: &mut E,

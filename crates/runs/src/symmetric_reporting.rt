@@ -16,7 +16,6 @@ use crate::work::Work;
 use crate::writing::write_text;
 use board_text::{Board, Sink, Source};
 use gap_values::ValueTable;
-use orbits::OrbitValues;
 use std::alloc::Global;
 use strategies::GapMoves;
 
@@ -99,7 +98,7 @@ fn report_up_to(alloc: Global, board: &Board, text: &[u8]) -> Result<String, Run
     ensures fault { IfErr result (HasNoFewOrbits board.now text.now) }
 {
     let symmetries = symmetries_of(alloc, board, text)?;
-    let values = OrbitValues::of(alloc, board, &symmetries.alike)?;
+    let values = symmetries.values(alloc, board)?;
     let start = values.value(board.start());
     let sizes = values.sizes(alloc)?;
     Ok(report_of(alloc, board, &Counted { start, sizes })?)
@@ -113,7 +112,7 @@ fn starts_up_to(alloc: Global, board: &Board, text: &[u8]) -> Result<String, Run
     ensures fault { IfErr result (HasNoFewOrbits board.now text.now) }
 {
     let symmetries = symmetries_of(alloc, board, text)?;
-    let values = OrbitValues::of(alloc, board, &symmetries.alike)?;
+    let values = symmetries.values(alloc, board)?;
     let moves = GapMoves::new(board, &values);
     let places = values_at_places(alloc, &moves)?;
     Ok(starts_of(alloc, board, places.as_slice())?)

@@ -88,7 +88,7 @@ impl Work {
         ensures fault { IfErr result (CannotSolveUpTo side board.now text.now) }
     {
         let symmetries = symmetries_of(alloc, board, text)?;
-        let values = OrbitValues::of(alloc, board, &symmetries.alike)?;
+        let values = symmetries.values(alloc, board)?;
         let moves = GapMoves::new(board, &values);
         solution_up_to(rt, alloc, &moves, &symmetries, side, self.workers)
     }

@@ -7,10 +7,10 @@ use Rattle.command_line.specs.declared.asked.BoardLimit.{BoardLimit}
 use Rattle.player.specs.declared.end.PlayEnd.{PlayEnd}
 use Rattle.positions.specs.declared.side.Side.{Side}
 use Rattle.serving.specs.Folders.{File, OpensWith}
-use Rattle.serving.specs.Jobs.{Opening, OpeningBoth, Plays, WritesWhole}
+use Rattle.serving.specs.Jobs.{Opening, OpeningBoth, Plays, PlaysUpTo, WritesWhole}
 use Rattle.serving.specs.Outcomes.{EndsAs, outcome_of_check, outcome_of_run}
 use Rattle.runs.specs.BoardRun.{FailsOn, RanOn}
-use Rattle.runs.specs.PlayRun.{PlayFails, RanPlay}
+use Rattle.runs.specs.PlayRun.{PlayFails, PlayFailsUpTo, RanPlay, RanPlayUpTo}
 use Rattle.runs.specs.Run.{Bytes, Fails, Ran, Stream}
 use Rattle.runs.specs.declared.reading.TheConstants.{MAX_BOARD_BYTES}
 use Rattle.runs.specs.declared.fault.RunFault.{RunFault}
@@ -126,4 +126,31 @@ module _ (limit : BoardLimit) (side : Side) (file : File) (read : Bytes) (opens 
     ends outcome_of_run r (RanPlay limit side MAX_BOARD_BYTES read input.bytes output.bytes)
         (PlayFails limit side MAX_BOARD_BYTES (input.IsKept × output.IsKept) read input.bytes output.bytes)
         outcome is ok fault,
+  )
+
+-- of a play with values up to symmetries in another file
+module _ (limit : BoardLimit) (side : Side) (first second : File) (one two : Bytes) (opens : OpensWith first one.old)
+    (opens_too : OpensWith second two.old) (input output : Stream) (r : Result PlayEnd RunFault) (outcome : Outcome)
+    (is : outcome ≡ outcome_of_run r) where
+  abbrev FailsWith : Type 0 → RunFault → Type 0
+  FailsWith Untouched =
+      PlayFailsUpTo limit side Untouched (input.IsKept × output.IsKept) one two input.bytes output.bytes
+
+  untouched_too : (Old New : Type 0) → (Old → New) → (fault : RunFault) → FailsWith Old fault → FailsWith New fault
+  untouched_too Old New to fault (inl (inl (none, kept), stays)) = inl (inl (none, to kept), stays)
+  untouched_too Old New to fault (inl (inr rest, stays)) = inl (inr rest, stays)
+  untouched_too Old New to fault (inr rest) = inr rest
+
+  pub opened_play_up_to : IfOk r (RanPlayUpTo limit side one two input.bytes output.bytes)
+      → (Untouched : Type 0) → (Untouched → two.new ≡ two.old) → IfErr r (FailsWith Untouched)
+      → PlaysUpTo side limit first second input output outcome
+  opened_play_up_to ok Untouched to fault = inr (
+    one,
+    two,
+    opens,
+    opens_too,
+    ends outcome_of_run r (RanPlayUpTo limit side one two input.bytes output.bytes) (FailsWith (two.new ≡ two.old))
+        outcome is ok
+        (IfErr-weaker r (FailsWith Untouched) (FailsWith (two.new ≡ two.old))
+        (untouched_too Untouched (two.new ≡ two.old) to) fault),
   )

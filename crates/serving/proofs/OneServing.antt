@@ -45,19 +45,19 @@ use Rattle.player.specs.declared.end.PlayEnd.{PlayEnd}
 use Rattle.player.specs.declared.end.PlayFault.{PlayFault}
 use Rattle.player.specs.declared.end.PlayFault.TheVariants as play_faults
 use Rattle.runs.specs.Faults.{fault_of_play}
-use Rattle.runs.specs.PlayRun.{IsBrokenOff, IsOver, PlayFails, RanPlay, game_played}
+use Rattle.runs.specs.PlayRun.{IsBrokenOff, IsOver, PlayFails, PlayFailsUpTo, RanPlay, RanPlayUpTo, game_played}
 use Rattle.board_text.specs.BoardText.{board_text}
 use Rattle.runs.specs.BoardRun.{FailsOn, GaveBoard, GaveBoardAmong, GaveNoBoard, GaveNoneAmong, RanOn}
 use Rattle.serving.specs.Folders.{CanFail, Closed, File, Holds, Unknown}
 use Rattle.serving.specs.FaultLines.{line_of_fault}
 use Rattle.serving.specs.Jobs.{Checks, ChecksJoined, Climbs, Counts, CountsChains, IsDone, Opening, OpeningBoth}
-use Rattle.serving.specs.Jobs.{CountsUpTo, DoesUpTo, Plays, Solves, SolvesUpTo, WritesNested, WritesStarts}
+use Rattle.serving.specs.Jobs.{CountsUpTo, DoesUpTo, Plays, PlaysUpTo, Solves, SolvesUpTo, WritesNested, WritesStarts}
 use Rattle.serving.specs.Jobs.{WritesStartsUpTo, WritesWhole}
 use Rattle.runs.specs.NestedText.{IsNestedText}
 use Rattle.serving.specs.Outcomes.{EndsAs, outcome_of_check, outcome_of_run, status_of}
 use Rattle.runs.specs.Report.{Reports}
 use Rattle.runs.specs.StartText.{SaysStarts}
-use Rattle.runs.specs.Run.{Bytes, Fails, Ran, Stream}
+use Rattle.runs.specs.Run.{Bytes, Fails, Gave, IsUnread, Ran, Stream}
 use Rattle.serving.specs.Serving.{AnswersWords, WordsAskFor, EndsWith, HasNoMemory, IsHelped, IsEnding, IsExplained}
 use Rattle.serving.specs.Serving.{IsRefusedWith, IsWritten, is_explained}
 use Rattle.serving.specs.Serving.{ServesAnyWords, ServesWords, is_typed, lacks_input}
@@ -66,7 +66,8 @@ use Rattle.serving.proofs.Untold.{nothing_in_job}
 use Rattle.serving.specs.Servings.{AreKnown, AskForNoExplanation, HaveOwnText}
 use Rattle.runs.specs.SideSolveRun.{CannotSolveFor, IsSideSolution, IsUnsolvedFor}
 use Rattle.runs.specs.SolveRun.{CannotSolve, IsSolution}
-use Rattle.runs.specs.SymmetricRun.{GivesFewOrbits, HasNoFewOrbits, LacksFewOrbits, ReportsUpTo, SaysStartsUpTo}
+use Rattle.runs.specs.SymmetricRun.{GaveDomain, GaveNoDomain, GivesFewOrbits, HasNoFewOrbits, LacksFewOrbits}
+use Rattle.runs.specs.SymmetricRun.{ReportsUpTo, SaysStartsUpTo}
 use Rattle.runs.specs.SymmetricSolveRun.{CannotSolveUpTo, IsSolutionUpTo, IsUnsolvedUpTo}
 use Rattle.runs.specs.declared.given_symmetries.TheConstants.{MAX_SYMMETRIES_BYTES}
 use Rattle.runs.specs.Texts.{HasNoneAmong, HasNoProof, IsBoardAmong, IsBoardWithin, IsWrongAmong, IsWrongBoard}
@@ -290,6 +291,36 @@ module _ {Answer : Type 0} (Says : List ℕ → Answer → List ℕ → Type 0) 
       wrong MAX_BOARD_BYTES read bytes opens output
       taken had outcome (plain_of outcome fair unread) whole then
 
+-- ---- a run that reads a board first
+
+module _ (IsSmall : PlainBoard → Type 0) (Then : PlainBoard → Outcome → List ℕ → Type 0) where
+  -- the outcome and the text that the text of a board asks for, and then what is done with the board
+  abbrev BoardThen : List ℕ → Outcome → List ℕ → Type 0
+  BoardThen bytes outcome text =
+      ((MAX_BOARD_BYTES < length bytes) × (outcome ≡ Broken Limit) × (text ≡ []))
+      ⊎ ((length bytes ≤ MAX_BOARD_BYTES) × (fault : RunFault) × IsWrongAmong IsSmall bytes fault ×
+      (outcome ≡ Broken fault) × (text ≡ []))
+      ⊎ ((length bytes ≤ MAX_BOARD_BYTES) × (board : PlainBoard) × IsBoardAmong IsSmall bytes board
+      × Then board outcome text)
+
+  one_board_then : ((board : PlainBoard) → IsBoard board → IsOne (Then board)) → (bytes : List ℕ)
+      → IsOne (BoardThen bytes)
+  one_board_then one_then b outcome other text line (inl one) (inl two) = (one.1 ∙ sym two.1, one.2 ∙ sym two.2)
+  one_board_then one_then b outcome other text line (inl one) (inr (inl two)) = absurd (omega (arith, one.0, two.0))
+  one_board_then one_then b outcome other text line (inl one) (inr (inr two)) = absurd (omega (arith, one.0, two.0))
+  one_board_then one_then b outcome other text line (inr (inl one)) (inl two) = absurd (omega (arith, one.0, two.0))
+  one_board_then one_then b outcome other text line (inr (inl one)) (inr (inl two)) =
+      (one.3 ∙ ap Broken (one_wrong_among IsSmall b one.1 two.1 one.2 two.2) ∙ sym two.3, one.4 ∙ sym two.4)
+  one_board_then one_then b outcome other text line (inr (inl one)) (inr (inr two)) =
+      absurd (not_wrong_among IsSmall b two.1 two.2 one.1 one.2)
+  one_board_then one_then b outcome other text line (inr (inr one)) (inl two) = absurd (omega (arith, one.0, two.0))
+  one_board_then one_then b outcome other text line (inr (inr one)) (inr (inl two)) =
+      absurd (not_wrong_among IsSmall b one.1 one.2 two.1 two.2)
+  one_board_then one_then b outcome other text line (inr (inr one)) (inr (inr (inside, board, small, two))) =
+      let same : one.1 ≡ board = one_board one.1 board one.2.is_board small.is_board
+      (sym one.2.spelled ∙ small.spelled) in
+      one_then board small.is_board outcome other text line (subst (λ d. Then d outcome text) same one.3) two
+
 -- ---- a run that reads a board in one file, and then another file
 
 module _ {Answer : Type 0} (IsSmall : PlainBoard → Type 0) (outcome_of : Result Answer RunFault → Outcome)
@@ -297,33 +328,15 @@ module _ {Answer : Type 0} (IsSmall : PlainBoard → Type 0) (outcome_of : Resul
     (limit : ℕ) where
   -- the outcome and the text that the texts of a board and of the other file ask for
   abbrev BothEnd : List ℕ → List ℕ → Outcome → List ℕ → Type 0
-  BothEnd board_bytes more_bytes outcome text =
-      ((MAX_BOARD_BYTES < length board_bytes) × (outcome ≡ Broken Limit) × (text ≡ []))
-      ⊎ ((length board_bytes ≤ MAX_BOARD_BYTES) × (fault : RunFault) × IsWrongAmong IsSmall board_bytes fault ×
-      (outcome ≡ Broken fault) × (text ≡ []))
-      ⊎ ((length board_bytes ≤ MAX_BOARD_BYTES) × (board : PlainBoard) × IsBoardAmong IsSmall board_bytes board
-      × Ends outcome_of (Says board) (IsWrong board) limit more_bytes outcome text)
+  BothEnd board_bytes more_bytes =
+      BoardThen IsSmall (λ board. Ends outcome_of (Says board) (IsWrong board) limit more_bytes) board_bytes
 
   one_both_end : ((board : PlainBoard) (bytes : List ℕ) → IsBoard board
       → IsOne (Ends outcome_of (Says board) (IsWrong board) limit bytes))
       → (board_bytes more_bytes : List ℕ) → IsOne (BothEnd board_bytes more_bytes)
-  one_both_end one_then b p outcome other text line (inl one) (inl two) = (one.1 ∙ sym two.1, one.2 ∙ sym two.2)
-  one_both_end one_then b p outcome other text line (inl one) (inr (inl two)) = absurd (omega (arith, one.0, two.0))
-  one_both_end one_then b p outcome other text line (inl one) (inr (inr two)) = absurd (omega (arith, one.0, two.0))
-  one_both_end one_then b p outcome other text line (inr (inl one)) (inl two) = absurd (omega (arith, one.0, two.0))
-  one_both_end one_then b p outcome other text line (inr (inl one)) (inr (inl two)) =
-      (one.3 ∙ ap Broken (one_wrong_among IsSmall b one.1 two.1 one.2 two.2) ∙ sym two.3, one.4 ∙ sym two.4)
-  one_both_end one_then b p outcome other text line (inr (inl one)) (inr (inr two)) =
-      absurd (not_wrong_among IsSmall b two.1 two.2 one.1 one.2)
-  one_both_end one_then b p outcome other text line (inr (inr one)) (inl two) = absurd (omega (arith, one.0, two.0))
-  one_both_end one_then b p outcome other text line (inr (inr one)) (inr (inl two)) =
-      absurd (not_wrong_among IsSmall b one.1 one.2 two.1 two.2)
-  one_both_end one_then b p outcome other text line (inr (inr one)) (inr (inr (inside, board, small, two))) =
-      let same : one.1 ≡ board = one_board one.1 board one.2.is_board small.is_board
-      (sym one.2.spelled ∙ small.spelled) in
-      let first : Ends outcome_of (Says board) (IsWrong board) limit p outcome text =
-      subst (λ (d : PlainBoard). Ends outcome_of (Says d) (IsWrong d) limit p outcome text) same one.3 in
-      one_then board p small.is_board outcome other text line first two
+  one_both_end one_then b p =
+      one_board_then IsSmall (λ board. Ends outcome_of (Says board) (IsWrong board) limit p)
+      (λ board is. one_then board p is) b
 
   abbrev RanBoth : Bytes → Bytes → Stream → Answer → Type 0
   RanBoth b p output answer =
@@ -627,39 +640,17 @@ module _ (game : Game) (input output : Stream) (bytes taken : List ℕ) (old : i
 
 -- the outcome and the transcript for the texts of a board and of a play
 abbrev BoardPlayEnds : BoardLimit → Side → List ℕ → List ℕ → Outcome → List ℕ → Type 0
-BoardPlayEnds limit side lines board_bytes outcome text =
-    ((MAX_BOARD_BYTES < length board_bytes) × (outcome ≡ Broken Limit) × (text ≡ []))
-    ⊎ ((length board_bytes ≤ MAX_BOARD_BYTES) × (fault : RunFault) × IsWrongWithin limit board_bytes fault ×
-    (outcome ≡ Broken fault) × (text ≡ []))
-    ⊎ ((length board_bytes ≤ MAX_BOARD_BYTES) × (board : PlainBoard) × IsBoardWithin limit board_bytes board
-    × PlayEnds (game_played side board) lines outcome text)
+BoardPlayEnds limit side lines =
+    BoardThen (IsWithinLimit limit) (λ board. PlayEnds (game_played side board) lines)
 
 is_game : (side : Side) (board : PlainBoard) → IsBoard board → IsGame (game_played side board)
 is_game Labeller board is = is
 is_game Adversary board is = is
 
 one_board_play : (limit : BoardLimit) (side : Side) (lines b : List ℕ) → IsOne (BoardPlayEnds limit side lines b)
-one_board_play limit side lines b outcome other text line (inl one) (inl two) = (one.1 ∙ sym two.1, one.2 ∙ sym two.2)
-one_board_play limit side lines b outcome other text line (inl one) (inr (inl two)) =
-    absurd (omega (arith, one.0, two.0))
-one_board_play limit side lines b outcome other text line (inl one) (inr (inr two)) =
-    absurd (omega (arith, one.0, two.0))
-one_board_play limit side lines b outcome other text line (inr (inl one)) (inl two) =
-    absurd (omega (arith, one.0, two.0))
-one_board_play limit side lines b outcome other text line (inr (inl one)) (inr (inl two)) =
-    (one.3 ∙ ap Broken (one_wrong limit b one.1 two.1 one.2 two.2) ∙ sym two.3, one.4 ∙ sym two.4)
-one_board_play limit side lines b outcome other text line (inr (inl one)) (inr (inr two)) =
-    absurd (not_wrong limit b two.1 two.2 one.1 one.2)
-one_board_play limit side lines b outcome other text line (inr (inr one)) (inl two) =
-    absurd (omega (arith, one.0, two.0))
-one_board_play limit side lines b outcome other text line (inr (inr one)) (inr (inl two)) =
-    absurd (not_wrong limit b one.1 one.2 two.1 two.2)
-one_board_play limit side lines b outcome other text line (inr (inr (inside, board, small, one)))
-    (inr (inr (inside_too, second, small_too, two))) =
-    let same : board ≡ second = one_board board second small.is_board small_too.is_board
-    (sym small.spelled ∙ small_too.spelled) in
-    one_play (game_played side second) (is_game side second small_too.is_board) lines outcome other text line
-    (subst (λ (d : PlainBoard). PlayEnds (game_played side d) lines outcome text) same one) two
+one_board_play limit side lines =
+    one_board_then (IsWithinLimit limit) (λ board. PlayEnds (game_played side board) lines)
+    (λ board is. one_play (game_played side board) (is_game side board is) lines)
 
 module _ (limit : BoardLimit) (side : Side) (input output : Stream) (lines taken : List ℕ)
     (old : input.bytes.old ≡ Some lines)
@@ -738,6 +729,168 @@ module _ (limit : BoardLimit) (side : Side) (input output : Stream) (lines taken
   opened_play (Holds bytes) known unread sound (inr (read, opens, then)) =
       played read bytes opens (plain_of outcome fair (λ e. elim
       (unread e) [ inl bad ↦ bad | inr failed ↦ sound failed ])) then
+
+-- ---- a play with values up to symmetries
+
+-- the outcome and the transcript for the texts of symmetries and of a play on the board
+abbrev SymmetricPlayEnds : Side → List ℕ → List ℕ → PlainBoard → Outcome → List ℕ → Type 0
+SymmetricPlayEnds side lines given board outcome text =
+    ((MAX_SYMMETRIES_BYTES < length given) × (outcome ≡ Broken Limit) × (text ≡ []))
+    ⊎ ((length given ≤ MAX_SYMMETRIES_BYTES) × (fault : RunFault) × LacksFewOrbits board given fault
+    × (outcome ≡ Broken fault) × (text ≡ []))
+    ⊎ ((length given ≤ MAX_SYMMETRIES_BYTES) × GivesFewOrbits board given
+    × PlayEnds (game_played side board) lines outcome text)
+
+one_symmetric_play : (side : Side) (lines given : List ℕ) (board : PlainBoard) → IsBoard board
+    → IsOne (SymmetricPlayEnds side lines given board)
+one_symmetric_play side lines given board is outcome other text line (inl one) (inl two) =
+    (one.1 ∙ sym two.1, one.2 ∙ sym two.2)
+one_symmetric_play side lines given board is outcome other text line (inl one) (inr (inl two)) =
+    absurd (omega (arith, one.0, two.0))
+one_symmetric_play side lines given board is outcome other text line (inl one) (inr (inr two)) =
+    absurd (omega (arith, one.0, two.0))
+one_symmetric_play side lines given board is outcome other text line (inr (inl one)) (inl two) =
+    absurd (omega (arith, one.0, two.0))
+one_symmetric_play side lines given board is outcome other text line (inr (inl one)) (inr (inl two)) =
+    (one.3 ∙ ap Broken (one_lacking board is given one.1 two.1 one.2 two.2) ∙ sym two.3, one.4 ∙ sym two.4)
+one_symmetric_play side lines given board is outcome other text line (inr (inl one)) (inr (inr two)) =
+    absurd (given_or_lacking board is given one.1 two.1 one.2)
+one_symmetric_play side lines given board is outcome other text line (inr (inr one)) (inl two) =
+    absurd (omega (arith, one.0, two.0))
+one_symmetric_play side lines given board is outcome other text line (inr (inr one)) (inr (inl two)) =
+    absurd (given_or_lacking board is given two.1 one.1 two.2)
+one_symmetric_play side lines given board is outcome other text line (inr (inr one)) (inr (inr two)) =
+    one_play (game_played side board) (is_game side board is) lines outcome other text line one.2 two.2
+
+-- those for the texts of a board, of symmetries and of a play
+abbrev DomainPlayEnds : BoardLimit → Side → List ℕ → List ℕ → List ℕ → Outcome → List ℕ → Type 0
+DomainPlayEnds limit side lines bytes given =
+    BoardThen (IsWithinUpTo limit) (SymmetricPlayEnds side lines given) bytes
+
+one_domain_play : (limit : BoardLimit) (side : Side) (lines bytes given : List ℕ)
+    → IsOne (DomainPlayEnds limit side lines bytes given)
+one_domain_play limit side lines bytes given =
+    one_board_then (IsWithinUpTo limit) (SymmetricPlayEnds side lines given) (one_symmetric_play side lines given) bytes
+
+module _ (limit : BoardLimit) (side : Side) (input output : Stream) (lines taken : List ℕ)
+    (old : input.bytes.old ≡ Some lines) (had : Had output taken) (outcome : Outcome) (fair : IsFair outcome) where
+  abbrev DomainPlayed : File → File → Type 0
+  DomainPlayed first second =
+      EndsBy output taken (PairEnds (DomainPlayEnds limit side lines) first second) outcome
+
+  module _ (one two : Bytes) (bytes given : List ℕ) (one_old : one.old ≡ Some bytes) (two_old : two.old ≡ Some given)
+      (plain : IsPlain outcome) where
+    abbrev OnDomain : Type 0
+    OnDomain = EndsBy output taken (DomainPlayEnds limit side lines bytes given) outcome
+
+    -- the board was read
+    module _ (board : PlainBoard) (gave : GaveBoardAmong (IsWithinUpTo limit) MAX_BOARD_BYTES one board) where
+      same_bytes : gave.0 ≡ bytes
+      same_bytes = gave_all one bytes gave.0 one_old gave.1.0
+
+      then_ends : (text : List ℕ) → output.bytes.new ≡ Some (taken ++ text)
+          → SymmetricPlayEnds side lines given board outcome text → OnDomain
+      then_ends text took_it ends = (
+        text,
+        took_it,
+        inr (inr (
+          subst (λ t. length t ≤ MAX_BOARD_BYTES) same_bytes gave.1.1,
+          board,
+          subst (λ t. IsBoardAmong (IsWithinUpTo limit) t board) same_bytes gave.2,
+          ends,
+        )),
+      )
+
+      not_given : (fault : RunFault) → outcome ≡ Broken fault
+          → IsUnread MAX_SYMMETRIES_BYTES two fault
+          ⊎ ((text : List ℕ) × Gave MAX_SYMMETRIES_BYTES two text × HasNoFewOrbits board text fault)
+          → output.IsKept → OnDomain
+      not_given fault same (inl unread) stays =
+          let over = unread_is MAX_SYMMETRIES_BYTES two given fault outcome two_old plain same unread in
+          then_ends [] (stayed output taken had stays) (inl (over.0, over.1, refl))
+      not_given fault same (inr (text, gave_text, none)) stays = elim (wrong_orbits board text fault none) [
+        | inl memory ↦ absurd (fair.memory (same ∙ ap Broken memory))
+        | inr (inl worker) ↦ absurd (fair.worker (same ∙ ap Broken worker))
+        | inr (inr bad) ↦
+            let all : text ≡ given = gave_all two given text two_old gave_text.0 in
+            then_ends [] (stayed output taken had stays) (inr (inl (
+              subst (λ t. length t ≤ MAX_SYMMETRIES_BYTES) all gave_text.1,
+              fault,
+              subst (λ t. LacksFewOrbits board t fault) all bad,
+              same,
+              refl,
+            )))
+      ]
+
+    not_read : (fault : RunFault) → outcome ≡ Broken fault → {IsUntouched : Type 0}
+        → GaveNoDomain limit IsUntouched one two fault → output.IsKept → OnDomain
+    not_read fault same (inl (inl unread, kept)) stays =
+        let over = unread_is MAX_BOARD_BYTES one bytes fault outcome one_old plain same unread in
+        ([], stayed output taken had stays, inl (over.0, over.1, refl))
+    not_read fault same (inl (inr (text, gave, none), kept)) stays =
+        elim (wrong_board (IsWithinUpTo limit) text fault none) [
+          | inl memory ↦ absurd (fair.memory (same ∙ ap Broken memory))
+          | inr bad ↦
+              let all : text ≡ bytes = gave_all one bytes text one_old gave.0 in (
+                [],
+                stayed output taken had stays,
+                inr (inl (
+                  subst (λ t. length t ≤ MAX_BOARD_BYTES) all gave.1,
+                  fault,
+                  subst (λ t. IsWrongAmong (IsWithinUpTo limit) t fault) all bad,
+                  same,
+                  refl,
+                )),
+              )
+        ]
+    not_read fault same (inr (board, gave, why)) stays = not_given board gave fault same why stays
+
+    domain_played : (board : PlainBoard) → GaveDomain limit one two board
+        → EndsAs outcome_of_run (IsOver (game_played side board) input.bytes output.bytes)
+        (IsBrokenOff (game_played side board) input.bytes output.bytes) outcome → OnDomain
+    domain_played board domain run =
+        let all : domain.text ≡ given = gave_all two given domain.text two_old domain.gave.0 in
+        let end = play_known (game_played side board) input output lines taken old had outcome plain run in
+        then_ends board domain.is_board end.0 end.1 (inr (inr (
+          subst (λ t. length t ≤ MAX_SYMMETRIES_BYTES) all domain.gave.1,
+          subst (GivesFewOrbits board) all domain.few,
+          end.2,
+        )))
+
+    played_up_to : {IsUntouched : Type 0} → EndsAs outcome_of_run
+        (RanPlayUpTo limit side one two input.bytes output.bytes)
+        (PlayFailsUpTo limit side IsUntouched (input.IsKept × output.IsKept) one two input.bytes output.bytes) outcome
+        → OnDomain
+    played_up_to {IsUntouched} (result, match, same) = go result match same
+      where
+        go : (result : Result PlayEnd RunFault) → MatchResult result
+            (RanPlayUpTo limit side one two input.bytes output.bytes)
+            (PlayFailsUpTo limit side IsUntouched (input.IsKept × output.IsKept) one two input.bytes output.bytes)
+            → outcome ≡ outcome_of_run result → OnDomain
+        go (Ok end) (board, domain, over) same = domain_played board domain (Ok end, over, same)
+        go (Err fault) (inl (none, stays)) same = not_read fault same none stays.1
+        go (Err fault) (inr (board, domain, breaks)) same = domain_played board domain (Err fault, breaks, same)
+
+  opened_play_up_to : (first second : File) → first ≢ Unknown → second ≢ Unknown
+      → (outcome ≡ Broken Read → CanFail first ⊎ CanFail second ⊎ input.HasFailed) → (input.HasFailed → ⊥)
+      → PlaysUpTo side limit first second input output outcome → DomainPlayed first second
+  opened_play_up_to Unknown second known known_too unread sound opens = absurd (known refl)
+  opened_play_up_to Closed second known known_too unread sound (inl (can, stays, same)) =
+      ([], stayed output taken had stays.1, (same, refl))
+  opened_play_up_to Closed second known known_too unread sound (inr (one, two, opens, opens_too, then)) = absurd opens
+  opened_play_up_to (Holds bytes) Unknown known known_too unread sound opens = absurd (known_too refl)
+  opened_play_up_to (Holds bytes) Closed known known_too unread sound (inl (can, stays, same)) =
+      ([], stayed output taken had stays.1, (same, refl))
+  opened_play_up_to (Holds bytes) Closed known known_too unread sound (inr (one, two, opens, opens_too, then)) =
+      absurd opens_too
+  opened_play_up_to (Holds bytes) (Holds given) known known_too unread sound (inl (can, stays, same)) =
+      absurd (elim can [ inl bad ↦ bad | inr bad ↦ bad ])
+  opened_play_up_to (Holds bytes) (Holds given) known known_too unread sound (inr (one, two, opens, opens_too, then)) =
+      played_up_to one two bytes given opens opens_too (plain_of outcome fair (λ e. elim (unread e) [
+        | inl bad ↦ bad
+        | inr (inl bad) ↦ bad
+        | inr (inr failed) ↦ sound failed
+      ])) then
 
 names_differ : (name other : Text) → bytes_eq name other ≡ false → name ≡ other → ⊥
 names_differ name other differ same = true≢false (sym ((bytes_eq-Decides name other).1 same) ∙ differ)
@@ -978,19 +1131,23 @@ module _ (at : List ℕ → File) (known : AreKnown at) (input output other_inpu
   two_counted_up_to : (limit : BoardLimit) (path second given others : List ℕ) → path ≡ second → given ≡ others
       → (outcome ≡ Broken Read → CanFail (at path) ⊎ CanFail (at given)) →
       (other ≡ Broken Read → CanFail (at second) ⊎ CanFail (at others))
-      → CountsUpTo limit (at path) (at given) output outcome → CountsUpTo limit (at second) (at others) other_output other
+      → CountsUpTo limit (at path) (at given) output outcome
+      → CountsUpTo limit (at second) (at others) other_output other
       → AreAlike outcome other output other_output
   two_counted_up_to limit =
-      two_found ReportsUpTo limit (λ board bytes answer other line more says also. one_report_of board line more says.1 also.1)
+      two_found ReportsUpTo limit
+      (λ board bytes answer other line more says also. one_report_of board line more says.1 also.1)
       (λ board bytes answer line says. says.0)
 
   two_started_up_to : (limit : BoardLimit) (path second given others : List ℕ) → path ≡ second → given ≡ others
       → (outcome ≡ Broken Read → CanFail (at path) ⊎ CanFail (at given)) →
       (other ≡ Broken Read → CanFail (at second) ⊎ CanFail (at others))
-      → WritesStartsUpTo limit (at path) (at given) output outcome → WritesStartsUpTo limit (at second) (at others) other_output other
+      → WritesStartsUpTo limit (at path) (at given) output outcome
+      → WritesStartsUpTo limit (at second) (at others) other_output other
       → AreAlike outcome other output other_output
   two_started_up_to limit =
-      two_found SaysStartsUpTo limit (λ board bytes answer other line more says also. one_starts_of board line more says.1 also.1)
+      two_found SaysStartsUpTo limit
+      (λ board bytes answer other line more says also. one_starts_of board line more says.1 also.1)
       (λ board bytes answer line says. says.0)
 
   two_nested : (levels pebbles more others : ℕ) → levels ≡ more → pebbles ≡ others
@@ -1020,6 +1177,26 @@ module _ (at : List ℕ → File) (known : AreKnown at) (input output other_inpu
       fair_too
       (at second) (known second)
       unread_too had_lines_too.sound also)
+
+  two_played_up_to : (limit : BoardLimit) (side next : Side) (path second paper others : List ℕ) → side ≡ next
+      → path ≡ second → paper ≡ others
+      → (outcome ≡ Broken Read → CanFail (at path) ⊎ CanFail (at paper) ⊎ input.HasFailed) →
+      (other ≡ Broken Read → CanFail (at second) ⊎ CanFail (at others) ⊎ other_input.HasFailed)
+      → PlaysUpTo side limit (at path) (at paper) input output outcome
+      → PlaysUpTo next limit (at second) (at others) other_input other_output other
+      → AreAlike outcome other output other_output
+  two_played_up_to limit side next path second paper others same same_path same_paper unread unread_too is also =
+      let Plays : Side → List ℕ → List ℕ → Outcome → List ℕ → Type 0 = λ s. DomainPlayEnds limit s lines in
+      alike (PairEnds (Plays next) (at second) (at others))
+      (one_pair (Plays next) (one_domain_play limit next lines) (at second) (at others))
+      outcome other output other_output taken
+      (subst (λ s. EndsBy output taken (PairEnds (Plays s) (at second) (at others)) outcome) same
+      (subst (λ p. EndsBy output taken (PairEnds (Plays side) (at p) (at others)) outcome) same_path
+      (subst (λ p. EndsBy output taken (PairEnds (Plays side) (at path) (at p)) outcome) same_paper
+      (opened_play_up_to limit side input output lines taken had_lines.old had outcome fair (at path) (at paper)
+      (known path) (known paper) unread had_lines.sound is))))
+      (opened_play_up_to limit next other_input other_output lines taken had_lines_too.old had_too other fair_too
+      (at second) (at others) (known second) (known others) unread_too had_lines_too.sound also)
 
   two_joined : (outcome ≡ Broken Read → input.HasFailed) → (other ≡ Broken Read → other_input.HasFailed)
       → ChecksJoined input output outcome → ChecksJoined other_input other_output other
@@ -1097,7 +1274,7 @@ module _ (at : List ℕ → File) (known : AreKnown at) (input output other_inpu
       absurd (names_differ (codes "check") (codes "starts") refl (sym asks.0 ∙ asks_too.0))
   two_done name rows (jobs.Check b p) (jobs.Chains ow om ob) asks asks_too is also =
       absurd (names_differ (codes "check") (codes "chains") refl (sym asks.0 ∙ asks_too.0))
-  two_done name rows (jobs.Check b p) (jobs.Play os og ob) asks asks_too is also =
+  two_done name rows (jobs.Check b p) (jobs.Play os og oy ob) asks asks_too is also =
       absurd (names_differ (codes "check") (codes "play") refl (sym asks.0 ∙ asks_too.0))
   two_done name rows (jobs.Check b p) (jobs.Climb ol) asks asks_too is also =
       absurd (names_differ (codes "check") (codes "climb") refl (sym asks.0 ∙ asks_too.0))
@@ -1116,7 +1293,7 @@ module _ (at : List ℕ → File) (known : AreKnown at) (input output other_inpu
       absurd (names_differ (codes "nested") (codes "starts") refl (sym asks.0 ∙ asks_too.0))
   two_done name rows (jobs.Nested l q) (jobs.Chains ow om ob) asks asks_too is also =
       absurd (names_differ (codes "nested") (codes "chains") refl (sym asks.0 ∙ asks_too.0))
-  two_done name rows (jobs.Nested l q) (jobs.Play os og ob) asks asks_too is also =
+  two_done name rows (jobs.Nested l q) (jobs.Play os og oy ob) asks asks_too is also =
       absurd (names_differ (codes "nested") (codes "play") refl (sym asks.0 ∙ asks_too.0))
   two_done name rows (jobs.Nested l q) (jobs.Climb ol) asks asks_too is also =
       absurd (names_differ (codes "nested") (codes "climb") refl (sym asks.0 ∙ asks_too.0))
@@ -1147,7 +1324,7 @@ module _ (at : List ℕ → File) (known : AreKnown at) (input output other_inpu
       absurd (names_differ (codes "solve") (codes "starts") refl (sym asks.0 ∙ asks_too.0))
   two_done name rows (jobs.Solve w s g y b) (jobs.Chains ow om ob) asks asks_too is also =
       absurd (names_differ (codes "solve") (codes "chains") refl (sym asks.0 ∙ asks_too.0))
-  two_done name rows (jobs.Solve w s g y b) (jobs.Play os og ob) asks asks_too is also =
+  two_done name rows (jobs.Solve w s g y b) (jobs.Play os og oy ob) asks asks_too is also =
       absurd (names_differ (codes "solve") (codes "play") refl (sym asks.0 ∙ asks_too.0))
   two_done name rows (jobs.Solve w s g y b) (jobs.Climb ol) asks asks_too is also =
       absurd (names_differ (codes "solve") (codes "climb") refl (sym asks.0 ∙ asks_too.0))
@@ -1177,7 +1354,7 @@ module _ (at : List ℕ → File) (known : AreKnown at) (input output other_inpu
       absurd (names_differ (codes "report") (codes "starts") refl (sym asks.0 ∙ asks_too.0))
   two_done name rows (jobs.Report w g y b) (jobs.Chains ow om ob) asks asks_too is also =
       absurd (names_differ (codes "report") (codes "chains") refl (sym asks.0 ∙ asks_too.0))
-  two_done name rows (jobs.Report w g y b) (jobs.Play os og ob) asks asks_too is also =
+  two_done name rows (jobs.Report w g y b) (jobs.Play os og oy ob) asks asks_too is also =
       absurd (names_differ (codes "report") (codes "play") refl (sym asks.0 ∙ asks_too.0))
   two_done name rows (jobs.Report w g y b) (jobs.Climb ol) asks asks_too is also =
       absurd (names_differ (codes "report") (codes "climb") refl (sym asks.0 ∙ asks_too.0))
@@ -1207,7 +1384,7 @@ module _ (at : List ℕ → File) (known : AreKnown at) (input output other_inpu
       also.does.0
   two_done name rows (jobs.Starts w g y b) (jobs.Chains ow om ob) asks asks_too is also =
       absurd (names_differ (codes "starts") (codes "chains") refl (sym asks.0 ∙ asks_too.0))
-  two_done name rows (jobs.Starts w g y b) (jobs.Play os og ob) asks asks_too is also =
+  two_done name rows (jobs.Starts w g y b) (jobs.Play os og oy ob) asks asks_too is also =
       absurd (names_differ (codes "starts") (codes "play") refl (sym asks.0 ∙ asks_too.0))
   two_done name rows (jobs.Starts w g y b) (jobs.Climb ol) asks asks_too is also =
       absurd (names_differ (codes "starts") (codes "climb") refl (sym asks.0 ∙ asks_too.0))
@@ -1225,30 +1402,41 @@ module _ (at : List ℕ → File) (known : AreKnown at) (input output other_inpu
   two_done name rows (jobs.Chains w m b) (jobs.Chains ow om ob) asks asks_too is also =
       two_chains m om b.now ob.now (same_number rows (codes "most") _ m om asks.2 asks_too.2)
       (same_path _ b.now ob.now asks.3 asks_too.3) is.unread also.unread is.does.0 also.does.0
-  two_done name rows (jobs.Chains w m b) (jobs.Play os og ob) asks asks_too is also =
+  two_done name rows (jobs.Chains w m b) (jobs.Play os og oy ob) asks asks_too is also =
       absurd (names_differ (codes "chains") (codes "play") refl (sym asks.0 ∙ asks_too.0))
   two_done name rows (jobs.Chains w m b) (jobs.Climb ol) asks asks_too is also =
       absurd (names_differ (codes "chains") (codes "climb") refl (sym asks.0 ∙ asks_too.0))
-  two_done name rows (jobs.Play s g b) jobs.Joined asks asks_too is also = absurd asks_too
-  two_done name rows (jobs.Play s g b) (jobs.Check ob op) asks asks_too is also =
+  two_done name rows (jobs.Play s g y b) jobs.Joined asks asks_too is also = absurd asks_too
+  two_done name rows (jobs.Play s g y b) (jobs.Check ob op) asks asks_too is also =
       absurd (names_differ (codes "play") (codes "check") refl (sym asks.0 ∙ asks_too.0))
-  two_done name rows (jobs.Play s g b) (jobs.Nested ol oq) asks asks_too is also =
+  two_done name rows (jobs.Play s g y b) (jobs.Nested ol oq) asks asks_too is also =
       absurd (names_differ (codes "play") (codes "nested") refl (sym asks.0 ∙ asks_too.0))
-  two_done name rows (jobs.Play s g b) (jobs.Solve ow os og oy ob) asks asks_too is also =
+  two_done name rows (jobs.Play s g y b) (jobs.Solve ow os og oy ob) asks asks_too is also =
       absurd (names_differ (codes "play") (codes "solve") refl (sym asks.0 ∙ asks_too.0))
-  two_done name rows (jobs.Play s g b) (jobs.Report ow og oy ob) asks asks_too is also =
+  two_done name rows (jobs.Play s g y b) (jobs.Report ow og oy ob) asks asks_too is also =
       absurd (names_differ (codes "play") (codes "report") refl (sym asks.0 ∙ asks_too.0))
-  two_done name rows (jobs.Play s g b) (jobs.Starts ow og oy ob) asks asks_too is also =
+  two_done name rows (jobs.Play s g y b) (jobs.Starts ow og oy ob) asks asks_too is also =
       absurd (names_differ (codes "play") (codes "starts") refl (sym asks.0 ∙ asks_too.0))
-  two_done name rows (jobs.Play s g b) (jobs.Chains ow om ob) asks asks_too is also =
+  two_done name rows (jobs.Play s g y b) (jobs.Chains ow om ob) asks asks_too is also =
       absurd (names_differ (codes "play") (codes "chains") refl (sym asks.0 ∙ asks_too.0))
-  two_done name rows (jobs.Play s g b) (jobs.Play os og ob) asks asks_too is also =
+  two_done name rows (jobs.Play s g None b) (jobs.Play os og None ob) asks asks_too is also =
       two_played og s os b.now ob.now (sides_alike s os (same_path _ (side_word s) (side_word os) asks.1 asks_too.1))
-      (same_path _ b.now ob.now asks.3 asks_too.3) is.unread also.unread
+      (same_path _ b.now ob.now asks.4 asks_too.4) is.unread also.unread
       (subst (λ l. Plays s l (at b.now) input output outcome)
       (same_limit rows g og asks.2 asks_too.2) is.does)
       also.does
-  two_done name rows (jobs.Play s g b) (jobs.Climb ol) asks asks_too is also =
+  two_done name rows (jobs.Play s g None b) (jobs.Play os og (Some oy) ob) asks asks_too is also =
+      absurd (no_text (sym asks_too.3 ∙ asks.3))
+  two_done name rows (jobs.Play s g (Some y) b) (jobs.Play os og None ob) asks asks_too is also =
+      absurd (no_text (sym asks.3 ∙ asks_too.3))
+  two_done name rows (jobs.Play s g (Some y) b) (jobs.Play os og (Some oy) ob) asks asks_too is also =
+      two_played_up_to og s os b.now ob.now y.now oy.now
+      (sides_alike s os (same_path _ (side_word s) (side_word os) asks.1 asks_too.1))
+      (same_path _ b.now ob.now asks.4 asks_too.4) (same_path _ y.now oy.now asks.3 asks_too.3) is.unread also.unread
+      (subst (λ l. PlaysUpTo s l (at b.now) (at y.now) input output outcome)
+      (same_limit rows g og asks.2 asks_too.2) is.does)
+      also.does
+  two_done name rows (jobs.Play s g y b) (jobs.Climb ol) asks asks_too is also =
       absurd (names_differ (codes "play") (codes "climb") refl (sym asks.0 ∙ asks_too.0))
   two_done name rows (jobs.Climb l) jobs.Joined asks asks_too is also = absurd asks_too
   two_done name rows (jobs.Climb l) (jobs.Check ob op) asks asks_too is also =
@@ -1263,7 +1451,7 @@ module _ (at : List ℕ → File) (known : AreKnown at) (input output other_inpu
       absurd (names_differ (codes "climb") (codes "starts") refl (sym asks.0 ∙ asks_too.0))
   two_done name rows (jobs.Climb l) (jobs.Chains ow om ob) asks asks_too is also =
       absurd (names_differ (codes "climb") (codes "chains") refl (sym asks.0 ∙ asks_too.0))
-  two_done name rows (jobs.Climb l) (jobs.Play os og ob) asks asks_too is also =
+  two_done name rows (jobs.Climb l) (jobs.Play os og oy ob) asks asks_too is also =
       absurd (names_differ (codes "climb") (codes "play") refl (sym asks.0 ∙ asks_too.0))
   two_done name rows (jobs.Climb l) (jobs.Climb ol) asks asks_too is also =
       two_climbed l ol (same_number rows (codes "levels") _ l ol asks.1 asks_too.1)
@@ -1382,7 +1570,7 @@ typed_by_name name rows (jobs.Solve w s g y b) asks = rw asks.0 refl
 typed_by_name name rows (jobs.Report w g y b) asks = rw asks.0 refl
 typed_by_name name rows (jobs.Starts w g y b) asks = rw asks.0 refl
 typed_by_name name rows (jobs.Chains w m b) asks = rw asks.0 refl
-typed_by_name name rows (jobs.Play s g b) asks = rw asks.0 refl
+typed_by_name name rows (jobs.Play s g y b) asks = rw asks.0 refl
 typed_by_name name rows (jobs.Climb l) asks = rw asks.0 refl
 
 typed_as_read : (found : Option (Text × List Row)) (job more : Job) → IsReadAs found job → IsReadAs found more

@@ -118,7 +118,7 @@ module _ (at : List ℕ → File) (terminals : Terminals) (off : terminals.error
   nothing_in_job (Chains workers most board) told is =
       unopened {Answer = Unit {0}} (at board.now) (λ read. IsToldOfChains most read terminals.errors) outcome told
       (λ read result tells. no_lengths most read terminals.errors off result told tells) is
-  nothing_in_job (Play side limit board) told is =
+  nothing_in_job (Play side limit None board) told is =
       unopened {Answer = PlayEnd} (at board.now)
       (λ read. IsToldInRun limit side MAX_BOARD_BYTES (input.IsKept × output.IsKept) read input.bytes output.bytes
       terminals.errors (types_and_sees terminals)) outcome told
@@ -128,6 +128,15 @@ module _ (at : List ℕ → File) (terminals : Terminals) (off : terminals.error
       output.bytes false prompts result told) unseen_here
       (subst (λ sees. IsToldInRun limit side MAX_BOARD_BYTES (input.IsKept × output.IsKept) read input.bytes
       output.bytes sees (types_and_sees terminals) result told) off tells))) is
+  nothing_in_job (Play side limit (Some symmetries) board) told (inl (fails, is)) = is
+  nothing_in_job (Play side limit (Some symmetries) board) told
+      (inr (b, s, opens, opens_too, result, same, inl (fault, broke, none, stays, is))) = is
+  nothing_in_job (Play side limit (Some symmetries) board) told
+      (inr (b, s, opens, opens_too, result, same, inr (given, domain, played, run, are))) =
+      nothing_told (game_played side given) told input.bytes.old input.bytes.new output.bytes.old output.bytes.new
+      played
+      (subst (λ shows. ArePrompts shows (game_played side given) input.bytes.old input.bytes.new output.bytes.old
+      output.bytes.new played told) unseen_here are)
   nothing_in_job (Climb levels) told (played, same, are) =
       nothing_told (PersonClimbs levels) told input.bytes.old input.bytes.new output.bytes.old output.bytes.new played
       (subst (λ shows. ArePrompts shows (PersonClimbs levels) input.bytes.old input.bytes.new output.bytes.old

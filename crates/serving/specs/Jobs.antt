@@ -10,7 +10,7 @@ use Rattle.runs.specs.CheckRun.{RanCheck, CheckFails}
 use Rattle.serving.specs.Folders.{File, OpensWith, CanFail}
 use Rattle.runs.specs.NestedText.{IsNestedText}
 use Rattle.serving.specs.Outcomes.{EndsAs, outcome_of_check, outcome_of_run}
-use Rattle.runs.specs.PlayRun.{IsBrokenOff, IsOver, PlayFails, RanPlay}
+use Rattle.runs.specs.PlayRun.{IsBrokenOff, IsOver, PlayFails, PlayFailsUpTo, RanPlay, RanPlayUpTo}
 use Rattle.runs.specs.ChainText.{CannotCountChains, SaysChains}
 use Rattle.runs.specs.Report.{Reports}
 use Rattle.runs.specs.StartText.{SaysStarts}
@@ -136,6 +136,16 @@ Plays side limit board input output outcome =
     (PlayFails limit side MAX_BOARD_BYTES (input.IsKept × output.IsKept)
     read input.bytes output.bytes)) outcome
 
+-- the same with values up to symmetries in another file
+abbrev pub PlaysUpTo : Side → BoardLimit → File → File → Stream → Stream → Outcome → Type 0
+PlaysUpTo side limit board symmetries input output outcome =
+    ((CanFail board ⊎ CanFail symmetries) × (input.IsKept × output.IsKept)
+    × (outcome ≡ Broken Read))
+    ⊎ ((b s : Bytes) × OpensWith board b.old × OpensWith symmetries s.old
+    × EndsAs outcome_of_run (RanPlayUpTo limit side b s input.bytes output.bytes)
+    (PlayFailsUpTo limit side (s.new ≡ s.old) (input.IsKept × output.IsKept) b s input.bytes
+    output.bytes) outcome)
+
 -- a play on the nested board of the level
 abbrev pub Climbs : ℕ → Stream → Stream → Outcome → Type 0
 Climbs levels input output outcome =
@@ -173,7 +183,10 @@ module _ (at : List ℕ → File) (input output : Stream) where
       WritesStartsUpTo limit (at board.now) (at symmetries.now) output outcome × input.IsKept
   DoesJob (Chains workers most board) outcome =
       CountsChains most (at board.now) output outcome × input.IsKept
-  DoesJob (Play side limit board) outcome = Plays side limit (at board.now) input output outcome
+  DoesJob (Play side limit None board) outcome =
+      Plays side limit (at board.now) input output outcome
+  DoesJob (Play side limit (Some symmetries) board) outcome =
+      PlaysUpTo side limit (at board.now) (at symmetries.now) input output outcome
   DoesJob (Climb levels) outcome = Climbs levels input output outcome
 
   -- an input of the job has failed, or can fail: standard input, or a file whose bytes aren't known
@@ -191,7 +204,9 @@ module _ (at : List ℕ → File) (input output : Stream) where
   CanBeUnread (Starts workers limit (Some symmetries) board) =
       CanFail (at board.now) ⊎ CanFail (at symmetries.now)
   CanBeUnread (Chains workers most board) = CanFail (at board.now)
-  CanBeUnread (Play side limit board) = CanFail (at board.now) ⊎ input.HasFailed
+  CanBeUnread (Play side limit None board) = CanFail (at board.now) ⊎ input.HasFailed
+  CanBeUnread (Play side limit (Some symmetries) board) =
+      CanFail (at board.now) ⊎ CanFail (at symmetries.now) ⊎ input.HasFailed
   CanBeUnread (Climb levels) = input.HasFailed
 
   -- the same; the streams have failed if the outcome says so, and only then; and no read fault is

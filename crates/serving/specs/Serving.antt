@@ -60,7 +60,7 @@ IsEnding explains (Broken fault) said = IsExplained explains (line_of_fault faul
 -- the job reads standard input, with lines that a person may type
 abbrev pub is_typed : Job → Bool
 is_typed Joined = true
-is_typed (Play side limit board) = true
+is_typed (Play side limit symmetries board) = true
 is_typed (Climb levels) = true
 is_typed job = false
 

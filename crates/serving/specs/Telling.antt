@@ -15,7 +15,7 @@ use Rattle.player.specs.declared.end.PlayFault.{PlayFault}
 use Rattle.positions.specs.declared.value.Value.{Value}
 use Rattle.runs.specs.CheckRun.{RanCheck}
 use Rattle.runs.specs.Notices.{IsNoticedInRun, IsToldOfChains}
-use Rattle.runs.specs.PlayRun.{IsToldInRun, run_of_play}
+use Rattle.runs.specs.PlayRun.{IsToldInRun, IsToldUpTo, run_of_play}
 use Rattle.runs.specs.Run.{Bytes, Ran, Stream}
 use Rattle.runs.specs.Verdicts.{IsAnswered}
 use Rattle.runs.specs.declared.checking.TheConstants.{MAX_JOINED_BYTES, MAX_PROOF_BYTES}
@@ -76,6 +76,15 @@ OpensAndTells {Answer} file Tells outcome told =
     ⊎ ((read : Bytes) × OpensWith file read.old × (result : Result Answer RunFault)
     × (outcome ≡ outcome_of_run result) × Tells read result told)
 
+-- the same of two files
+abbrev pub OpensBothAndTells : {Answer : Type 0} → File → File
+    → (Bytes → Bytes → Result Answer RunFault → List ℕ → Type 0) → Outcome → List ℕ → Type 0
+OpensBothAndTells {Answer} first second Tells outcome told =
+    ((CanFail first ⊎ CanFail second) × (told ≡ []))
+    ⊎ ((one two : Bytes) × OpensWith first one.old × OpensWith second two.old
+    × (result : Result Answer RunFault) × (outcome ≡ outcome_of_run result)
+    × Tells one two result told)
+
 -- the prompts of a play on the nested board of the level, and its outcome
 abbrev pub IsToldInClimb : Bool → ℕ → Bytes → Bytes → Outcome → List ℕ → Type 0
 IsToldInClimb shows levels lines written outcome told = (played : Result PlayEnd PlayFault)
@@ -107,8 +116,12 @@ module _ (at : List ℕ → File) (terminals : Terminals) (input output : Stream
   IsToldInJob (Chains workers most board) told =
       OpensAndTells {Answer = Unit {0}} (at board.now)
       (λ read. IsToldOfChains most read terminals.errors) outcome told
-  IsToldInJob (Play side limit board) told = OpensAndTells {Answer = PlayEnd} (at board.now)
+  IsToldInJob (Play side limit None board) told = OpensAndTells {Answer = PlayEnd} (at board.now)
       (λ read. IsToldInRun limit side MAX_BOARD_BYTES (input.IsKept × output.IsKept) read
       input.bytes output.bytes terminals.errors (types_and_sees terminals)) outcome told
+  IsToldInJob (Play side limit (Some symmetries) board) told =
+      OpensBothAndTells {Answer = PlayEnd} (at board.now) (at symmetries.now)
+      (λ b s. IsToldUpTo limit side (input.IsKept × output.IsKept) b s input.bytes output.bytes
+      (types_and_sees terminals)) outcome told
   IsToldInJob (Climb levels) told =
       IsToldInClimb (types_and_sees terminals) levels input.bytes output.bytes outcome told

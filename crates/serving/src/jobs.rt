@@ -9,15 +9,16 @@ ghost use Rattle.console.specs.Showing.{IsMore};
 ghost use Rattle.player.specs.declared.end.PlayEnd.{PlayEnd as EndData};
 ghost use Rattle.positions.specs.declared.value.Value.{Value as ValueData};
 ghost use Rattle.runs.specs.Notices.{IsNoticedInRun, IsToldOfChains};
-ghost use Rattle.runs.specs.PlayRun.{IsToldInRun};
+ghost use Rattle.runs.specs.PlayRun.{IsToldInRun, IsToldUpTo};
 ghost use Rattle.runs.specs.Run.{bytes_of, stream_of};
 ghost use Rattle.serving.specs.Consoles.{IsReady};
 ghost use Rattle.serving.specs.Folders.{CanFail};
 ghost use Rattle.serving.specs.Jobs.{IsDone, Checks, ChecksJoined, Climbs, Counts, CountsChains};
-ghost use Rattle.serving.specs.Jobs.{CountsUpTo, Plays, Solves, SolvesUpTo, TellsReads};
-ghost use Rattle.serving.specs.Jobs.{TellsWrites, WritesNested, WritesStarts, WritesStartsUpTo};
+ghost use Rattle.serving.specs.Jobs.{CountsUpTo, Plays, PlaysUpTo, Solves, SolvesUpTo};
+ghost use Rattle.serving.specs.Jobs.{TellsReads, TellsWrites, WritesNested, WritesStarts};
+ghost use Rattle.serving.specs.Jobs.{WritesStartsUpTo};
 ghost use Rattle.serving.specs.Telling.{IsToldInClimb, IsToldInJob, IsToldOfFiles, IsToldOfJoined};
-ghost use Rattle.serving.specs.Telling.{OpensAndTells, joined_greeting};
+ghost use Rattle.serving.specs.Telling.{OpensAndTells, OpensBothAndTells, joined_greeting};
 ghost use Rattle.serving.specs.Telling.{rows_line, rows_told};
 ghost use Rattle.serving.specs.Telling.{types_and_sees};
 
@@ -212,14 +213,22 @@ pub(crate) fn carry_out<'a, F: Folder, I: Source, O: Sink, E: Sink>(
             };
             chains(rt, alloc, chaining, files, board, console)
         }
-        Job::Play { side, limit, board } => {
+        Job::Play {
+            side,
+            limit,
+            symmetries,
+            board,
+        } => {
             let playing = Playing {
                 side,
                 limit,
                 shows_size,
                 prompts: console.terminals.are_both(),
             };
-            play(alloc, playing, files, board, console)
+            match symmetries {
+                None => play(alloc, playing, files, board, console),
+                Some(given) => play_up_to(alloc, playing, files, board, given, console),
+            }
         }
         Job::Climb { levels } => climb(alloc, levels, files, console),
     }
@@ -658,6 +667,60 @@ fn play<'a, F: Folder, I: Source, O: Sink, E: Sink>(
         Outcome::of_run(ended),
         &Inputs::alone(playing.limit, text, lines),
     )
+}
+
+/// Plays on the board at a path with a person, with values up to the symmetries at another. Both
+/// are opened before one is read.
+fn play_up_to<'a, F: Folder, I: Source, O: Sink, E: Sink>(
+    alloc: Global,
+    playing: Playing,
+    files: &Files<'_, F>,
+    board: &'a str,
+    symmetries: &'a str,
+    console: &mut Console<I, O, E>,
+) -> Ended<'a>
+    requires ready { IsReady I.has_failed I.has_ended O.has_failed console.old }
+    ensures done { PlaysUpTo playing.side playing.limit (F.at files.now.folder.now board.now)
+        (F.at files.now.folder.now symmetries.now)
+        (stream_of I.remaining I.has_failed console.old.input console.new.input)
+        (stream_of O.contents O.has_failed console.old.output console.new.output) result.outcome }
+    ensures writes { TellsWrites
+        (stream_of O.contents O.has_failed console.old.output console.new.output) result.outcome }
+    ensures reads { I.has_failed console.new.input ≡ true → result.outcome ≡ Broken Read }
+    ensures unread { result.outcome ≡ Broken Read
+        → CanFail (F.at files.now.folder.now board.now)
+        ⊎ CanFail (F.at files.now.folder.now symmetries.now)
+        ⊎ (I.has_failed console.new.input ≡ true) }
+    ensures told { (told : List ℕ) × OpensBothAndTells {Answer = EndData}
+        (F.at files.now.folder.now board.now) (F.at files.now.folder.now symmetries.now)
+        (λ b s. IsToldUpTo playing.limit playing.side
+        ((console.new.input ≡ console.old.input) × (console.new.output ≡ console.old.output)) b s
+        (bytes_of I.remaining console.old.input console.new.input)
+        (bytes_of O.contents console.old.output console.new.output) playing.prompts)
+        result.outcome told
+        × IsMore E.contents E.has_failed console.old.errors console.new.errors told }
+{
+    let Ok(mut reader) = files.open(alloc, board) else {
+        return Ended::unopened(files, board);
+    };
+    let Ok(mut other) = files.open(alloc, symmetries) else {
+        return Ended::unopened(files, symmetries);
+    };
+    let ended = playing.run_up_to_symmetries(
+        alloc,
+        &mut reader,
+        &mut other,
+        &mut console.input,
+        &mut console.output,
+        &mut console.errors,
+    );
+    let trouble = files.trouble_of(board, &reader);
+    let first = Origin::board(board, reader.text(), reader.count(), trouble);
+    let trouble = files.trouble_of(symmetries, &other);
+    let second = Origin::symmetries(symmetries, other.text(), other.count(), trouble);
+    let lines = Origin::lines(files.trouble_of(INPUT_PATH, &console.input));
+    let inputs = Inputs::with_symmetries(playing.limit, first, second).and_lines(lines);
+    Ended::of(Outcome::of_run(ended), &inputs)
 }
 
 /// Plays on the nested board of a level with a person, who asks by the lines of standard input.

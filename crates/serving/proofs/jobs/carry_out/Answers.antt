@@ -11,13 +11,23 @@ returns-in-Joined-clause-done g c =
       unread = c.check_joined.ensures.reads.1;
     }
 
-pub returns-in-Play-clause-done : goal.returns-in-Play-clause-done
-returns-in-Play-clause-done g c =
-    rw c.in-Play.is record {
+pub returns-in-None-symmetries-3-clause-done : goal.returns-in-None-symmetries-3-clause-done
+returns-in-None-symmetries-3-clause-done g c =
+    rw (c.in-Play.is, c.in-None-symmetries-3.is) record {
       does = c.play.ensures.done;
       writes = c.play.ensures.writes;
       reads = c.play.ensures.reads;
       unread = c.play.ensures.unread;
+    }
+
+pub returns-in-Some-symmetries-3-clause-done : goal.returns-in-Some-symmetries-3-clause-done
+returns-in-Some-symmetries-3-clause-done g c =
+    let run = c.play_up_to.ensures in
+    rw (c.in-Play.is, c.in-Some-symmetries-3.is) record {
+      does = run.done;
+      writes = run.writes;
+      reads = run.reads;
+      unread = run.unread;
     }
 
 pub returns-in-Climb-clause-done : goal.returns-in-Climb-clause-done
@@ -150,8 +160,13 @@ returns-in-Some-symmetries-2-clause-told g c =
     rw (c.in-Starts.is, c.in-Some-symmetries-2.is)
     ([], refl, none_more g.E.Sink.contents g.E.Sink.has_failed c.args.console.now.errors)
 
-pub returns-in-Play-clause-told : goal.returns-in-Play-clause-told
-returns-in-Play-clause-told g c = rw (c.in-Play.is, ← c.are_both.ensures) c.play.ensures.told
+pub returns-in-None-symmetries-3-clause-told : goal.returns-in-None-symmetries-3-clause-told
+returns-in-None-symmetries-3-clause-told g c =
+    rw (c.in-Play.is, c.in-None-symmetries-3.is, ← c.are_both.ensures) c.play.ensures.told
+
+pub returns-in-Some-symmetries-3-clause-told : goal.returns-in-Some-symmetries-3-clause-told
+returns-in-Some-symmetries-3-clause-told g c =
+    rw (c.in-Play.is, c.in-Some-symmetries-3.is, ← c.are_both.ensures) c.play_up_to.ensures.told
 
 pub returns-in-Climb-clause-told : goal.returns-in-Climb-clause-told
 returns-in-Climb-clause-told g c = rw c.in-Climb.is c.climb.ensures.told

@@ -1,6 +1,5 @@
 use Rattle.std.proofs.lemmas.Result.{IfErr-weaker, IfOk-weaker, err_from_is_err_and}
-use Rattle.runs.proofs.GivenSymmetries.{given_group, maps_of, spells_few, too_many_orbits, unshown_up_to}
-use Rattle.runs.proofs.GivenSymmetries.{without_symmetries, without_values}
+use Rattle.runs.proofs.GivenSymmetries.{maps_of, spells_few, unshown_up_to, without_symmetries, without_values}
 use Rattle.runs.proofs.work.Work.symmetric_solution.Goals as goal
 
 pub returns-in_err-symmetries-clause-fault : goal.returns-in_err-symmetries-clause-fault
@@ -11,18 +10,15 @@ returns-in_err-symmetries-clause-fault g c =
     (without_symmetries board c.requires.board c.args.text.now c.in_err-symmetries.field-0.0
     c.in_err-symmetries.ensures.fault))
 
-pub of-requires : goal.of-requires
-of-requires g c =
-    given_group c.args.board.now c.requires.board c.args.text.now c.in_ok-symmetries.symmetries
-    c.in_ok-symmetries.ensures.found
+pub values-requires-clause-given : goal.values-requires-clause-given
+values-requires-clause-given g c = (c.args.text.now, c.in_ok-symmetries.ensures.found)
 
 pub returns-in_err-values-clause-fault : goal.returns-in_err-values-clause-fault
 returns-in_err-values-clause-fault g c =
     let p = err_from_is_err_and c.from_residual-in_err-values.result c.from_residual-in_err-values.ensures.1 in
     let board = c.args.board.now in
-    rw p.1 (without_values board c.requires.board c.args.text.now c.args.side _
-    (too_many_orbits board c.requires.board c.args.text.now c.in_ok-symmetries.symmetries
-    c.in_err-values.field-0.0 _ c.in_ok-symmetries.ensures.found p.2 c.in_err-values.ensures.values))
+    rw (p.1, p.2) (without_values board c.requires.board c.args.text.now c.args.side _
+    (c.in_err-values.ensures.fault c.args.text.now c.in_ok-symmetries.ensures.found))
 
 pub solution_up_to-requires-clause-given : goal.solution_up_to-requires-clause-given
 solution_up_to-requires-clause-given g c = λ lifetimes lives.
