@@ -148,13 +148,15 @@ def answered(top, crate, waiting, most):
 def tried_together(top, crate, mutations):
     """Of each wrong body of a crate that some check answers, by its name, the goal that refuses it, or '' if it is proved."""
     found, waiting, most = {}, list(mutations), len(mutations)
-    while waiting and most:
+    while waiting:
         more, had = answered(top, crate, waiting, most)
-        if not more:
-            # One that doesn't compile leaves the others without an answer.
-            most = len(had) // 2
         found |= more
-        waiting = [mutation for mutation in waiting if mutation.name not in found]
+        if more or len(had) <= 1:
+            done, most = more or had or {it.name for it in waiting}, len(mutations)
+        else:
+            # One that doesn't compile leaves the others without an answer, until it is alone.
+            done, most = {}, len(had) // 2
+        waiting = [mutation for mutation in waiting if mutation.name not in done]
     return found
 
 
@@ -189,7 +191,7 @@ def resting_on(top, crate, module):
 
 def function_of_refusal(top, mutation):
     """The crate that last refused a mutation, and a function of it whose check says so again; None without one."""
-    refused = re.match(r'(\w+), .* of `([^`]+)`$', mutation.says('refused') or '')
+    refused = re.match(r'(\w+), (?:.* of )?`([^`]+)`$', mutation.says('refused') or '')
     if not refused:
         return None
     crate, place = refused.groups()
