@@ -497,7 +497,7 @@ fn wrong_words_of_solving_and_reports(rt: HostRuntime) {
         ["pebbles", "solve", "a", "--symmetries"].as_slice(),
         ["pebbles", "solve", "--symmetries", "--large", "a"].as_slice(),
         ["pebbles", "solve", "--symmetries=b", "--symmetries=b", "a"].as_slice(),
-        ["pebbles", "report", "--symmetries", "b", "a"].as_slice(),
+        ["pebbles", "chains", "--symmetries", "b", "a"].as_slice(),
         ["pebbles", "report"].as_slice(),
         ["pebbles", "report", "--large"].as_slice(),
         ["pebbles", "report", "--large=true", "a"].as_slice(),

@@ -44,7 +44,7 @@ impl Form {
         Form {
             option,
             takes_side: false,
-            takes_symmetries: false,
+            takes_symmetries: takes_large,
             takes_large,
             takes_explain: true,
             wants,
@@ -57,7 +57,6 @@ impl Form {
             "check" => Some(Form::new("none", false, 2, 0)),
             "solve" => Some(Form {
                 takes_side: true,
-                takes_symmetries: true,
                 ..Form::new("--workers", true, 1, 0)
             }),
             "report" | "starts" => Some(Form::new("--workers", true, 1, 0)),
