@@ -14,7 +14,9 @@ mod gaps;
 mod levels;
 mod lists;
 mod measure;
+mod normal;
 mod numbering;
+mod orbits;
 mod proof;
 mod ranks;
 mod reader;
@@ -90,6 +92,8 @@ fn main() {
         ("ranks", _) => output::<Ranks>(&words[2..]),
         ("classes", _) => output::<Classes>(&words[2..]),
         ("gaps", "report") => gaps::report(&Board::read(&contents(words.get(3)))),
+        ("orbits", "report") => orbits::report(&contents(words.get(3)), &contents(words.get(4))),
+        ("orbits", "starts") => orbits::starts(&contents(words.get(3)), &contents(words.get(4))),
         ("chains", path) if !path.is_empty() => chains::chains(&Board::read(&contents(words.get(2)))),
         ("measure", program) if !program.is_empty() => measure::measure(&words[2..]).into_bytes(),
         _ => refuse(USAGE),

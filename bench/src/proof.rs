@@ -114,7 +114,7 @@ impl Proof {
 }
 
 /// The maps of labels, as many as are said before them.
-fn read_maps(board: &Board, text: &mut Reader) -> Vec<Images> {
+pub fn read_maps(board: &Board, text: &mut Reader) -> Vec<Images> {
     text.take("symmetries ");
     let count = text.number(0..=MOST_MAPS, b'\n');
     let mut labels = vec![0; board.labels as usize];
