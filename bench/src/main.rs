@@ -1,7 +1,8 @@
-//! Three plain mirrors of `pebbles`: the same answers by arrays alone, for boards whose places all
-//! hold labels. Two answer `solve`, `report` and `check`, of documents up to symmetries too, and
-//! number configurations by ranks or by classes; one answers `report` by the gaps of classes. A
-//! fourth counts chains. README.md says what they are for.
+//! Plain mirrors of `pebbles`: the same answers by arrays alone, for boards whose places all hold
+//! labels. Two answer `solve`, `report` and `check`, of documents up to symmetries too, and number
+//! configurations by ranks or by classes; one answers `report` by the gaps of classes, and one
+//! `report` and `starts` by the orbits of gaps. A fifth counts chains. README.md says what they are
+//! for.
 
 mod board;
 mod chains;
@@ -61,8 +62,9 @@ fn contents(path: Option<&String>) -> Vec<u8> {
     std::fs::read(path).unwrap_or_else(|error| refuse(&format!("{path}: {error}")))
 }
 
-const USAGE: &str = "ranks COMMAND, classes COMMAND, gaps report BOARD, chains BOARD or measure \
-                     PROGRAM; COMMAND is solve BOARD, solve-large BOARD, report BOARD or check BOARD PROOF";
+const USAGE: &str = "ranks COMMAND, classes COMMAND, gaps report BOARD, orbits report MAPS BOARD, \
+                     orbits starts MAPS BOARD, chains BOARD or measure PROGRAM; COMMAND is solve BOARD, \
+                     solve-large BOARD, report BOARD or check BOARD PROOF";
 
 /// The output of a command by one numbering.
 fn output<N: Numbering>(words: &[String]) -> Vec<u8> {
@@ -92,8 +94,7 @@ fn main() {
         ("ranks", _) => output::<Ranks>(&words[2..]),
         ("classes", _) => output::<Classes>(&words[2..]),
         ("gaps", "report") => gaps::report(&Board::read(&contents(words.get(3)))),
-        ("orbits", "report") => orbits::report(&contents(words.get(3)), &contents(words.get(4))),
-        ("orbits", "starts") => orbits::starts(&contents(words.get(3)), &contents(words.get(4))),
+        ("orbits", command) => orbits::output(command, &contents(words.get(3)), &contents(words.get(4))),
         ("chains", path) if !path.is_empty() => chains::chains(&Board::read(&contents(words.get(2)))),
         ("measure", program) if !program.is_empty() => measure::measure(&words[2..]).into_bytes(),
         _ => refuse(USAGE),
