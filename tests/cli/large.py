@@ -109,8 +109,9 @@ def checks(work):
         yield check(f'the report of a long chain, as a large board, with {workers} workers', Ran(output=chain_report(*LONG_CHAIN)),
                     ['report', '--large', '--workers', workers, chain])
     none = written(work, 'none.maps', b'symmetries 0\nend\n')
-    yield check('the report of a long chain up to no symmetries', Ran(output=chain_report(*LONG_CHAIN)),
-                ['report', '--large', '--symmetries', none, chain])
+    for workers in '1', '16':
+        yield check(f'the report of a long chain up to no symmetries with {workers} workers', Ran(output=chain_report(*LONG_CHAIN)),
+                    ['report', '--large', '--workers', workers, '--symmetries', none, chain])
     for side, (lines, transcript) in LARGE_PLAYS.items():
         yield check(f'a play on a long chain up to no symmetries as the {side}', Ran(output=transcript),
                     ['play', '--large', '--symmetries', none, '--side', side, chain], input=lines)

@@ -1,6 +1,6 @@
 //! Values by orbits, beside those by gaps.
 
-ghost use Rattle.std.specs.Prelude.{◌≡◌, ◌↔◌, IfOk, IfSome, IsTrue};
+ghost use Rattle.std.specs.Prelude.{◌≡◌, ◌↔◌, ◌≤◌, IfOk, IfSome, IsTrue};
 ghost use Rattle.board_text.specs.PlainBoard.{IsConfiguration};
 ghost use Rattle.orbits.specs.Orbits.{HasGroupOrNone};
 ghost use Rattle.proof_text.specs.Documents.{AreHeldMaps};
@@ -14,6 +14,7 @@ use proof_check::wrong_map;
 use proof_text::{Images, parse_symmetries};
 use std::alloc::Global;
 use std::process::Abort;
+use std::thread::Threads;
 use symmetries::{Alike, group_of};
 
 /// The residues modulo seven, of which one dominates another if their difference is a square, and
@@ -162,11 +163,20 @@ fn alike_of(rt: &impl Abort, alloc: Global, board: &Board, maps: &str) -> Alike
     }
 }
 
-/// Asserts the values of all configurations of the board whose text this is.
-fn assert_board(rt: &impl Abort, alloc: Global, text: &str, maps: &str) {
+/// Asserts the values of all configurations of the board whose text this is, found by at most this
+/// number of `workers`.
+fn assert_board(
+    rt: &(impl Abort + Threads + Sync),
+    alloc: Global,
+    workers: u8,
+    text: &str,
+    maps: &str,
+)
+    requires { 1 ≤ workers }
+{
     let board = parse(alloc, text.as_bytes()).ok().expect(rt, "a board");
     let alike = alike_of(rt, alloc, &board, maps);
-    match OrbitValues::of(alloc, &board, &alike) {
+    match OrbitValues::of(rt, alloc, &board, &alike, workers) {
         Ok(values) => {
             assert_all_values(rt, alloc, &board, &values);
             assert_all_sizes(rt, alloc, &board, &values);
@@ -175,13 +185,24 @@ fn assert_board(rt: &impl Abort, alloc: Global, text: &str, maps: &str) {
     }
 }
 
+/// Asserts the values of boards of each kind, found by at most this number of `workers`.
+fn assert_boards(rt: &(impl Abort + Threads + Sync), alloc: Global, workers: u8)
+    requires { 1 ≤ workers }
+{
+    assert_board(rt, alloc, workers, RESIDUES, TURNS);
+    assert_board(rt, alloc, workers, THREE_CYCLE, BACK);
+    assert_board(rt, alloc, workers, CHAIN_WITHOUT_LABELS, NONE);
+    assert_board(rt, alloc, workers, LONE_LABEL, NONE);
+}
+
 #[test]
 fn all_values_of_boards(rt: HostRuntime) {
-    let alloc = rt.alloc();
-    assert_board(&rt, alloc, RESIDUES, TURNS);
-    assert_board(&rt, alloc, THREE_CYCLE, BACK);
-    assert_board(&rt, alloc, CHAIN_WITHOUT_LABELS, NONE);
-    assert_board(&rt, alloc, LONE_LABEL, NONE);
+    assert_boards(&rt, rt.alloc(), 1);
+}
+
+#[test]
+fn by_several_workers(rt: HostRuntime) {
+    assert_boards(&rt, rt.alloc(), 3);
 }
 
 #[test]
@@ -191,7 +212,7 @@ fn without_symmetries(rt: HostRuntime) {
         .ok()
         .expect(&rt, "a board");
     let alike = Alike::by_classes(&board);
-    match OrbitValues::of(alloc, &board, &alike) {
+    match OrbitValues::of(&rt, alloc, &board, &alike, 1) {
         Ok(values) => {
             assert_all_values(&rt, alloc, &board, &values);
             assert_all_sizes(&rt, alloc, &board, &values);

@@ -23,6 +23,7 @@ pub mod ToldChains
 pub mod PlayFaults
 pub mod ChainTexts
 pub mod StartTexts
+pub mod OneSummary
 pub mod Cited
 pub mod ValueCounts
 pub mod SideSolutions

@@ -24,6 +24,7 @@ use nested_cycles::MAX_LEVELS;
 use player::{AsAdversary, AsClimber, AsLabeller, PlayEnd, PlayFault, play};
 use positions::Side;
 use std::alloc::Global;
+use std::thread::Threads;
 use strategies::GapMoves;
 
 /// Reads a board, finds its values and plays on it with a person,
@@ -131,6 +132,7 @@ impl Playing {
     /// checked before anything is solved.
     pub fn run_up_to_symmetries<B: Source, S: Source, L: Source, W: Sink, E: Sink>(
         self,
+        rt: &(impl Threads + Sync),
         alloc: Global,
         board: &mut B,
         symmetries: &mut S,
@@ -171,7 +173,7 @@ impl Playing {
         let board = read_board_up_to(alloc, self.limit, board)?;
         let text = read_text(alloc, symmetries, MAX_SYMMETRIES_BYTES)?;
         let symmetries = symmetries_of(alloc, &board, text.as_slice())?;
-        let values = symmetries.values(alloc, &board)?;
+        let values = symmetries.values(rt, alloc, &board, 1)?;
         let moves = GapMoves::new(&board, &values);
         Ok(self.play(alloc, &moves, lines, writer, errors)?)
     }

@@ -88,7 +88,7 @@ impl Work {
         ensures fault { IfErr result (CannotSolveUpTo side board.now text.now) }
     {
         let symmetries = symmetries_of(alloc, board, text)?;
-        let values = symmetries.values(alloc, board)?;
+        let values = symmetries.values(rt, alloc, board, self.workers)?;
         let moves = GapMoves::new(board, &values);
         solution_up_to(rt, alloc, &moves, &symmetries, side, self.workers)
     }

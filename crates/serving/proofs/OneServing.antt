@@ -18,7 +18,7 @@ use Rattle.board_text.specs.declared.fault.BoardFault.{BoardFault}
 use Rattle.runs.proofs.Cited.{not_wrong, not_wrong_among, one_length, one_report, one_solution, one_verdict, one_wrong}
 use Rattle.runs.proofs.Cited.{class_solution_or_fault, one_class_solution, one_unsolved, one_wrong_among}
 use Rattle.runs.proofs.Cited.{one_side_solution, one_unsolved_for, one_wrong_proof, side_solution_or_fault}
-use Rattle.runs.proofs.Cited.{given_or_lacking, one_lacking, one_report_of, one_starts_of, one_symmetric_solution}
+use Rattle.runs.proofs.Cited.{given_or_lacking, one_lacking, one_summary, one_symmetric_solution}
 use Rattle.runs.proofs.Cited.{one_unsolved_up_to, symmetric_solution_or_fault, verdict_or_fault}
 use Rattle.runs.proofs.Cited.{chains_or_fault, one_chain_fault, one_chains, one_starts, wrong_counting}
 use Rattle.runs.specs.ChainText.{CannotCountChains, HasNoChains, SaysChains}
@@ -51,8 +51,8 @@ use Rattle.runs.specs.BoardRun.{FailsOn, GaveBoard, GaveBoardAmong, GaveNoBoard,
 use Rattle.serving.specs.Folders.{CanFail, Closed, File, Holds, Unknown}
 use Rattle.serving.specs.FaultLines.{line_of_fault}
 use Rattle.serving.specs.Jobs.{Checks, ChecksJoined, Climbs, Counts, CountsChains, IsDone, Opening, OpeningBoth}
-use Rattle.serving.specs.Jobs.{CountsUpTo, DoesUpTo, Plays, PlaysUpTo, Solves, SolvesUpTo, WritesNested, WritesStarts}
-use Rattle.serving.specs.Jobs.{WritesStartsUpTo, WritesWhole}
+use Rattle.serving.specs.Jobs.{DoesUpTo, Plays, PlaysUpTo, Solves, SolvesUpTo, SummarizesUpTo, WritesNested}
+use Rattle.serving.specs.Jobs.{WritesStarts, WritesWhole}
 use Rattle.runs.specs.NestedText.{IsNestedText}
 use Rattle.serving.specs.Outcomes.{EndsAs, outcome_of_check, outcome_of_run, status_of}
 use Rattle.runs.specs.Report.{Reports}
@@ -67,7 +67,7 @@ use Rattle.serving.specs.Servings.{AreKnown, AskForNoExplanation, HaveOwnText}
 use Rattle.runs.specs.SideSolveRun.{CannotSolveFor, IsSideSolution, IsUnsolvedFor}
 use Rattle.runs.specs.SolveRun.{CannotSolve, IsSolution}
 use Rattle.runs.specs.SymmetricRun.{GaveDomain, GaveNoDomain, GivesFewOrbits, HasNoFewOrbits, LacksFewOrbits}
-use Rattle.runs.specs.SymmetricRun.{ReportsUpTo, SaysStartsUpTo}
+use Rattle.runs.specs.SymmetricRun.{SaysUpTo}
 use Rattle.runs.specs.SymmetricSolveRun.{CannotSolveUpTo, IsSolutionUpTo, IsUnsolvedUpTo}
 use Rattle.runs.specs.declared.given_symmetries.TheConstants.{MAX_SYMMETRIES_BYTES}
 use Rattle.runs.specs.Texts.{HasNoneAmong, HasNoProof, IsBoardAmong, IsBoardWithin, IsWrongAmong, IsWrongBoard}
@@ -81,6 +81,8 @@ use Rattle.runs.specs.declared.fault.RunFault.{RunFault}
 use Rattle.runs.specs.declared.fault.RunFault.TheVariants.{Board, TooLarge, Proof, Memory, Worker, Read, Write, Limit}
 use Rattle.runs.specs.declared.fault.RunFault.TheVariants.{DocumentTooLarge, LastsForever, TooManyChains, TooManyOrbits}
 use Rattle.runs.specs.declared.fault.RunFault.TheVariants.{Symmetries}
+use Rattle.runs.specs.declared.summaries.Summary.{Summary}
+use Rattle.runs.specs.declared.summaries.Summary.TheVariants as summaries
 use Rattle.serving.specs.declared.outcome.Outcome.{Outcome}
 use Rattle.serving.specs.declared.outcome.Outcome.TheVariants.{Broken, Done, Refused}
 use Rattle.console.specs.declared.streams.Terminals.{Terminals}
@@ -1128,26 +1130,16 @@ module _ (at : List ℕ → File) (known : AreKnown at) (input output other_inpu
       (λ answer line fault says lacks. given_or_lacking board is bytes fault (few board bytes answer line says) lacks))
       (run_breaks (Unit {0})) wrong_orbits path second given others
 
-  two_counted_up_to : (limit : BoardLimit) (path second given others : List ℕ) → path ≡ second → given ≡ others
+  two_summarized_up_to : (summary : Summary) (limit : BoardLimit) (path second given others : List ℕ)
+      → path ≡ second → given ≡ others
       → (outcome ≡ Broken Read → CanFail (at path) ⊎ CanFail (at given)) →
       (other ≡ Broken Read → CanFail (at second) ⊎ CanFail (at others))
-      → CountsUpTo limit (at path) (at given) output outcome
-      → CountsUpTo limit (at second) (at others) other_output other
+      → SummarizesUpTo summary limit (at path) (at given) output outcome
+      → SummarizesUpTo summary limit (at second) (at others) other_output other
       → AreAlike outcome other output other_output
-  two_counted_up_to limit =
-      two_found ReportsUpTo limit
-      (λ board bytes answer other line more says also. one_report_of board line more says.1 also.1)
-      (λ board bytes answer line says. says.0)
-
-  two_started_up_to : (limit : BoardLimit) (path second given others : List ℕ) → path ≡ second → given ≡ others
-      → (outcome ≡ Broken Read → CanFail (at path) ⊎ CanFail (at given)) →
-      (other ≡ Broken Read → CanFail (at second) ⊎ CanFail (at others))
-      → WritesStartsUpTo limit (at path) (at given) output outcome
-      → WritesStartsUpTo limit (at second) (at others) other_output other
-      → AreAlike outcome other output other_output
-  two_started_up_to limit =
-      two_found SaysStartsUpTo limit
-      (λ board bytes answer other line more says also. one_starts_of board line more says.1 also.1)
+  two_summarized_up_to summary limit =
+      two_found (SaysUpTo summary) limit
+      (λ board bytes answer other line more says also. one_summary summary board line more says.1 also.1)
       (λ board bytes answer line says. says.0)
 
   two_nested : (levels pebbles more others : ℕ) → levels ≡ more → pebbles ≡ others
@@ -1345,10 +1337,10 @@ module _ (at : List ℕ → File) (known : AreKnown at) (input output other_inpu
   two_done name rows (jobs.Report w g (Some y) b) (jobs.Report ow og None ob) asks asks_too is also =
       absurd (no_text (sym asks.3 ∙ asks_too.3))
   two_done name rows (jobs.Report w g (Some y) b) (jobs.Report ow og (Some oy) ob) asks asks_too is also =
-      two_counted_up_to og b.now ob.now y.now oy.now (same_path _ b.now ob.now asks.4 asks_too.4)
+      two_summarized_up_to summaries.Report og b.now ob.now y.now oy.now (same_path _ b.now ob.now asks.4 asks_too.4)
       (same_path _ y.now oy.now asks.3 asks_too.3) is.unread also.unread
-      (subst (λ l. CountsUpTo l (at b.now) (at y.now) output outcome) (same_limit rows g og asks.2 asks_too.2)
-      is.does.0)
+      (subst (λ l. SummarizesUpTo summaries.Report l (at b.now) (at y.now) output outcome)
+      (same_limit rows g og asks.2 asks_too.2) is.does.0)
       also.does.0
   two_done name rows (jobs.Report w g y b) (jobs.Starts ow og oy ob) asks asks_too is also =
       absurd (names_differ (codes "report") (codes "starts") refl (sym asks.0 ∙ asks_too.0))
@@ -1377,10 +1369,10 @@ module _ (at : List ℕ → File) (known : AreKnown at) (input output other_inpu
   two_done name rows (jobs.Starts w g (Some y) b) (jobs.Starts ow og None ob) asks asks_too is also =
       absurd (no_text (sym asks.3 ∙ asks_too.3))
   two_done name rows (jobs.Starts w g (Some y) b) (jobs.Starts ow og (Some oy) ob) asks asks_too is also =
-      two_started_up_to og b.now ob.now y.now oy.now (same_path _ b.now ob.now asks.4 asks_too.4)
+      two_summarized_up_to summaries.Starts og b.now ob.now y.now oy.now (same_path _ b.now ob.now asks.4 asks_too.4)
       (same_path _ y.now oy.now asks.3 asks_too.3) is.unread also.unread
-      (subst (λ l. WritesStartsUpTo l (at b.now) (at y.now) output outcome) (same_limit rows g og asks.2 asks_too.2)
-      is.does.0)
+      (subst (λ l. SummarizesUpTo summaries.Starts l (at b.now) (at y.now) output outcome)
+      (same_limit rows g og asks.2 asks_too.2) is.does.0)
       also.does.0
   two_done name rows (jobs.Starts w g y b) (jobs.Chains ow om ob) asks asks_too is also =
       absurd (names_differ (codes "starts") (codes "chains") refl (sym asks.0 ∙ asks_too.0))

@@ -17,7 +17,7 @@ use Rattle.runs.specs.StartText.{SaysStarts}
 use Rattle.runs.specs.Run.{Bytes, Fails, Ran, Stream, Wrote, WrotePrefix}
 use Rattle.runs.specs.LimitedSolveRun.{CannotSolveWithin, SolutionWithin}
 use Rattle.runs.specs.SolveRun.{CannotSolve}
-use Rattle.runs.specs.SymmetricRun.{FailsUpTo, HasNoFewOrbits, RanUpTo, ReportsUpTo, SaysStartsUpTo}
+use Rattle.runs.specs.SymmetricRun.{FailsUpTo, HasNoFewOrbits, RanUpTo, SaysUpTo}
 use Rattle.runs.specs.SymmetricSolveRun.{CannotSolveUpTo, IsSolutionUpTo}
 use Rattle.runs.specs.Verdicts.{CannotAnswer, IsAnswered}
 use Rattle.board_text.specs.PlainBoard.{PlainBoard}
@@ -26,6 +26,8 @@ use Rattle.runs.specs.declared.checking.TheConstants.{MAX_JOINED_BYTES, MAX_PROO
 use Rattle.runs.specs.declared.reading.TheConstants.{MAX_BOARD_BYTES}
 use Rattle.runs.specs.declared.fault.RunFault.{RunFault}
 use Rattle.runs.specs.declared.fault.RunFault.TheVariants.{Memory, Read, Write}
+use Rattle.runs.specs.declared.summaries.Summary.{Summary}
+use Rattle.runs.specs.declared.summaries.Summary.TheVariants as summaries
 use Rattle.serving.specs.declared.outcome.Outcome.{Outcome}
 use Rattle.serving.specs.declared.outcome.Outcome.TheVariants.{Broken}
 
@@ -85,13 +87,9 @@ DoesUpTo Says SaysNothing limit board symmetries output outcome =
 abbrev pub SolvesUpTo : Option Side → BoardLimit → File → File → Stream → Outcome → Type 0
 SolvesUpTo side = DoesUpTo (IsSolutionUpTo side) (CannotSolveUpTo side)
 
--- its values were counted up to these
-abbrev pub CountsUpTo : BoardLimit → File → File → Stream → Outcome → Type 0
-CountsUpTo = DoesUpTo ReportsUpTo HasNoFewOrbits
-
--- its starts were written, with values up to these
-abbrev pub WritesStartsUpTo : BoardLimit → File → File → Stream → Outcome → Type 0
-WritesStartsUpTo = DoesUpTo SaysStartsUpTo HasNoFewOrbits
+-- this summary of the board was written, with values up to these
+abbrev pub SummarizesUpTo : Summary → BoardLimit → File → File → Stream → Outcome → Type 0
+SummarizesUpTo summary = DoesUpTo (SaysUpTo summary) HasNoFewOrbits
 
 -- the board was solved by this number of workers, for the side alone or for both
 abbrev pub Solves : ℕ → Option Side → BoardLimit → File → Stream → Outcome → Type 0
@@ -176,11 +174,13 @@ module _ (at : List ℕ → File) (input output : Stream) where
   DoesJob (Report workers limit None board) outcome =
       Counts workers limit (at board.now) output outcome × input.IsKept
   DoesJob (Report workers limit (Some symmetries) board) outcome =
-      CountsUpTo limit (at board.now) (at symmetries.now) output outcome × input.IsKept
+      SummarizesUpTo summaries.Report limit (at board.now) (at symmetries.now) output outcome
+      × input.IsKept
   DoesJob (Starts workers limit None board) outcome =
       WritesStarts workers limit (at board.now) output outcome × input.IsKept
   DoesJob (Starts workers limit (Some symmetries) board) outcome =
-      WritesStartsUpTo limit (at board.now) (at symmetries.now) output outcome × input.IsKept
+      SummarizesUpTo summaries.Starts limit (at board.now) (at symmetries.now) output outcome
+      × input.IsKept
   DoesJob (Chains workers most board) outcome =
       CountsChains most (at board.now) output outcome × input.IsKept
   DoesJob (Play side limit None board) outcome =

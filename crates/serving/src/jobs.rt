@@ -14,9 +14,8 @@ ghost use Rattle.runs.specs.Run.{bytes_of, stream_of};
 ghost use Rattle.serving.specs.Consoles.{IsReady};
 ghost use Rattle.serving.specs.Folders.{CanFail};
 ghost use Rattle.serving.specs.Jobs.{IsDone, Checks, ChecksJoined, Climbs, Counts, CountsChains};
-ghost use Rattle.serving.specs.Jobs.{CountsUpTo, Plays, PlaysUpTo, Solves, SolvesUpTo};
+ghost use Rattle.serving.specs.Jobs.{Plays, PlaysUpTo, Solves, SolvesUpTo, SummarizesUpTo};
 ghost use Rattle.serving.specs.Jobs.{TellsReads, TellsWrites, WritesNested, WritesStarts};
-ghost use Rattle.serving.specs.Jobs.{WritesStartsUpTo};
 ghost use Rattle.serving.specs.Telling.{IsToldInClimb, IsToldInJob, IsToldOfFiles, IsToldOfJoined};
 ghost use Rattle.serving.specs.Telling.{OpensAndTells, OpensBothAndTells, joined_greeting};
 ghost use Rattle.serving.specs.Telling.{rows_line, rows_told};
@@ -34,8 +33,8 @@ use explanations::{Inputs, Note, Origin};
 use nested_cycles::{MAX_BOARD_LEVELS, MAX_LEVELS};
 use positions::Side;
 use runs::{
-    Chaining, JoinedRun, MAX_BOARD_BYTES, Playing, RunFault, Verdict, Work, run_check, run_climb,
-    run_keeping_text, run_nested,
+    Chaining, JoinedRun, MAX_BOARD_BYTES, Playing, RunFault, Summary, Verdict, Work, run_check,
+    run_climb, run_keeping_text, run_nested,
 };
 use std::alloc::Global;
 use std::sync::Wait;
@@ -179,7 +178,9 @@ pub(crate) fn carry_out<'a, F: Folder, I: Source, O: Sink, E: Sink>(
             match symmetries {
                 None => report(rt, alloc, work, files, board, console),
                 Some(given) => {
-                    report_up_to(alloc, work, files, board, given, &mut console.output)
+                    let output = &mut console.output;
+                    let summary = Summary::Report;
+                    summarize_up_to(rt, alloc, work, summary, files, board, given, output)
                 }
             }
         }
@@ -197,7 +198,9 @@ pub(crate) fn carry_out<'a, F: Folder, I: Source, O: Sink, E: Sink>(
             match symmetries {
                 None => starts(rt, alloc, work, files, board, console),
                 Some(given) => {
-                    starts_up_to(alloc, work, files, board, given, &mut console.output)
+                    let output = &mut console.output;
+                    let summary = Summary::Starts;
+                    summarize_up_to(rt, alloc, work, summary, files, board, given, output)
                 }
             }
         }
@@ -227,7 +230,7 @@ pub(crate) fn carry_out<'a, F: Folder, I: Source, O: Sink, E: Sink>(
             };
             match symmetries {
                 None => play(alloc, playing, files, board, console),
-                Some(given) => play_up_to(alloc, playing, files, board, given, console),
+                Some(given) => play_up_to(rt, alloc, playing, files, board, given, console),
             }
         }
         Job::Climb { levels } => climb(alloc, levels, files, console),
@@ -437,6 +440,47 @@ fn solve_up_to<'a, F: Folder, O: Sink>(
     )
 }
 
+/// Writes the `summary` of the board at a path, with values up to the symmetries at another. Both
+/// are opened before one is read.
+fn summarize_up_to<'a, F: Folder, O: Sink>(
+    rt: &(impl Threads + Sync),
+    alloc: Global,
+    work: Work,
+    summary: Summary,
+    files: &Files<'_, F>,
+    board: &'a str,
+    symmetries: &'a str,
+    output: &mut O,
+) -> Ended<'a>
+    requires workers { InRange 1 MAX_WORKERS work.workers }
+    requires output_ready { O.has_failed output.old ≡ false }
+    ensures done { SummarizesUpTo summary work.limit (F.at files.now.folder.now board.now)
+        (F.at files.now.folder.now symmetries.now)
+        (stream_of O.contents O.has_failed output.old output.new) result.outcome }
+    ensures writes { TellsWrites (stream_of O.contents O.has_failed output.old output.new)
+        result.outcome }
+    ensures unread { result.outcome ≡ Broken Read
+        → CanFail (F.at files.now.folder.now board.now)
+        ⊎ CanFail (F.at files.now.folder.now symmetries.now) }
+{
+    let Ok(mut reader) = files.open(alloc, board) else {
+        return Ended::unopened(files, board);
+    };
+    let Ok(mut other) = files.open(alloc, symmetries) else {
+        return Ended::unopened(files, symmetries);
+    };
+    let done =
+        work.summarize_up_to_symmetries(rt, alloc, summary, &mut reader, &mut other, output);
+    let outcome = Outcome::of_run(done);
+    Ended::up_to(
+        outcome,
+        work.limit,
+        files,
+        (board, &reader),
+        (symmetries, &other),
+    )
+}
+
 /// Reports on the board at a path.
 fn report<'a, F: Folder, I: Source, O: Sink, E: Sink>(
     rt: &(impl Threads + Wait + Sync),
@@ -472,43 +516,6 @@ fn report<'a, F: Folder, I: Source, O: Sink, E: Sink>(
     Ended::of_board(Outcome::of_run(done), work.limit, files, board, &reader)
 }
 
-/// Reports on the board at a path, with values up to the symmetries at another. Both are opened
-/// before one is read.
-fn report_up_to<'a, F: Folder, O: Sink>(
-    alloc: Global,
-    work: Work,
-    files: &Files<'_, F>,
-    board: &'a str,
-    symmetries: &'a str,
-    output: &mut O,
-) -> Ended<'a>
-    requires { O.has_failed output.old ≡ false }
-    ensures done { CountsUpTo work.limit (F.at files.now.folder.now board.now)
-        (F.at files.now.folder.now symmetries.now)
-        (stream_of O.contents O.has_failed output.old output.new) result.outcome }
-    ensures writes { TellsWrites (stream_of O.contents O.has_failed output.old output.new)
-        result.outcome }
-    ensures unread { result.outcome ≡ Broken Read
-        → CanFail (F.at files.now.folder.now board.now)
-        ⊎ CanFail (F.at files.now.folder.now symmetries.now) }
-{
-    let Ok(mut reader) = files.open(alloc, board) else {
-        return Ended::unopened(files, board);
-    };
-    let Ok(mut other) = files.open(alloc, symmetries) else {
-        return Ended::unopened(files, symmetries);
-    };
-    let done = work.report_up_to_symmetries(alloc, &mut reader, &mut other, output);
-    let outcome = Outcome::of_run(done);
-    Ended::up_to(
-        outcome,
-        work.limit,
-        files,
-        (board, &reader),
-        (symmetries, &other),
-    )
-}
-
 /// Writes the starts of the board at a path.
 fn starts<'a, F: Folder, I: Source, O: Sink, E: Sink>(
     rt: &(impl Threads + Wait + Sync),
@@ -542,43 +549,6 @@ fn starts<'a, F: Folder, I: Source, O: Sink, E: Sink>(
         &mut console.errors,
     );
     Ended::of_board(Outcome::of_run(done), work.limit, files, board, &reader)
-}
-
-/// Writes the starts of the board at a path, with values up to the symmetries at another. Both are
-/// opened before one is read.
-fn starts_up_to<'a, F: Folder, O: Sink>(
-    alloc: Global,
-    work: Work,
-    files: &Files<'_, F>,
-    board: &'a str,
-    symmetries: &'a str,
-    output: &mut O,
-) -> Ended<'a>
-    requires { O.has_failed output.old ≡ false }
-    ensures done { WritesStartsUpTo work.limit (F.at files.now.folder.now board.now)
-        (F.at files.now.folder.now symmetries.now)
-        (stream_of O.contents O.has_failed output.old output.new) result.outcome }
-    ensures writes { TellsWrites (stream_of O.contents O.has_failed output.old output.new)
-        result.outcome }
-    ensures unread { result.outcome ≡ Broken Read
-        → CanFail (F.at files.now.folder.now board.now)
-        ⊎ CanFail (F.at files.now.folder.now symmetries.now) }
-{
-    let Ok(mut reader) = files.open(alloc, board) else {
-        return Ended::unopened(files, board);
-    };
-    let Ok(mut other) = files.open(alloc, symmetries) else {
-        return Ended::unopened(files, symmetries);
-    };
-    let done = work.starts_up_to_symmetries(alloc, &mut reader, &mut other, output);
-    let outcome = Outcome::of_run(done);
-    Ended::up_to(
-        outcome,
-        work.limit,
-        files,
-        (board, &reader),
-        (symmetries, &other),
-    )
 }
 
 /// Counts the chains of the board at a path.
@@ -672,6 +642,7 @@ fn play<'a, F: Folder, I: Source, O: Sink, E: Sink>(
 /// Plays on the board at a path with a person, with values up to the symmetries at another. Both
 /// are opened before one is read.
 fn play_up_to<'a, F: Folder, I: Source, O: Sink, E: Sink>(
+    rt: &(impl Threads + Sync),
     alloc: Global,
     playing: Playing,
     files: &Files<'_, F>,
@@ -707,6 +678,7 @@ fn play_up_to<'a, F: Folder, I: Source, O: Sink, E: Sink>(
         return Ended::unopened(files, symmetries);
     };
     let ended = playing.run_up_to_symmetries(
+        rt,
         alloc,
         &mut reader,
         &mut other,

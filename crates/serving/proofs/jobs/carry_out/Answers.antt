@@ -87,7 +87,7 @@ returns-in-None-symmetries-clause-done g c =
 
 pub returns-in-Some-symmetries-clause-done : goal.returns-in-Some-symmetries-clause-done
 returns-in-Some-symmetries-clause-done g c =
-    let run = c.report_up_to.ensures in
+    let run = c.summarize_up_to.ensures in
     rw (c.in-Report.is, c.in-Some-symmetries.is) record {
       does = (run.done, refl);
       writes = run.writes;
@@ -106,7 +106,7 @@ returns-in-None-symmetries-2-clause-done g c =
 
 pub returns-in-Some-symmetries-2-clause-done : goal.returns-in-Some-symmetries-2-clause-done
 returns-in-Some-symmetries-2-clause-done g c =
-    let run = c.starts_up_to.ensures in
+    let run = c.summarize_up_to-in-Some-symmetries-2.ensures in
     rw (c.in-Starts.is, c.in-Some-symmetries-2.is) record {
       does = (run.done, refl);
       writes = run.writes;

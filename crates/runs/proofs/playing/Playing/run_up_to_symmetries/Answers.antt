@@ -9,7 +9,7 @@ use Rattle.runs.proofs.PlayFaults.{lines-told, ok_or_err, same_run_fault, writer
 use Rattle.runs.proofs.playing.Playing.run_up_to_symmetries.Goals as goal
 
 pub values-requires-clause-given : goal.values-requires-clause-given
-values-requires-clause-given g c =
+values-requires-clause-given g c = λ κs lives.
     (c.in_ok-text.text.items, rw c.as_slice.ensures.value at c.in_ok-symmetries.ensures.found)
 
 pub returns-in_err-text-clause-fault : goal.returns-in_err-text-clause-fault

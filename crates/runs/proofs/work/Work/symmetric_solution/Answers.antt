@@ -11,7 +11,7 @@ returns-in_err-symmetries-clause-fault g c =
     c.in_err-symmetries.ensures.fault))
 
 pub values-requires-clause-given : goal.values-requires-clause-given
-values-requires-clause-given g c = (c.args.text.now, c.in_ok-symmetries.ensures.found)
+values-requires-clause-given g c = λ κs lives. (c.args.text.now, c.in_ok-symmetries.ensures.found)
 
 pub returns-in_err-values-clause-fault : goal.returns-in_err-values-clause-fault
 returns-in_err-values-clause-fault g c =
