@@ -13,6 +13,9 @@ use console::Terminals;
 use explanations::Trouble;
 use std::alloc::Global;
 
+/// The path at which a folder has standard input.
+pub(crate) const INPUT_PATH: &str = "/dev/stdin";
+
 /// The folder in which the files of a job are opened, and whether their faults are explained.
 #[derive(Clone, Copy)]
 pub(crate) struct Files<'f, F: Folder> {

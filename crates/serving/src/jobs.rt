@@ -1,117 +1,45 @@
 //! Doing a job, with the files and the standard streams that it is given.
 
-ghost use Rattle.std.specs.Prelude.{◌≡◌, ◌≢◌, ◌⊎◌, ℕ, List, false, true};
+ghost use Rattle.std.specs.Prelude.{◌≡◌, ◌≢◌, ◌⊎◌, ℕ, List, false};
 ghost use Rattle.runs.specs.declared.fault.RunFault.TheVariants.{Read};
 ghost use Rattle.serving.specs.declared.outcome.Outcome.TheVariants.{Broken};
 ghost use Rattle.board_text.specs.Ranges.{InRange};
 ghost use Rattle.command_line.specs.Reading.{IsInRange};
 ghost use Rattle.console.specs.Showing.{IsMore};
-ghost use Rattle.player.specs.declared.end.PlayEnd.{PlayEnd as EndData};
 ghost use Rattle.positions.specs.declared.value.Value.{Value as ValueData};
 ghost use Rattle.runs.specs.Notices.{IsNoticedInRun, IsToldOfChains};
-ghost use Rattle.runs.specs.PlayRun.{IsToldInRun, IsToldUpTo};
 ghost use Rattle.runs.specs.Run.{bytes_of, stream_of};
 ghost use Rattle.serving.specs.Consoles.{IsReady};
 ghost use Rattle.serving.specs.Folders.{CanFail};
-ghost use Rattle.serving.specs.Jobs.{IsDone, Checks, ChecksJoined, Climbs, Counts, CountsChains};
-ghost use Rattle.serving.specs.Jobs.{Plays, PlaysUpTo, Solves, SolvesUpTo, SummarizesUpTo};
+ghost use Rattle.serving.specs.Jobs.{Checks, ChecksJoined, Counts, CountsChains, IsDone, Solves};
 ghost use Rattle.serving.specs.Jobs.{TellsReads, TellsWrites, WritesNested, WritesStarts};
-ghost use Rattle.serving.specs.Telling.{IsToldInClimb, IsToldInJob, IsToldOfFiles, IsToldOfJoined};
-ghost use Rattle.serving.specs.Telling.{OpensAndTells, OpensBothAndTells, joined_greeting};
-ghost use Rattle.serving.specs.Telling.{rows_line, rows_told};
-ghost use Rattle.serving.specs.Telling.{types_and_sees};
+ghost use Rattle.serving.specs.Telling.{IsToldInJob, IsToldOfFiles, IsToldOfJoined};
+ghost use Rattle.serving.specs.Telling.{OpensAndTells, joined_greeting, rows_line, rows_told};
 
-use crate::files::Files;
+use crate::ended::Ended;
+use crate::files::{Files, INPUT_PATH};
 use crate::folder::Folder;
 use crate::outcome::Outcome;
-use crate::watched::Watched;
+use crate::plays::{climb, play, play_up_to};
+use crate::symmetric_jobs::{solve_up_to, summarize_up_to};
 use board_text::{MAX_PEBBLES, Sink, Source};
 use chains::MAX_LENGTH;
 use command_line::{BoardLimit, Job, MAX_WORKERS};
 use console::{Console, Terminals, write_digits, write_line, write_more};
 use explanations::{Inputs, Note, Origin};
-use nested_cycles::{MAX_BOARD_LEVELS, MAX_LEVELS};
+use nested_cycles::MAX_BOARD_LEVELS;
 use positions::Side;
 use runs::{
-    Chaining, JoinedRun, MAX_BOARD_BYTES, Playing, RunFault, Summary, Verdict, Work, run_check,
-    run_climb, run_keeping_text, run_nested,
+    Chaining, JoinedRun, Playing, RunFault, Summary, Verdict, Work, run_check, run_keeping_text,
+    run_nested,
 };
 use std::alloc::Global;
 use std::sync::Wait;
 use std::thread::Threads;
 
-/// The path at which a folder has standard input.
-const INPUT_PATH: &str = "/dev/stdin";
-
 /// The greeting of a person who types a board and a document.
 const JOINED_GREETING: &str = "type or paste a board and a strategy document, and Ctrl-D; \
     `pebbles --help` lists the commands";
-
-/// How a job ended, and the explanation of its fault or of a refusal, which is empty if it was
-/// done.
-#[derive(Drop)]
-pub(crate) struct Ended<'a> {
-    pub(crate) outcome: Outcome,
-    pub(crate) note: Note<'a>,
-}
-
-impl<'a> Ended<'a> {
-    /// The end of a job whose file at `path` couldn't be opened.
-    fn unopened<F: Folder>(files: &Files<'_, F>, path: &'a str) -> Ended<'a>
-        ensures { result.outcome ≡ Broken Read }
-    {
-        Ended {
-            outcome: Outcome::Broken(RunFault::Read),
-            note: Note::unread(path, files.folder.trouble(path)),
-        }
-    }
-
-    /// The end of a job over these inputs, which is no check.
-    fn of(outcome: Outcome, inputs: &Inputs<'a, '_>) -> Ended<'a>
-        ensures { result.outcome ≡ outcome }
-    {
-        Ended {
-            outcome,
-            note: outcome.note(inputs),
-        }
-    }
-
-    /// The end of a job over the board at `path` alone, within the `limit`, as far as `reader` gave
-    /// it.
-    fn of_board<F: Folder>(
-        outcome: Outcome,
-        limit: BoardLimit,
-        files: &Files<'_, F>,
-        path: &'a str,
-        reader: &Watched<F::Reader>,
-    ) -> Ended<'a>
-        ensures { result.outcome ≡ outcome }
-    {
-        let trouble = files.trouble_of(path, reader);
-        let text = Origin::board(path, reader.text(), reader.count(), trouble);
-        Ended::of(outcome, &Inputs::alone(limit, text, text))
-    }
-
-    /// The end of a job over the board at a path, within the `limit`, and the `symmetries` at
-    /// another, as far as the readers gave them.
-    fn up_to<F: Folder>(
-        outcome: Outcome,
-        limit: BoardLimit,
-        files: &Files<'_, F>,
-        board: (&'a str, &Watched<F::Reader>),
-        symmetries: (&'a str, &Watched<F::Reader>),
-    ) -> Ended<'a>
-        ensures { result.outcome ≡ outcome }
-    {
-        let (path, reader) = board;
-        let trouble = files.trouble_of(path, reader);
-        let first = Origin::board(path, reader.text(), reader.count(), trouble);
-        let (path, reader) = symmetries;
-        let trouble = files.trouble_of(path, reader);
-        let second = Origin::symmetries(path, reader.text(), reader.count(), trouble);
-        Ended::of(outcome, &Inputs::with_symmetries(limit, first, second))
-    }
-}
 
 /// Does the job, and says how it ended.
 ///
@@ -400,87 +328,6 @@ fn solve<'a, F: Folder, I: Source, O: Sink, E: Sink>(
     Ended::of_board(Outcome::of_run(solved), work.limit, files, board, &reader)
 }
 
-/// Solves the board at a path up to the symmetries at another, for `side` alone or for both. Both
-/// are opened before one is read.
-fn solve_up_to<'a, F: Folder, O: Sink>(
-    rt: &(impl Threads + Sync),
-    alloc: Global,
-    work: Work,
-    side: Option<Side>,
-    files: &Files<'_, F>,
-    board: &'a str,
-    symmetries: &'a str,
-    output: &mut O,
-) -> Ended<'a>
-    requires workers { InRange 1 MAX_WORKERS work.workers }
-    requires output_ready { O.has_failed output.old ≡ false }
-    ensures done { SolvesUpTo side work.limit (F.at files.now.folder.now board.now)
-        (F.at files.now.folder.now symmetries.now)
-        (stream_of O.contents O.has_failed output.old output.new) result.outcome }
-    ensures writes { TellsWrites (stream_of O.contents O.has_failed output.old output.new)
-        result.outcome }
-    ensures unread { result.outcome ≡ Broken Read
-        → CanFail (F.at files.now.folder.now board.now)
-        ⊎ CanFail (F.at files.now.folder.now symmetries.now) }
-{
-    let Ok(mut reader) = files.open(alloc, board) else {
-        return Ended::unopened(files, board);
-    };
-    let Ok(mut other) = files.open(alloc, symmetries) else {
-        return Ended::unopened(files, symmetries);
-    };
-    let solved = work.solve_up_to_symmetries(rt, alloc, side, &mut reader, &mut other, output);
-    let outcome = Outcome::of_run(solved);
-    Ended::up_to(
-        outcome,
-        work.limit,
-        files,
-        (board, &reader),
-        (symmetries, &other),
-    )
-}
-
-/// Writes the `summary` of the board at a path, with values up to the symmetries at another. Both
-/// are opened before one is read.
-fn summarize_up_to<'a, F: Folder, O: Sink>(
-    rt: &(impl Threads + Sync),
-    alloc: Global,
-    work: Work,
-    summary: Summary,
-    files: &Files<'_, F>,
-    board: &'a str,
-    symmetries: &'a str,
-    output: &mut O,
-) -> Ended<'a>
-    requires workers { InRange 1 MAX_WORKERS work.workers }
-    requires output_ready { O.has_failed output.old ≡ false }
-    ensures done { SummarizesUpTo summary work.limit (F.at files.now.folder.now board.now)
-        (F.at files.now.folder.now symmetries.now)
-        (stream_of O.contents O.has_failed output.old output.new) result.outcome }
-    ensures writes { TellsWrites (stream_of O.contents O.has_failed output.old output.new)
-        result.outcome }
-    ensures unread { result.outcome ≡ Broken Read
-        → CanFail (F.at files.now.folder.now board.now)
-        ⊎ CanFail (F.at files.now.folder.now symmetries.now) }
-{
-    let Ok(mut reader) = files.open(alloc, board) else {
-        return Ended::unopened(files, board);
-    };
-    let Ok(mut other) = files.open(alloc, symmetries) else {
-        return Ended::unopened(files, symmetries);
-    };
-    let done =
-        work.summarize_up_to_symmetries(rt, alloc, summary, &mut reader, &mut other, output);
-    let outcome = Outcome::of_run(done);
-    Ended::up_to(
-        outcome,
-        work.limit,
-        files,
-        (board, &reader),
-        (symmetries, &other),
-    )
-}
-
 /// Reports on the board at a path.
 fn report<'a, F: Folder, I: Source, O: Sink, E: Sink>(
     rt: &(impl Threads + Wait + Sync),
@@ -591,140 +438,4 @@ fn chains<'a, F: Folder, I: Source, O: Sink, E: Sink>(
         board,
         &reader,
     )
-}
-
-/// Plays on the board at a path with a person, who writes to standard input.
-fn play<'a, F: Folder, I: Source, O: Sink, E: Sink>(
-    alloc: Global,
-    playing: Playing,
-    files: &Files<'_, F>,
-    board: &'a str,
-    console: &mut Console<I, O, E>,
-) -> Ended<'a>
-    requires ready { IsReady I.has_failed I.has_ended O.has_failed console.old }
-    ensures done { Plays playing.side playing.limit (F.at files.now.folder.now board.now)
-        (stream_of I.remaining I.has_failed console.old.input console.new.input)
-        (stream_of O.contents O.has_failed console.old.output console.new.output) result.outcome }
-    ensures writes { TellsWrites
-        (stream_of O.contents O.has_failed console.old.output console.new.output) result.outcome }
-    ensures reads { I.has_failed console.new.input ≡ true → result.outcome ≡ Broken Read }
-    ensures unread { result.outcome ≡ Broken Read
-        → CanFail (F.at files.now.folder.now board.now)
-        ⊎ (I.has_failed console.new.input ≡ true) }
-    ensures told { (told : List ℕ) × OpensAndTells {Answer = EndData}
-        (F.at files.now.folder.now board.now)
-        (λ read. IsToldInRun playing.limit playing.side MAX_BOARD_BYTES
-        ((console.new.input ≡ console.old.input) × (console.new.output ≡ console.old.output)) read
-        (bytes_of I.remaining console.old.input console.new.input)
-        (bytes_of O.contents console.old.output console.new.output) playing.shows_size
-        playing.prompts) result.outcome told
-        × IsMore E.contents E.has_failed console.old.errors console.new.errors told }
-{
-    let Ok(mut reader) = files.open(alloc, board) else {
-        return Ended::unopened(files, board);
-    };
-    let ended = playing.run(
-        alloc,
-        &mut reader,
-        &mut console.input,
-        &mut console.output,
-        &mut console.errors,
-    );
-    let trouble = files.trouble_of(board, &reader);
-    let text = Origin::board(board, reader.text(), reader.count(), trouble);
-    let lines = Origin::lines(files.trouble_of(INPUT_PATH, &console.input));
-    Ended::of(
-        Outcome::of_run(ended),
-        &Inputs::alone(playing.limit, text, lines),
-    )
-}
-
-/// Plays on the board at a path with a person, with values up to the symmetries at another. Both
-/// are opened before one is read.
-fn play_up_to<'a, F: Folder, I: Source, O: Sink, E: Sink>(
-    rt: &(impl Threads + Sync),
-    alloc: Global,
-    playing: Playing,
-    files: &Files<'_, F>,
-    board: &'a str,
-    symmetries: &'a str,
-    console: &mut Console<I, O, E>,
-) -> Ended<'a>
-    requires ready { IsReady I.has_failed I.has_ended O.has_failed console.old }
-    ensures done { PlaysUpTo playing.side playing.limit (F.at files.now.folder.now board.now)
-        (F.at files.now.folder.now symmetries.now)
-        (stream_of I.remaining I.has_failed console.old.input console.new.input)
-        (stream_of O.contents O.has_failed console.old.output console.new.output) result.outcome }
-    ensures writes { TellsWrites
-        (stream_of O.contents O.has_failed console.old.output console.new.output) result.outcome }
-    ensures reads { I.has_failed console.new.input ≡ true → result.outcome ≡ Broken Read }
-    ensures unread { result.outcome ≡ Broken Read
-        → CanFail (F.at files.now.folder.now board.now)
-        ⊎ CanFail (F.at files.now.folder.now symmetries.now)
-        ⊎ (I.has_failed console.new.input ≡ true) }
-    ensures told { (told : List ℕ) × OpensBothAndTells {Answer = EndData}
-        (F.at files.now.folder.now board.now) (F.at files.now.folder.now symmetries.now)
-        (λ b s. IsToldUpTo playing.limit playing.side
-        ((console.new.input ≡ console.old.input) × (console.new.output ≡ console.old.output)) b s
-        (bytes_of I.remaining console.old.input console.new.input)
-        (bytes_of O.contents console.old.output console.new.output) playing.prompts)
-        result.outcome told
-        × IsMore E.contents E.has_failed console.old.errors console.new.errors told }
-{
-    let Ok(mut reader) = files.open(alloc, board) else {
-        return Ended::unopened(files, board);
-    };
-    let Ok(mut other) = files.open(alloc, symmetries) else {
-        return Ended::unopened(files, symmetries);
-    };
-    let ended = playing.run_up_to_symmetries(
-        rt,
-        alloc,
-        &mut reader,
-        &mut other,
-        &mut console.input,
-        &mut console.output,
-        &mut console.errors,
-    );
-    let trouble = files.trouble_of(board, &reader);
-    let first = Origin::board(board, reader.text(), reader.count(), trouble);
-    let trouble = files.trouble_of(symmetries, &other);
-    let second = Origin::symmetries(symmetries, other.text(), other.count(), trouble);
-    let lines = Origin::lines(files.trouble_of(INPUT_PATH, &console.input));
-    let inputs = Inputs::with_symmetries(playing.limit, first, second).and_lines(lines);
-    Ended::of(Outcome::of_run(ended), &inputs)
-}
-
-/// Plays on the nested board of a level with a person, who asks by the lines of standard input.
-fn climb<F: Folder, I: Source, O: Sink, E: Sink>(
-    alloc: Global,
-    levels: u8,
-    files: &Files<'_, F>,
-    console: &mut Console<I, O, E>,
-) -> Ended<'static>
-    requires levels { InRange 1 MAX_LEVELS levels }
-    requires ready { IsReady I.has_failed I.has_ended O.has_failed console.old }
-    ensures done { Climbs levels
-        (stream_of I.remaining I.has_failed console.old.input console.new.input)
-        (stream_of O.contents O.has_failed console.old.output console.new.output) result.outcome }
-    ensures writes { TellsWrites
-        (stream_of O.contents O.has_failed console.old.output console.new.output) result.outcome }
-    ensures reads { TellsReads
-        (stream_of I.remaining I.has_failed console.old.input console.new.input) result.outcome }
-    ensures told { (told : List ℕ) × IsToldInClimb (types_and_sees console.old.terminals) levels
-        (bytes_of I.remaining console.old.input console.new.input)
-        (bytes_of O.contents console.old.output console.new.output) result.outcome told
-        × IsMore E.contents E.has_failed console.old.errors console.new.errors told }
-{
-    let shows = console.terminals.are_both();
-    let ended = run_climb(
-        alloc,
-        levels,
-        &mut console.input,
-        &mut console.output,
-        shows,
-        &mut console.errors,
-    );
-    let trouble = files.trouble_of(INPUT_PATH, &console.input);
-    Ended::of(Outcome::of_run(ended), &Inputs::without_files(trouble))
 }

@@ -2,13 +2,16 @@
 //! and a console.
 #![tactic(auto)]
 
+mod ended;
 mod fault_lines;
 mod files;
 mod folder;
 mod jobs;
 mod outcome;
+mod plays;
 mod serving;
 mod serving_laws;
+mod symmetric_jobs;
 mod watched;
 
 pub use explanations::Trouble;

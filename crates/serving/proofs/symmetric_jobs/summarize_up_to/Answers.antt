@@ -6,7 +6,7 @@ use Rattle.runs.specs.Texts.{IsWithinUpTo}
 use Rattle.runs.specs.declared.given_symmetries.TheConstants.{MAX_SYMMETRIES_BYTES}
 use Rattle.runs.specs.declared.fault.RunFault.TheVariants.{Read}
 use Rattle.serving.proofs.Endings.{broken_run, opened_both, told_as}
-use Rattle.serving.proofs.jobs.summarize_up_to.Goals as goal
+use Rattle.serving.proofs.symmetric_jobs.summarize_up_to.Goals as goal
 
 pub returns-clause-done : goal.returns-clause-done
 returns-clause-done g c =

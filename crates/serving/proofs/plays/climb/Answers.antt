@@ -2,7 +2,7 @@ use Rattle.std.proofs.Common.{ap, subst, ◌∙◌}
 use Rattle.player.specs.Prompts.{ArePrompts}
 use Rattle.player.specs.Transcript.{PersonClimbs}
 use Rattle.serving.specs.Outcomes.{outcome_of_run}
-use Rattle.serving.proofs.jobs.climb.Goals as goal
+use Rattle.serving.proofs.plays.climb.Goals as goal
 
 pub returns-clause-told : goal.returns-clause-told
 returns-clause-told g c =

@@ -4,7 +4,7 @@ use Rattle.serving.specs.Outcomes.{outcome_of_run}
 use Rattle.runs.specs.Run.{stream_of}
 use Rattle.runs.specs.declared.fault.RunFault.TheVariants.{Read}
 use Rattle.serving.proofs.Endings.{broken_run, opened_play, told_as}
-use Rattle.serving.proofs.jobs.play.Goals as goal
+use Rattle.serving.proofs.plays.play.Goals as goal
 
 pub returns-clause-done : goal.returns-clause-done
 returns-clause-done g c =
