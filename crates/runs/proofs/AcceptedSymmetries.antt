@@ -1,5 +1,5 @@
 -- A check accepts what is written for a board that is solved up to symmetries.
-use Rattle.std.proofs.Common.{◌≡◌, ℕ, List, None, length, refl, sym, ap, ◌∙◌, subst, arith, inl, inr}
+use Rattle.std.proofs.Common.{◌≡◌, ℕ, List, None, length, refl, sym, ap, ◌∙◌, subst, arith, inr}
 use Rattle.std.specs.List.{All}
 use Rattle.board_text.specs.PlainBoard.{PlainBoard, IsBoard}
 use Rattle.orbits.specs.OrbitsUpTo.{HasFewOrbitsUpTo}
@@ -27,7 +27,6 @@ use Rattle.runs.specs.SymmetricSolveRun.{IsSolutionUpTo, IsSolvedUpTo}
 use Rattle.runs.specs.Symmetries.{SpellsSymmetries}
 use Rattle.runs.specs.Texts.{BeginsAs, HasFaultAs, HasNoProof, IsMemory}
 use Rattle.runs.specs.Verdicts.{IsAcceptance, IsChecked, IsProofOf, IsSymmetryVerdict, IsVerdictOf, text_of_proof}
-use Rattle.runs.specs.declared.checking.TheConstants.{MAX_PROOF_BYTES}
 use Rattle.runs.specs.declared.fault.RunFault.{RunFault}
 use Rattle.runs.specs.declared.fault.RunFault.TheVariants.{Board, TooLarge, Proof, Memory, Worker, Read, Write, Limit}
 use Rattle.runs.specs.declared.fault.RunFault.TheVariants.{DocumentTooLarge, LastsForever, Symmetries, TooManyChains}

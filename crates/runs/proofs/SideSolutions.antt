@@ -11,7 +11,6 @@ use Rattle.positions.specs.declared.side.Side.TheVariants.{Adversary, Labeller}
 use Rattle.positions.specs.declared.value.Value.{Value}
 use Rattle.positions.specs.declared.value.Value.TheVariants.{Finite, Forever}
 use Rattle.positions.proofs.Cited.{same_value, some_value}
-use Rattle.proof_text.specs.Proof.{PlainProof}
 use Rattle.proof_text.specs.ProofText.{class_text, proof_text}
 use Rattle.strategies.specs.Sides.{HasStrategy, document_for}
 use Rattle.strategies.proofs.Cited.{class_document_exists, document_exists, one_class_document, one_document}

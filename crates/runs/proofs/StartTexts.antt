@@ -8,7 +8,6 @@ use Rattle.std.proofs.Math.Seq.{take-suc}
 use Rattle.board_text.specs.LineForms.{with_line_feed}
 use Rattle.board_text.specs.PlainBoard.{IsConfiguration, PlainBoard, places}
 use Rattle.board_text.proofs.Cited.{one_board}
-use Rattle.positions.specs.Value.{HasValue}
 use Rattle.positions.specs.declared.value.Value.{Value}
 use Rattle.positions.specs.declared.value.Value.TheVariants.{Forever}
 use Rattle.positions.proofs.Cited.{same_value}

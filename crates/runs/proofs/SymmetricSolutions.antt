@@ -1,15 +1,11 @@
 -- Solutions up to symmetries: a text of symmetries gives one of them or one fault, and a check accepts it.
-use Rattle.std.proofs.Common.{◌≡◌, ◌≢◌, ◌⊎◌, ◌≤◌, ℕ, List, [], Option, Some, None, length, refl, sym, ap, ◌∙◌, subst}
+use Rattle.std.proofs.Common.{◌≡◌, ◌⊎◌, ℕ, List, [], Option, Some, None, length, refl, sym, ap, ◌∙◌, subst}
 use Rattle.std.proofs.Common.{inl, inr, arith}
 use Rattle.std.specs.List.{All}
 use Rattle.std.proofs.lemmas.Bool.{cases_lt}
-use Rattle.std.proofs.lemmas.List.Elements.{All-nil}
 use Rattle.board_text.specs.PlainBoard.{PlainBoard, IsBoard}
-use Rattle.command_line.specs.declared.asked.BoardLimit.{BoardLimit}
 use Rattle.orbits.specs.OrbitsUpTo.{HasManyOrbitsUpTo}
 use Rattle.orbits.proofs.Cited.{few_and_many, few_or_many_up_to}
-use Rattle.positions.specs.Claim.{claim_of}
-use Rattle.positions.specs.Table.{AnswerRow, RequestRow}
 use Rattle.positions.specs.Value.{HasValue}
 use Rattle.positions.specs.declared.claim.Claim.TheVariants as claims
 use Rattle.positions.specs.declared.side.Side.{Side}
@@ -20,14 +16,13 @@ use Rattle.positions.proofs.Cited.{same_value, some_value}
 use Rattle.proof_check.specs.SymmetryFaults.{IsFirstWrongMap}
 use Rattle.proof_check.specs.declared.symmetry_fault.SymmetryFault.{SymmetryFault}
 use Rattle.proof_check.specs.declared.symmetry_fault.SymmetryFault.TheVariants as check_faults
-use Rattle.proof_check.proofs.Cited.{has_places, one_symmetry_fault, only_symmetry_memory, wrong_map_apart}
-use Rattle.proof_text.specs.Documents.{IsClassProof, IsSymmetryProof}
+use Rattle.proof_check.proofs.Cited.{one_symmetry_fault, wrong_map_apart}
 use Rattle.proof_text.specs.ProofText.{symmetry_text}
 use Rattle.proof_text.specs.SymmetryProof.{PlainSymmetryProof}
 use Rattle.proof_text.specs.declared.fault.ProofFault.{ProofFault}
 use Rattle.proof_text.proofs.Cited.{no_symmetries_fault, one_symmetries, one_symmetries_fault}
 use Rattle.strategies.specs.Sides.{HasStrategy}
-use Rattle.strategies.specs.SymmetricDocument.{IsSymmetryDocumentFor, IsSymmetryDocumentOf, symmetric_document_for}
+use Rattle.strategies.specs.SymmetricDocument.{IsSymmetryDocumentFor, symmetric_document_for}
 use Rattle.strategies.proofs.Cited.{one_symmetry_document, symmetry_document_exists}
 use Rattle.symmetries.specs.ClosingLoop.{HasLargeGroup}
 use Rattle.symmetries.specs.Symmetries.{IsSymmetry}

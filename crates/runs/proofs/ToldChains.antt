@@ -1,15 +1,13 @@
 -- What is told of lengths with many chains.
-use Rattle.std.proofs.Common.{◌≡◌, ◌∙◌, Bool, List, ℕ, [], inl, inr, refl, subst, sym, ap}
-use Rattle.std.specs.Prelude.{Err, IfOk, IsOk, Ok, OnErr, Option, Result, option_map}
-use Rattle.board_text.specs.PlainBoard.{PlainBoard}
-use Rattle.chains.specs.ChainCounts.{AreChainCounts, AreCountsOfLengths}
+use Rattle.std.proofs.Common.{◌≡◌, Bool, List, ℕ, inl, inr, refl, subst, sym}
+use Rattle.std.specs.Prelude.{Err, IsOk, Ok, Option, Result}
 use Rattle.console.specs.Showing.{IsMore}
 use Rattle.console.specs.Watching.{AreStepsTold, lines_of}
 use Rattle.console.proofs.Cited.{told_lines}
 use Rattle.runs.specs.Inside.Chaining.{IsToldOfText}
 use Rattle.runs.specs.Notices.{IsToldOfChains, notice_of_length}
 use Rattle.runs.specs.Run.{Bytes, Gave}
-use Rattle.runs.specs.Texts.{HasNoneAmong, IsBoardAmong, OfAnySize}
+use Rattle.runs.specs.Texts.{HasNoneAmong, OfAnySize}
 use Rattle.runs.specs.declared.fault.RunFault.{RunFault}
 use Rattle.runs.specs.declared.reading.TheConstants.{MAX_BOARD_BYTES}
 

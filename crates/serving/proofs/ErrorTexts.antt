@@ -5,7 +5,7 @@ use Rattle.board_text.specs.LineForms.{with_line_feed}
 use Rattle.console.specs.Showing.{HasNoControl, IsMore}
 use Rattle.console.proofs.Cited.{then_more}
 use Rattle.runs.specs.Run.{stream_of}
-use Rattle.serving.specs.Serving.{IsEnding, IsExplained, IsExplanation, IsSaid, IsWritten}
+use Rattle.serving.specs.Serving.{IsEnding, IsExplained, IsSaid, IsWritten}
 use Rattle.serving.specs.declared.outcome.Outcome.{Outcome}
 
 module _ {W : Type 0} (known : W → Option (List ℕ)) (failed : W → Bool) where

@@ -1,5 +1,5 @@
 -- The greeting of a person who types a board and a document.
-use Rattle.std.proofs.Common.{◌≡◌, ℕ, ◌++◌, ◌&&◌, true, false, List, [], refl}
+use Rattle.std.proofs.Common.{◌≡◌, ◌++◌, true, false, [], refl}
 use Rattle.std.specs.Prelude.{codes}
 use Rattle.console.specs.declared.streams.Terminals.{Terminals}
 use Rattle.player.specs.Prompts.{shown_line}

@@ -1,6 +1,6 @@
 -- Where standard error is no terminal, a person is told nothing.
 use Rattle.std.proofs.Common.{◌≡◌, ℕ, suc, ◌&&◌, Bool, true, false, List, [], ◌∷◌, ◌++◌, ap, inl, inr, refl, subst, ◌∙◌}
-use Rattle.std.specs.Prelude.{◌⊎◌, Err, None, Ok, Result, Some, if◌then◌else◌}
+use Rattle.std.specs.Prelude.{Err, None, Ok, Result, Some, if◌then◌else◌}
 use Rattle.board_text.specs.PlainBoard.{PlainBoard}
 use Rattle.command_line.specs.declared.asked.BoardLimit.{BoardLimit}
 use Rattle.command_line.specs.declared.asked.Job.{Job}
@@ -10,18 +10,16 @@ use Rattle.console.specs.declared.streams.Terminals.{Terminals}
 use Rattle.player.specs.Prompts.{ArePrompts}
 use Rattle.player.specs.Transcript.{PersonClimbs}
 use Rattle.player.specs.declared.end.PlayEnd.{PlayEnd}
-use Rattle.player.specs.declared.end.PlayFault.{PlayFault}
 use Rattle.player.proofs.Cited.{nothing_told}
 use Rattle.positions.specs.declared.side.Side.{Side}
 use Rattle.runs.specs.CheckRun.{RanCheck}
 use Rattle.console.specs.Watching.{lines_of}
 use Rattle.runs.specs.Notices.{IsNoticed, IsNoticedInRun, IsToldOfChains, notice_of_length}
-use Rattle.runs.specs.PlayRun.{IsToldInRun, game_played, run_of_play}
+use Rattle.runs.specs.PlayRun.{IsToldInRun, game_played}
 use Rattle.runs.specs.Run.{Bytes, Ran, Stream}
 use Rattle.runs.specs.Verdicts.{IsAnswered}
 use Rattle.runs.specs.declared.checking.TheConstants.{MAX_JOINED_BYTES, MAX_PROOF_BYTES}
 use Rattle.runs.specs.declared.fault.RunFault.{RunFault}
-use Rattle.runs.specs.declared.fault.RunFault.TheVariants.{Memory}
 use Rattle.runs.specs.declared.reading.TheConstants.{MAX_BOARD_BYTES}
 use Rattle.runs.specs.declared.verdicts.Verdict.{Verdict}
 use Rattle.runs.specs.declared.verdicts.Verdict.TheVariants.{Accepted, Refused, RefusedByClasses}

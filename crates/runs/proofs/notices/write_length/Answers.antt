@@ -1,6 +1,5 @@
 use Rattle.std.proofs.Common.{◌++◌, codes}
 use Rattle.std.specs.Fmt.{decimal}
-use Rattle.board_text.specs.LineForms.{with_line_feed}
 use Rattle.console.proofs.Cited.{then_more}
 use Rattle.std.proofs.lemmas.List.{append_assoc}
 use Rattle.std.proofs.Common.{subst, sym}

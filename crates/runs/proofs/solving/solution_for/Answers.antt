@@ -1,4 +1,3 @@
-use Rattle.std.proofs.lemmas.Result.{err_from_is_err_and}
 use Rattle.runs.proofs.solving.solution_for.Goals as goal
 
 pub returns-clause-ok : goal.returns-clause-ok

@@ -1,4 +1,4 @@
-use Rattle.std.proofs.Common.{[], false, refl, sym, true≢false, ◌∙◌}
+use Rattle.std.proofs.Common.{[], refl, sym, true≢false, ◌∙◌}
 use Rattle.console.proofs.Cited.{none_more}
 use Rattle.serving.proofs.jobs.carry_out.Goals as goal
 

@@ -1,4 +1,4 @@
-use Rattle.std.proofs.Common.{[], refl, sym, subst, ◌∙◌}
+use Rattle.std.proofs.Common.{sym, subst, ◌∙◌}
 use Rattle.console.specs.Showing.{IsMore}
 use Rattle.console.proofs.Cited.{none_more}
 use Rattle.serving.proofs.Greetings.{greeted, ungreeted}

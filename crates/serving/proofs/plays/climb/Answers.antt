@@ -1,6 +1,4 @@
-use Rattle.std.proofs.Common.{ap, subst, ◌∙◌}
-use Rattle.player.specs.Prompts.{ArePrompts}
-use Rattle.player.specs.Transcript.{PersonClimbs}
+use Rattle.std.proofs.Common.{ap, ◌∙◌}
 use Rattle.serving.specs.Outcomes.{outcome_of_run}
 use Rattle.serving.proofs.plays.climb.Goals as goal
 
