@@ -1,18 +1,13 @@
-//! Best moves at configurations given by their places, also on a board that has no ranks, by values
-//! of the graph of classes and by values of gaps.
-
-ghost use Rattle.std.specs.Prelude.{◌≡◌, IfOk, MatchOption};
+//! Best moves at configurations given by their places, by values of gaps, also on a board that has no
+//! ranks, and by ranks.
 
 use crate::assertions::{assert_same, board_of};
-use board_text::{Board, Memory};
 use fakes::boards::CYCLE_WITHOUT_LABELS;
-use fakes::{Shape, is_configuration, once_more, shaped};
-use gap_values::{GapValues, has_few_gaps};
+use fakes::{Shape, is_configuration, shaped};
 use positions::Value;
-use solved_boards::numbered_values_of;
-use std::alloc::Global;
+use solved_boards::{gap_values_of, values_of};
 use std::process::Abort;
-use strategies::{GapMoves, Moves, NumberedMoves};
+use strategies::{GapMoves, Moves};
 
 /// The value of a configuration of three pebbles, the best answer to each request, and the best
 /// request.
@@ -24,7 +19,7 @@ struct Best {
 }
 
 /// The label of a best answer.
-fn label_of(best: Option<strategies::Best>) -> Option<u16> {
+fn label_of(best: Option<gap_values::Best>) -> Option<u16> {
     let best = best?;
     Some(best.label)
 }
@@ -42,19 +37,6 @@ fn best_at<M: Moves>(moves: &M, held: [u16; 3]) -> Option<Best> {
         answers: [label_of(first), label_of(second), label_of(third)],
         request,
     })
-}
-
-/// The values of a board by its gaps, if these are few, asked for once more if memory was refused.
-fn gap_values_of(alloc: Global, board: &Board) -> Result<Option<GapValues>, Memory>
-    ensures { IfOk result (λ values. MatchOption values (Unit {0}) (λ v. v ≡ board.now)) }
-{
-    if !has_few_gaps(board) {
-        return Ok(None);
-    }
-    match GapValues::of(alloc, board) {
-        Ok(values) => Ok(Some(values)),
-        Err(Memory) => Ok(Some(GapValues::of(alloc, board)?)),
-    }
 }
 
 /// Asserts the best moves at a configuration of three pebbles.
@@ -79,13 +61,7 @@ fn best_in_an_order_without_ranks(rt: HostRuntime) {
     // 1,092,727 configurations, and 187,460 classes. An answer is greater than the labels of both
     // other pebbles, and the adversary asks one that doesn't hold the greatest label.
     let board = shaped(rt.alloc(), Shape::Order, 103, 3).expect(&rt, "a board");
-    let values = numbered_values_of(rt.alloc(), &board).expect(&rt, "values");
-    let unlisted = NumberedMoves::new(&board, &values);
-    let listed = once_more(Memory, || unlisted.listed(rt.alloc()));
-    assert_moves_in_an_order(&rt, &unlisted);
-    assert_moves_in_an_order(&rt, &listed.expect(&rt, "a list"));
-    let values = gap_values_of(rt.alloc(), &board).expect(&rt, "memory");
-    let values = values.expect(&rt, "few gaps");
+    let values = gap_values_of(rt.alloc(), &board).expect(&rt, "values");
     assert_moves_in_an_order(&rt, &GapMoves::new(&board, &values));
 }
 
@@ -112,10 +88,9 @@ fn answer_at<M: Moves>(moves: &M, held: [u16; 2], pebble: bool) -> Option<(Value
 #[test]
 fn best_at_places_without_a_label(rt: HostRuntime) {
     let board = board_of(&rt, rt.alloc(), CYCLE_WITHOUT_LABELS);
-    let values = numbered_values_of(rt.alloc(), &board).expect(&rt, "values");
-    assert_moves_without_labels(&rt, &NumberedMoves::new(&board, &values));
-    let values = gap_values_of(rt.alloc(), &board).expect(&rt, "memory");
-    let values = values.expect(&rt, "few gaps");
+    let values = values_of(rt.alloc(), &board).expect(&rt, "values");
+    assert_moves_without_labels(&rt, &GapMoves::new(&board, &values));
+    let values = gap_values_of(rt.alloc(), &board).expect(&rt, "values");
     assert_moves_without_labels(&rt, &GapMoves::new(&board, &values));
 }
 

@@ -1,7 +1,6 @@
 -- The lemmas that crates above cite, passed on from one place. Declares nothing.
-pub use Rattle.gap_values.proofs.BestAnswers.{HasWord, IsBestBefore, answers-after, answers-over, best-begins, best-is}
-pub use Rattle.gap_values.proofs.BestAnswers.{best-kept, best-lasting, best-more, closes-before, next-answer}
+pub use Rattle.gap_values.proofs.BestAnswers.{most-after, most-open}
 pub use Rattle.gap_values.proofs.ClosedGaps.{class-configuration, first-closed, gap-is, like-closed, member-like}
-pub use Rattle.gap_values.proofs.Words.{before-from, before-to}
+pub use Rattle.gap_values.proofs.Words.{before-from, before-to, result-class, result-is}
 pub use Rattle.gap_values.proofs.ClassCounts.{count-occurs, occurs-counted}
 pub use Rattle.gap_values.proofs.Words.{round-finite, round-none}

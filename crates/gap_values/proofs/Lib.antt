@@ -10,6 +10,7 @@ mod ClosingSteps
 mod TellingSteps
 mod Words
 mod RoundSteps
+mod ClassRounds
 mod OpenCounts
 pub mod BestAnswers
 mod Weighing

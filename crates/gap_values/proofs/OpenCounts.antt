@@ -1,13 +1,11 @@
 -- How many gaps are open when each round begins.
-use Rattle.std.proofs.Common.{◌≡◌, ◌≢◌, ◌↔◌, ◌∙◌, ◌⊎◌, ◌+◌, ◌-◌, ◌<◌, ◌≤◌, ℕ, zero, suc, true, List}
+use Rattle.std.proofs.Common.{◌≡◌, ◌≢◌, ◌↔◌, ◌∙◌, ◌+◌, ◌-◌, ◌<◌, ◌≤◌, ℕ, zero, suc, List}
 use Rattle.std.proofs.Common.{[], ◌∷◌, ◌++◌, length, get_or}
 use Rattle.std.proofs.Common.{ap, arith, cond, inl, inr, nat_eq, refl, replicate, subst, sym}
-use Rattle.std.proofs.lemmas.Bool.{cases_eq, cases_lt, eq-eqb, eqb-true, ne_eqb}
+use Rattle.std.proofs.lemmas.Bool.{cases_lt, eq-eqb, eqb-true, ne_eqb}
 use Rattle.std.proofs.lemmas.List.{get_or-replicate, length_push}
 use Rattle.board_text.specs.PlainBoard.{PlainBoard, IsBoard, places}
-use Rattle.classes.specs.Classes.{IsClass}
-use Rattle.classes.specs.Numbers.{class_number, class_with}
-use Rattle.classes.specs.Sums.{sum_below}
+use Rattle.classes.specs.Numbers.{class_number}
 use Rattle.classes.proofs.Cited.{is-below, size_of_sum, sum-suc, sum-zero, with-is}
 use Rattle.positions.specs.Counts.{HasSize}
 use Rattle.positions.specs.declared.value.Value.TheVariants.{Finite, Forever}

@@ -130,6 +130,29 @@ closes-sooner board words gap round b is_board low below is closes = λ label an
       ],
     )
 
+-- if all gaps that close do before a round, what is told of this round is told of all
+pub told-of-all : (board : PlainBoard) (words : List ℕ) (round : ℕ) → 2 ≤ board.pebbles → (told : List (List ℕ))
+    → ((n : ℕ) → n < gap_count board → get_or words n 0 < 4294967295 → get_or words n 0 < round)
+    → TellClosed board words round told → TellClosed board words 4294967295 told
+told-of-all board words round some told below tell = record {
+  many = tell.many;
+  each = λ list list_is label label_low.
+      let n : ℕ = class_number (member_with list label) in
+      let more : suc (board.pebbles - 2) ≡ board.pebbles - 1 = omega arith in
+      let gap_is : IsClass (places board) (board.pebbles - 1) (member_with list label) =
+      subst (λ k. IsClass (places board) k (member_with list label)) more
+      (put-is (places board) (board.pebbles - 2) label list list_is (label_is_place board label label_low)) in
+      let n_low : n < gap_count board = is-below (places board) (board.pebbles - 1) (member_with list label) gap_is in (
+        λ has.
+            let is = before-to (get_or words n 0) round ((tell.each list list_is label label_low).0 has) in
+            before-from (get_or words n 0) 4294967295 is.1 is.1,
+        λ before.
+            let is = before-to (get_or words n 0) 4294967295 before in
+            (tell.each list list_is label label_low).1
+            (before-from (get_or words n 0) round (below n n_low is.1) is.1),
+      );
+}
+
 -- a round that closed its open gaps that are shut
 module _ (board : PlainBoard) (is_board : IsBoard board) (some : 2 ≤ board.pebbles) (round : ℕ)
     (old new : List ℕ) (sets : List (List ℕ)) (low : round < 4294967295) (at : IsAtRound board round old sets)
@@ -264,27 +287,10 @@ module _ (board : PlainBoard) (is_board : IsBoard board) (some : 2 ≤ board.peb
 
   -- what closed by this round is all that is closed
   pub all-told : (told : List (List ℕ)) → TellClosed board new (round + 1) told → TellClosed board new 4294967295 told
-  all-told told tell = record {
-    many = tell.many;
-    each = λ list list_is label label_low.
-        let n : ℕ = class_number (member_with list label) in
-        let more : suc (board.pebbles - 2) ≡ board.pebbles - 1 = omega arith in
-        let gap_is : IsClass (places board) (board.pebbles - 1) (member_with list label) =
-        subst (λ k. IsClass (places board) k (member_with list label)) more
-        (put-is (places board) (board.pebbles - 2) label list list_is (label_is_place board label label_low)) in
-        let n_low : n < gap_count board = is-below (places board) (board.pebbles - 1) (member_with list label) gap_is
-        in (
-          λ has.
-              let is = before-to (get_or new n 0) (round + 1) ((tell.each list list_is label label_low).0 has) in
-              before-from (get_or new n 0) 4294967295 is.1 is.1,
-          λ before.
-              let is = before-to (get_or new n 0) 4294967295 before in
-              (tell.each list list_is label label_low).1 (elim (new-words n n_low) [
-                | inl less ↦ before-from (get_or new n 0) (round + 1) less is.1
-                | inr none ↦ absurd (omega (arith, none, is.1))
-              ]),
-        );
-  }
+  all-told told = told-of-all board new (round + 1) some told (λ n n_low finite. elim (new-words n n_low) [
+    | inl less ↦ less
+    | inr none ↦ absurd (omega (arith, none, finite))
+  ])
 
   -- no gap closed: the words are a table of gaps
   pub last-round : ((n : ℕ) → n < gap_count board → get_or new n 0 ≢ round) → AreRounds board new
@@ -326,13 +332,35 @@ module _ (board : PlainBoard) (is_board : IsBoard board) (some : 2 ≤ board.peb
 
 -- ---- the first round
 
+-- before the first round empty sets tell of what is closed
+pub none-told : (board : PlainBoard) (words none : List ℕ) (sets : List (List ℕ))
+    → sets ≡ replicate (ways (board.pebbles - 2) (places board)) none
+    → ((x : ℕ) → x < MAX_LABELS → (has_bit none x ≡ true) ↔ (x < 0)) → IsBoard board → TellClosed board words 0 sets
+none-told board words none sets all_none empty is_board =
+    let many : ℕ = ways (board.pebbles - 2) (places board) in
+    record {
+      many = ap length all_none ∙ length-replicate {A = List ℕ} many none;
+      each = λ list list_is label low.
+          let few = is_board.labels.1 in
+          let number_low : class_number list < many = is-below (places board) (board.pebbles - 2) list list_is in
+          let own : get_or sets (class_number list) [] ≡ none =
+          ap (λ l. get_or l (class_number list) []) all_none
+          ∙ get_or-replicate {A = List ℕ} many (class_number list) none [] number_low in (
+            λ has.
+                let under : label < 0 = (empty label (omega arith)).0 (ap (λ s. has_bit s label) (sym own) ∙ has) in
+                absurd (omega arith),
+            λ before.
+                let is = before-to (get_or words (class_number (member_with list label)) 0) 0 before in
+                absurd (omega (arith, is.0)),
+          );
+    }
+
 pub first-round : (board : PlainBoard) (words none : List ℕ) (sets : List (List ℕ))
     → words ≡ replicate (gap_count board) 4294967295
     → sets ≡ replicate (ways (board.pebbles - 2) (places board)) none
     → ((x : ℕ) → x < MAX_LABELS → (has_bit none x ≡ true) ↔ (x < 0)) → IsBoard board
     → IsAtRound board 0 words sets
 first-round board words none sets all_open all_none empty is_board =
-    let many : ℕ = ways (board.pebbles - 2) (places board) in
     let size : length words ≡ gap_count board = ap length all_open ∙ length-replicate {A =
     ℕ} (gap_count board) 4294967295 in
     record {
@@ -341,22 +369,7 @@ first-round board words none sets all_open all_none empty is_board =
       words_are = λ n low. inr (ap (λ l. get_or l n 0) all_open
           ∙ get_or-replicate {A = ℕ} (gap_count board) n 4294967295 0 low);
       few = (let few = open-few words in omega arith);
-      tell = record {
-        many = ap length all_none ∙ length-replicate {A = List ℕ} many none;
-        each = λ list is_list label low.
-            let few = is_board.labels.1 in
-            let number_low : class_number list < many = is-below (places board) (board.pebbles - 2) list is_list in
-            let own : get_or sets (class_number list) [] ≡ none =
-            ap (λ l. get_or l (class_number list) []) all_none
-            ∙ get_or-replicate {A = List ℕ} many (class_number list) none [] number_low in (
-              λ has.
-                  let under : label < 0 = (empty label (omega arith)).0 (ap (λ s. has_bit s label) (sym own) ∙ has) in
-                  absurd (omega arith),
-              λ before.
-                  let is = before-to (get_or words (class_number (member_with list label)) 0) 0 before in
-                  absurd (omega (arith, is.0)),
-            );
-      };
+      tell = none-told board words none sets all_none empty is_board;
     }
 
 -- ---- one pebble: its gap has no places, and each label answers with that gap again

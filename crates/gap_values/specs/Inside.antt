@@ -1,4 +1,5 @@
 -- Definitions for the clauses of this crate's own functions; no public contract cites them.
+pub mod ClassRounds
 pub mod Counts
 pub mod Families
 pub mod FamilyWeights

@@ -1,7 +1,7 @@
 //! Values found by gaps alone: a table of the rounds in which gaps close, and none of classes.
 #![tactic(auto)]
 
-mod best;
+mod class_rounds;
 mod closing;
 mod counting;
 #[cfg(test)]
@@ -25,5 +25,5 @@ pub use gap_numbers::GapNumbers;
 pub use laws::gap_tables_have_values;
 pub use rounds::MAX_GAPS;
 pub use sizes::Sizes;
-pub use value_table::ValueTable;
+pub use value_table::{Best, ValueTable};
 pub use values::{GapValues, value_with};

@@ -102,7 +102,8 @@ fn best_beside(board: &Board, values: &OrbitValues<'_>, place: u16) -> Option<u1
     if board.pebbles() != 2 || place >= board.places() {
         return None;
     }
-    values.best_answer(board, &[place])
+    let best = values.best_answer(board, &[place])?;
+    Some(best.label)
 }
 
 /// Asserts that the configurations of a board have the values that they have by gaps.

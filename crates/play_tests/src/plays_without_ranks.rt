@@ -6,13 +6,13 @@ ghost use Rattle.std.specs.Prelude.{◌≡◌};
 use crate::outcomes::{Outcome, PLENTY, Writer, assert_play};
 use board_text::{Board, Source, Through};
 use fakes::{Drip, Failing, Shape, shaped};
+use gap_values::GapValues;
 use player::{AsAdversary, AsLabeller, PlayEnd, play};
 use positions::Side;
-use solved_boards::numbered_values_of;
-use solver::NumberedValues;
+use solved_boards::gap_values_of;
 use std::alloc::Global;
 use std::process::Abort;
-use strategies::NumberedMoves;
+use strategies::GapMoves;
 
 /// The lines of a person, the end of the play, and the text that is written.
 #[derive(Clone, Copy)]
@@ -23,20 +23,14 @@ struct Wanted {
 }
 
 /// What a play on a board comes to.
-fn outcome(
-    alloc: Global,
-    board: &Board,
-    values: &NumberedValues,
-    person: Side,
-    lines: &[u8],
-) -> Outcome
-    requires { values.now.board ≡ board.now }
+fn outcome(alloc: Global, board: &Board, values: &GapValues, person: Side, lines: &[u8]) -> Outcome
+    requires { values.now ≡ board.now }
 {
     let mut reader = Drip::new(lines, PLENTY);
     let mut writer = Writer::new(PLENTY, Failing::Refuses);
     let mut nobody = Through::new(Vec::new(alloc));
     let (lines, out, err) = (&mut reader, &mut writer, &mut nobody);
-    let moves = NumberedMoves::new(board, values);
+    let moves = GapMoves::new(board, values);
     let answer = match person {
         Side::Adversary => {
             play(
@@ -60,9 +54,9 @@ fn outcome(
 /// Asserts a play on the order.
 fn assert_order_play(rt: &impl Abort, alloc: Global, person: Side, wanted: Wanted) {
     let board = shaped(alloc, Shape::Order, 103, 3).expect(rt, "a board");
-    let values = numbered_values_of(alloc, &board).expect(rt, "values");
+    let values = gap_values_of(alloc, &board).expect(rt, "values");
     let play = || -> Outcome
-        requires { values.board ≡ board }
+        requires { values ≡ board }
     { outcome(alloc, &board, &values, person, wanted.lines) };
     assert_play(rt, person, play, Ok(wanted.end), wanted.written);
 }

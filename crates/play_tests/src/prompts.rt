@@ -8,13 +8,13 @@ use board_text::Board;
 use fakes::boards::{CHAIN_OF_THREE, CYCLE_WITH_A_WAY_IN, THREE_CYCLE};
 use fakes::plays::{ANSWERS, ASKED, NO_STRATEGY, REPLIES, REQUESTS};
 use fakes::{Drip, Failing};
+use gap_values::GapValues;
 use player::{AsAdversary, AsClimber, AsLabeller, PlayEnd, PlayFault, play};
 use positions::Side;
-use solved_boards::numbered_values_of;
-use solver::NumberedValues;
+use solved_boards::gap_values_of;
 use std::alloc::Global;
 use std::process::Abort;
-use strategies::NumberedMoves;
+use strategies::GapMoves;
 
 /// What a person is told who asks on the chain by `REQUESTS`.
 const ASKING: &[u8] =
@@ -114,16 +114,16 @@ fn assert_prompted<F: Fn() -> Prompted>(
 fn board_play(
     alloc: Global,
     board: &Board,
-    values: &NumberedValues,
+    values: &GapValues,
     person: Side,
     lines: &[u8],
 ) -> Prompted
-    requires { values.now.board ≡ board.now }
+    requires { values.now ≡ board.now }
 {
     let mut lines = Drip::new(lines, PLENTY);
     let (mut output, mut errors) = (writer(), writer());
     let (out, err) = (&mut output, &mut errors);
-    let moves = NumberedMoves::new(board, values);
+    let moves = GapMoves::new(board, values);
     let answer = match person {
         Side::Adversary => {
             play(
@@ -166,9 +166,9 @@ struct Wanted {
 /// Asserts a play on the board of this text.
 fn assert_board_play(rt: &impl Abort, alloc: Global, text: &str, person: Side, wanted: Wanted) {
     let board = board_of(rt, alloc, text);
-    let values = numbered_values_of(alloc, &board).expect(rt, "values");
+    let values = gap_values_of(alloc, &board).expect(rt, "values");
     let play = || -> Prompted
-        requires { values.board ≡ board }
+        requires { values ≡ board }
     { board_play(alloc, &board, &values, person, wanted.lines) };
     assert_prompted(rt, play, wanted.end, wanted.written, wanted.told);
 }

@@ -19,7 +19,7 @@ use positions::Value;
 use solver::Values;
 use std::alloc::{AllocError, Global};
 use std::marker::Model;
-use strategies::{Configuration, Moves, NumberedMoves};
+use strategies::{Configuration, GapMoves, Moves};
 
 /// Plays with a person who is the adversary: each line names a pebble, which is put on the label of
 /// the best answer.
@@ -50,7 +50,7 @@ pub fn play_adversary_side<R: Source, W: Sink>(
     ensures value { IfOk result (KeepsToValue (PersonAsks board.now)) }
     ensures streams { TellsBothStreams result (R.has_failed reader.new) (W.has_failed writer.new) }
 {
-    let moves = NumberedMoves::new(board, values.numbered());
+    let moves = GapMoves::new(board, values);
     let mut nobody = Through::new(Vec::new(alloc));
     let game = AsAdversary { moves: &moves };
     play(alloc, &game, reader, writer, false, &mut nobody)

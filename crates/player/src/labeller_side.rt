@@ -32,7 +32,7 @@ use solver::Values;
 use std::alloc::{AllocError, Global};
 use std::fmt::Write;
 use std::marker::Model;
-use strategies::{Configuration, Moves, NumberedMoves};
+use strategies::{Configuration, GapMoves, Moves};
 
 /// Plays with a person who is the labeller: best requests are made,
 /// and each line answers one with a label.
@@ -63,7 +63,7 @@ pub fn play_labeller_side<R: Source, W: Sink>(
     ensures value { IfOk result (KeepsToValue (PersonAnswers board.now)) }
     ensures streams { TellsBothStreams result (R.has_failed reader.new) (W.has_failed writer.new) }
 {
-    let moves = NumberedMoves::new(board, values.numbered());
+    let moves = GapMoves::new(board, values);
     let mut nobody = Through::new(Vec::new(alloc));
     let game = AsLabeller { moves: &moves };
     play(alloc, &game, reader, writer, false, &mut nobody)

@@ -6,14 +6,14 @@
 ghost use Rattle.std.specs.Prelude.{◌≡◌, ◌≤◌, IfOk};
 
 use crate::assertions::assert_same;
-use board_text::Board;
+use board_text::{Board, MAX_PEBBLES};
 use claim_round::RoundSeat;
 use classes::has_few_classes;
 use fakes::build_board;
+use gap_values::{GapValues, ValueTable};
 use index_lists::PlainLists;
-use positions::is_small;
 use round_workers::{Gate, MIN_SHARED, solve_classes};
-use solved_boards::{class_solver_of, value, values_by_classes};
+use solved_boards::{class_solver_of, values_by_classes, values_of};
 use solver::{Progress, SolveFault, Values};
 use std::alloc::{AllocError, Global};
 use std::process::Abort;
@@ -75,19 +75,28 @@ fn counted(
     alloc: Global,
     board: &Board,
     workers: u32,
-) -> Result<(Values, Passes), SolveFault>
+) -> Result<(GapValues, Passes), SolveFault>
     requires workers { (1 ≤ workers) × (workers ≤ 16) }
     ensures { IfOk result (λ found. found.0 ≡ board.now) }
 {
-    if !is_small(board) {
-        return Err(SolveFault::TooLarge);
-    }
     if !has_few_classes(board) {
         return Err(SolveFault::TooLarge);
     }
     let passes = Passes::none();
     let values = solve_classes(rt, alloc, board, workers, &passes)?;
-    Ok((Values::new(values, board), passes))
+    Ok((values, passes))
+}
+
+/// Asserts that each configuration has its value.
+fn assert_values(rt: &impl Abort, found: &GapValues, wanted: &Values)
+    requires { found.now ≡ wanted.now }
+{
+    let space = wanted.space();
+    let pebbles = space.pebbles() as usize;
+    for rank in 0..space.configurations() {
+        let held = space.places_at(rank);
+        assert_same(rt, rank, found.value(&held[..pebbles]), wanted.of(rank));
+    }
 }
 
 /// Asserts that the round which strikes the classes filed at 0 has enough of them to be shared, and
@@ -100,22 +109,60 @@ fn assert_on_both_sides(rt: &impl Abort, alloc: Global, board: &Board) {
     assert_same(rt, "at 2", solver.round(), Progress::Done);
 }
 
+/// What `counted` finds, asked for once more if memory was refused.
+fn counted_at_last(
+    rt: &(impl Abort + Threads + Wait + Sync),
+    alloc: Global,
+    board: &Board,
+    workers: u32,
+) -> (GapValues, Passes)
+    requires { (1 ≤ workers) × (workers ≤ 16) }
+    ensures { result.0 ≡ board.now }
+{
+    let answer = match counted(rt, alloc, board, workers) {
+        Err(_) => counted(rt, alloc, board, workers),
+        answer => answer,
+    };
+    answer.expect(rt, "values")
+}
+
 #[test]
 fn one_round_of_two_is_shared(rt: HostRuntime) {
     let board = layered(rt.alloc()).expect(&rt, "a board");
     assert_on_both_sides(&rt, rt.alloc(), &board);
     let wanted = values_by_classes(rt.alloc(), &board).expect(&rt, "values");
     for workers in 1..5 {
-        let answer = match counted(&rt, rt.alloc(), &board, workers) {
-            Err(_) => counted(&rt, rt.alloc(), &board, workers),
-            answer => answer,
-        };
-        let (found, passes) = answer.expect(&rt, "values");
+        let (found, passes) = counted_at_last(&rt, rt.alloc(), &board, workers);
         let times = if workers == 1 { 0 } else { u64::from(workers) };
         assert_same(&rt, workers, passes.first.load(SeqCst), times);
         assert_same(&rt, workers, passes.later.load(SeqCst), 0);
-        for rank in 0..wanted.space().configurations() {
-            assert_same(&rt, rank, value(&found, rank), value(&wanted, rank));
-        }
+        assert_values(&rt, &found, &wanted);
+    }
+}
+
+/// Asserts that all configurations of a board with these pairs have the values that are found by
+/// ranks.
+fn assert_as_by_ranks(
+    rt: &(impl Abort + Threads + Wait + Sync),
+    alloc: Global,
+    pebbles: u8,
+    pairs: &[(u16, u16)],
+) {
+    let start = [0; MAX_PEBBLES];
+    if pebbles as usize <= MAX_PEBBLES {
+        let board = build_board(alloc, 3, pebbles, &start[..pebbles as usize], pairs);
+        let board = board.ok().expect(rt, "a board");
+        let wanted = values_of(alloc, &board).expect(rt, "values");
+        let (found, _) = counted_at_last(rt, alloc, &board, 2);
+        assert_values(rt, &found, &wanted);
+    }
+}
+
+#[test]
+fn each_number_of_pebbles(rt: HostRuntime) {
+    for pebbles in 1..7 {
+        assert_as_by_ranks(&rt, rt.alloc(), pebbles, &[]);
+        assert_as_by_ranks(&rt, rt.alloc(), pebbles, &[(1, 0), (2, 0), (2, 1)]);
+        assert_as_by_ranks(&rt, rt.alloc(), pebbles, &[(0, 2), (1, 0), (2, 1)]);
     }
 }

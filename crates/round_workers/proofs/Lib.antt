@@ -1,2 +1,3 @@
 pub mod Rounds
+mod ClassValues
 pub mod Cited

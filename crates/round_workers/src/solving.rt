@@ -4,8 +4,7 @@ ghost use Rattle.std.specs.Prelude.{◌≡◌, ℕ, ◌<◌, ◌≤◌, ◌↔�
 ghost use Rattle.std.specs.Prelude.{IfErr};
 ghost use Rattle.positions.specs.Ranks.{configurations};
 ghost use Rattle.classes.specs.Numbers.{class_count};
-ghost use Rattle.graphs.specs.declared.graph.Numbering.TheVariants.{Classes};
-ghost use Rattle.graphs.specs.Numbered.{numbered, graph_of};
+ghost use Rattle.graphs.specs.Numbered.{graph_of};
 ghost use Rattle.solver.specs.Ending.{IsRoundEnd};
 ghost use Rattle.solver.specs.Solving.{IsSolving, HasFiled, HasFoundNone, bucket};
 
@@ -14,9 +13,10 @@ use crate::tree::share;
 use board_text::Board;
 use claim_round::{Closed, SharedRound};
 use classes::MAX_CLASSES;
+use gap_values::GapValues;
 use index_lists::{ListStore, PlainLists};
 use positions::MAX_CONFIGURATIONS;
-use solver::{NumberedValues, Progress, SolveFault, Solver, Values};
+use solver::{Progress, SolveFault, Solver, Values};
 use std::alloc::Global;
 use std::sync::Wait;
 use std::thread::Threads;
@@ -81,8 +81,8 @@ pub fn solve_values<G: Gate, R: Threads + Wait + Sync>(
     }
 }
 
-/// The values of `board`, which has few classes, by their numbers, found in rounds over classes of
-/// configurations: all that exchanged pebbles give are one.
+/// The values of `board`, which has few classes, found in rounds over classes of configurations:
+/// all that exchanged pebbles give are one.
 ///
 /// A round that strikes those of at least `MIN_SHARED` classes, and of four fifths of all, is shared
 /// by all workers, as each round of `solve_values` is, and a smaller one by none. Of this the clauses say
@@ -94,19 +94,18 @@ pub fn solve_classes<G: Gate, R: Threads + Wait + Sync>(
     board: &Board,
     workers: u32,
     gate: &G,
-) -> Result<NumberedValues, SolveFault>
+) -> Result<GapValues, SolveFault>
     requires few { class_count board.now ≤ MAX_CLASSES }
     requires workers { (1 ≤ workers) × (workers ≤ MAX_WORKERS) }
-    ensures values { IfOk result (λ values. values ≡ numbered board.now Classes) }
+    ensures values { IfOk result (λ values. values ≡ board.now) }
     ensures fault { IfErr result (λ f. f ≢ SolveFault.TooLarge) }
     ensures worker { result ≡ Err SolveFault.Worker → 1 < workers }
-    ensures enough { result ≡ Err SolveFault.Worker
-        → MIN_SHARED ≤ (graph_of (numbered board.now Classes)).configurations }
+    ensures enough { result ≡ Err SolveFault.Worker → MIN_SHARED ≤ class_count board.now }
 {
     let solver = Solver::<PlainLists>::of_classes(alloc, board)?;
     let least = least_shared(workers, solver.graph().configurations());
-    match run_rounds(rt, alloc, solver, workers, gate, least)?.finish_numbered() {
-        Ok(values) => Ok(values),
+    match run_rounds(rt, alloc, solver, workers, gate, least)?.finish_words() {
+        Ok(words) => Ok(GapValues::of_classes(alloc, board, words.as_slice())?),
         // The solver is done after all rounds.
         Err(_) => unreachable!(),
     }

@@ -9,9 +9,10 @@ ghost use Rattle.solver.specs.Solving.{IsFresh};
 
 use board_text::{Board, Memory};
 use classes::has_few_classes;
+use gap_values::{GapValues, has_few_gaps};
 use index_lists::{ListStore, PlainLists};
 use positions::{MAX_CONFIGURATIONS, Value, is_small};
-use solver::{NumberedValues, SolveFault, Solver, Values};
+use solver::{SolveFault, Solver, Values};
 use std::alloc::Global;
 
 /// The answer of `Solver::open`, which is asked once more if it was refused memory.
@@ -62,15 +63,21 @@ pub fn values_by_classes(alloc: Global, board: &Board) -> Option<Values>
     if !is_small(board) {
         return None;
     }
-    Some(Values::new(numbered_values_of(alloc, board)?, board))
+    let solver = class_solver_of::<PlainLists>(alloc, board)?;
+    Some(Values::new(solver.solve_numbered(), board))
 }
 
-/// The values of a board that hasn't too many classes, which may be one without ranks.
-pub fn numbered_values_of(alloc: Global, board: &Board) -> Option<NumberedValues>
-    ensures { IfSome result (λ values. values.board ≡ board.now) }
+/// The values of a board that hasn't too many gaps, which may be one without ranks, by its gaps.
+pub fn gap_values_of(alloc: Global, board: &Board) -> Option<GapValues>
+    ensures { IfSome result (λ values. values ≡ board.now) }
 {
-    let solver = class_solver_of::<PlainLists>(alloc, board)?;
-    Some(solver.solve_numbered())
+    if !has_few_gaps(board) {
+        return None;
+    }
+    match GapValues::of(alloc, board) {
+        Err(Memory) => GapValues::of(alloc, board).ok(),
+        Ok(values) => Some(values),
+    }
 }
 
 /// The value of the configuration of `rank`, if the board has one of this rank.

@@ -1,8 +1,8 @@
 -- The answers of a graph's gap, and the words of its members, are those of the requests in it.
-use Rattle.std.proofs.Common.{◌≡◌, ℕ, ◌<◌, ◌==◌, ◌↔◌, Bool, true, cond, inl, inr, sym, ap, ◌∙◌, subst, List}
+use Rattle.std.proofs.Common.{◌≡◌, ◌≢◌, ℕ, ◌<◌, ◌≤◌, ◌↔◌, arith, inl, inr, sym, ap, ◌∙◌, subst, List}
 use Rattle.std.proofs.Common.{slice_index}
+use Rattle.std.proofs.lemmas.Bool.Decides.{nat_tests}
 use Rattle.board_text.specs.PlainBoard.{PlainBoard, IsBoard, IsConfiguration, places}
-use Rattle.positions.specs.declared.value.Value.{Value}
 use Rattle.positions.specs.declared.value.Value.TheVariants.{Finite, Forever}
 use Rattle.positions.specs.Game.{Legal, moved}
 use Rattle.positions.specs.Gaps.{gaps, gap_of, pebble_of, member_of, IsAnswer}
@@ -10,7 +10,7 @@ use Rattle.positions.specs.Ranks.{rank_of, configuration_at}
 use Rattle.positions.specs.Value.{HasValue}
 use Rattle.positions.proofs.Cited.{configuration_at-rank_of, gap_below, gap_of-member_of, legal_is_answer, member_is}
 use Rattle.positions.proofs.Cited.{member_of-gap_of}
-use Rattle.positions.proofs.Cited.{pebble_below, same_value}
+use Rattle.positions.proofs.Cited.{pebble_below}
 use Rattle.board_text.proofs.Cited.{some_places}
 use Rattle.graphs.specs.Answers.{AreAnswerBits, IsAnswerIn}
 use Rattle.graphs.specs.Numbered.{Numbered, graph_of}
@@ -19,10 +19,10 @@ use Rattle.graphs.proofs.Cited.{gap-in-legal, gap-in-moved, number-below, number
 use Rattle.graphs.proofs.Cited.{true_or_false}
 use Rattle.solver.specs.GapRequests.{NumberedGap, IsRequestIn, numbered_gap}
 use Rattle.solver.specs.LabelSets.{IsInSet}
-use Rattle.solver.specs.Words.{value_with_word}
+use Rattle.gap_values.specs.Inside.Words.{round_of_word}
+use Rattle.gap_values.proofs.Cited.{round-finite, round-none}
 use Rattle.solver.specs.Inside.Tables.{is_open}
 use Rattle.solver.specs.Inside.Values.{IsWordOf, AreValues}
-use Rattle.solver.specs.declared.word.TheConstants.{OPEN}
 
 -- the word of a configuration's number is the configuration's
 pub word-of-number : (n : Numbered) → IsBoard n.board → (words : List ℕ) → AreValues n words → (c : List ℕ)
@@ -135,31 +135,16 @@ module _ (board : PlainBoard) (is : IsBoard board) (gap : ℕ) (below : gap < ga
       (subst (λ (b : PlainBoard). Told ↔ HasValue b (moved (member_of board gap 0) (pebble_of board gap) place) Forever)
       same (tells _ _ request))
 
--- the value that a word stands for is the configuration's
-pub value-with : (board : PlainBoard) (configuration words : List ℕ) (x : ℕ) (value : Value)
-    → IsWordOf board configuration words x
-    → value ≡ value_with_word (slice_index words x) → HasValue board configuration value
-value-with board configuration words x value word is = elim (true_or_false (is_open words x)) [
-  | inl still ↦ subst (HasValue board configuration)
-      (sym (is ∙ ap (λ (t : Bool). cond t Forever (Finite (slice_index words x))) still)) (word.forever still)
-  | inr shut ↦ subst (HasValue board configuration)
-      (sym (is ∙ ap (λ (t : Bool). cond t Forever (Finite (slice_index words x))) shut)) (word.finite shut)
+-- a word is that of the configuration's value
+pub value-with : (board : PlainBoard) (configuration words : List ℕ) (x word : ℕ)
+    → IsWordOf board configuration words x → word ≡ slice_index words x → word ≤ 4294967295
+    → HasValue board configuration (round_of_word word)
+value-with board configuration words x word is same few = elim (true_or_false (is_open words x)) [
+  | inl still ↦
+      let none : slice_index words x ≡ 4294967295 = grind (arith, nat_tests) in
+      subst (HasValue board configuration) (sym (round-none word (omega (arith, same, none)))) (is.forever still)
+  | inr shut ↦
+      let some : slice_index words x ≢ 4294967295 = λ none. (let bad : ⊥ = grind (arith, nat_tests) in bad) in
+      subst (HasValue board configuration) (sym (round-finite word (omega (arith, same, some, few))))
+      (subst (λ n. HasValue board configuration (Finite n)) (sym same) (is.finite shut))
 ]
-
-finite_not_forever : (number : ℕ) → Finite number ≡ Forever → ⊥
-finite_not_forever number e = cc
-
--- a word is that of Forever exactly if the configuration lasts forever
-pub open-exactly : (board : PlainBoard) (configuration : List ℕ) (word : ℕ)
-    → HasValue board configuration (value_with_word word)
-    → (word == OPEN ≡ true) ↔ HasValue board configuration Forever
-open-exactly board configuration word has = (
-  λ still. subst (HasValue board configuration) (ap (λ (t : Bool). cond t Forever (Finite word)) still) has,
-  λ forever. elim (true_or_false (word == OPEN)) [
-    | inl still ↦ still
-    | inr shut ↦
-        let finite : HasValue board configuration (Finite word) =
-        subst (HasValue board configuration) (ap (λ (t : Bool). cond t Forever (Finite word)) shut) has in
-        absurd (finite_not_forever word (same_value board configuration (Finite word) Forever finite forever))
-  ],
-)

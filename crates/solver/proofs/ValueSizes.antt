@@ -5,7 +5,7 @@ use Rattle.std.proofs.Common.{Option}
 use Rattle.std.proofs.Common.{length-set, get_or-set_same, get_or-set_other}
 use Rattle.std.proofs.lemmas.Bool.{cases_lt}
 use Rattle.std.proofs.lemmas.Bool.Decides.{nat_tests}
-use Rattle.board_text.specs.PlainBoard.{PlainBoard, IsBoard}
+use Rattle.board_text.specs.PlainBoard.{PlainBoard, IsBoard, IsConfiguration}
 use Rattle.positions.specs.Counts.{HasSize}
 use Rattle.positions.specs.declared.value.Value.TheVariants.{Finite, Forever}
 use Rattle.positions.specs.Laws.{Occurs}
@@ -24,8 +24,10 @@ use Rattle.solver.specs.Sizes.{HasCount}
 use Rattle.solver.specs.Inside.Stage.{PlainStage, filed_at, IsEquipped, IsState}
 use Rattle.solver.specs.Inside.Tables.{is_open}
 use Rattle.solver.specs.Inside.Values.{IsWordOf, AreValues, weighed, AreSums, AreZeros, AreSizes, AreNumberedValues}
+use Rattle.solver.specs.Words.{AreValueWords}
 use Rattle.solver.specs.declared.word.TheConstants.{OPEN}
 use Rattle.solver.proofs.ListedWords.{valued_word}
+use Rattle.solver.proofs.GapResults.{value-with}
 use Rattle.solver.proofs.States.{filed-exactly, forever-of, open-lasts, round-below, some_in, word-few}
 
 -- ---- sums of weights
@@ -205,6 +207,27 @@ module _ (s : PlainStage) (round : ℕ) (st : IsState s round true) (space : Opt
     };
   }
 
+  word-small : (x : ℕ) → x < size → is_open s.values x ≡ false → slice_index s.values x < 16777216
+  word-small x i shut =
+      let low = word-few s round true st x i shut in
+      let below = round-below s round true st in
+      let most = st.few in
+      omega (arith, low, below, most)
+
+  none-word : (word : ℕ) → (word == OPEN) ≡ true → word ≡ OPEN
+  none-word word still = grind (arith, nat_tests)
+
+  pub words-of : AreValueWords n s.values
+  words-of = record {
+    size = st.stage.words_are.values_length;
+    each = λ x i. value-with n.board (configuration_of n x) s.values x (slice_index s.values x) (values-are.each x i) refl
+        (elim (true_or_false (is_open s.values x)) [
+          | inl still ↦ omega (arith, none-word (slice_index s.values x) still)
+          | inr shut ↦ omega (arith, word-small x i shut)
+        ]);
+    few = λ x i finite. word-small x i (valued_word s.values x finite);
+  }
+
   module _ (sizes : List ℕ) (forever : ℕ) (are : AreSums s.values weights size sizes)
       (sizes-length : length sizes ≡ suc round)
       (forever_is : forever ≡ weighed weights (is_open s.values) size) where
@@ -305,3 +328,15 @@ count-beyond board sizes forever are v high =
       configuration_at_is board rank has.0,
       has.1,
     ))
+
+-- a configuration's word is at most that of Forever
+pub word-at-most : (board : PlainBoard) (configuration words : List ℕ) (x : ℕ) (sizes : List ℕ) (forever : ℕ)
+    → IsConfiguration board configuration → IsWordOf board configuration words x → AreSizes board sizes forever
+    → slice_index words x ≤ 4294967295
+word-at-most board configuration words x sizes forever is word are = elim (true_or_false (is_open words x)) [
+  | inl still ↦ (let none : slice_index words x ≡ 4294967295 = grind (arith, nat_tests) in omega (arith, none))
+  | inr shut ↦ elim (cases_lt (slice_index words x) (length sizes)) [
+    | inl low ↦ (let few = are.few in omega (arith, low, few))
+    | inr high ↦ absurd (are.beyond (slice_index words x) high (configuration, is, word.finite shut))
+  ]
+]

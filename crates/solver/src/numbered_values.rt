@@ -1,10 +1,11 @@
 //! The values of a board by the numbers of its graph.
 
-ghost use Rattle.std.specs.Prelude.{◌≡◌, ◌<◌, ℕ, List, slice_index};
+ghost use Rattle.std.specs.Prelude.{◌≡◌, ◌<◌, ◌≤◌, ℕ, List, slice_index};
 ghost use Rattle.board_text.specs.PlainBoard.{IsBoard, IsConfiguration};
 ghost use Rattle.positions.specs.Laws.{Occurs};
 ghost use Rattle.positions.specs.Value.{HasValue};
 ghost use Rattle.positions.specs.declared.value.Value.TheVariants.{Finite};
+ghost use Rattle.gap_values.specs.Inside.Words.{round_of_word};
 ghost use Rattle.graphs.specs.Numbered.{graph_of};
 ghost use Rattle.graphs.specs.NumberedRanks.{gap_in, number_in};
 ghost use Rattle.solver.specs.GapRequests.{numbered_gap};
@@ -12,8 +13,9 @@ ghost use Rattle.solver.specs.Sizes.{HasCount, IsGreatest};
 ghost use Rattle.solver.specs.Inside.Values.{AreNumberedValues};
 
 use crate::results::Results;
-use crate::word::value_with;
+use crate::word::OPEN;
 use classes::Standing;
+use gap_values::value_with;
 use graphs::Graph;
 use positions::Value;
 use std::marker::Model;
@@ -69,7 +71,16 @@ impl NumberedValues {
         requires { IsConfiguration self.now.board held.now }
         ensures { HasValue self.now.board held.now result }
     {
-        value_with(self.words[self.graph.number_of(held) as usize])
+        value_with(self.word_of(held))
+    }
+
+    /// The word of the value of the configuration `held`: the value, or `OPEN` for Forever.
+    pub(crate) fn word_of(&self, held: &[u16]) -> u32
+        requires { IsConfiguration self.now.board held.now }
+        ensures value { HasValue self.now.board held.now (round_of_word result) }
+        ensures few { result ≤ OPEN }
+    {
+        self.words[self.graph.number_of(held) as usize]
     }
 
     /// The number of configurations that have the value `value`.
@@ -121,16 +132,6 @@ impl NumberedValues {
             → slice_index result.gaps pebble < (graph_of self.now).gaps }
     {
         self.graph.standing(held)
-    }
-
-    /// The value of each configuration with the number `number`.
-    pub fn value(&self, number: u32) -> Value
-        requires { number < (graph_of self.now).configurations }
-        ensures { (configuration : List ℕ) → IsConfiguration self.now.board configuration
-            → number_in self.now configuration ≡ number
-            → HasValue self.now.board configuration result }
-    {
-        value_with(self.words[number as usize])
     }
 
     /// The results of the answers of `gap`.

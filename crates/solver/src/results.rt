@@ -7,14 +7,13 @@ ghost use Rattle.positions.specs.Game.{Legal, moved};
 ghost use Rattle.positions.specs.Value.{HasValue};
 ghost use Rattle.solver.specs.GapRequests.{IsRequestIn};
 ghost use Rattle.solver.specs.LabelSets.{IsInSet};
-ghost use Rattle.solver.specs.Words.{value_with_word};
 
-use crate::word::{OPEN, value_with};
+use crate::word::OPEN;
 use graphs::Graph;
-use positions::{LabelSet, Value};
+use positions::LabelSet;
 use std::marker::Model;
 
-/// The answers of a gap, and the values after them. Contracts see the board, what numbers stand
+/// The answers of a gap, and after which of them a labeller lasts forever. Contracts see the board, what numbers stand
 /// for, and the gap.
 #[derive(Drop)]
 pub struct Results<'a> {
@@ -46,17 +45,7 @@ impl<'a> Results<'a> {
         self.graph.answers(self.gap)
     }
 
-    /// The value of the configuration after each request in the gap, if its pebble gets `place`.
-    pub fn value(&self, place: u16) -> Value
-        requires { place < places self.now.game.board }
-        ensures { (configuration : List ℕ) → (pebble : ℕ)
-            → IsRequestIn self.now configuration pebble
-            → HasValue self.now.game.board (moved configuration pebble place) result }
-    {
-        value_with(self.word(place))
-    }
-
-    /// Whether a labeller lasts forever at that configuration.
+    /// Whether a labeller lasts forever after each request in the gap, if its pebble gets `place`.
     pub(crate) fn lasts_forever(&self, place: u16) -> bool
         requires { place < places self.now.game.board }
         ensures { (configuration : List ℕ) → (pebble : ℕ)
@@ -64,17 +53,6 @@ impl<'a> Results<'a> {
             → IsTrue result
             ↔ HasValue self.now.game.board (moved configuration pebble place) Forever }
     {
-        self.word(place) == OPEN
-    }
-
-    /// The word of the gap's member with `place`.
-    fn word(&self, place: u16) -> u32
-        requires { place < places self.now.game.board }
-        ensures { (configuration : List ℕ) → (pebble : ℕ)
-            → IsRequestIn self.now configuration pebble
-            → HasValue self.now.game.board (moved configuration pebble place)
-            (value_with_word result) }
-    {
-        self.words[self.graph.member(self.gap, place as u32) as usize]
+        self.words[self.graph.member(self.gap, place as u32) as usize] == OPEN
     }
 }

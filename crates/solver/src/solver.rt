@@ -14,7 +14,7 @@ ghost use Rattle.classes.specs.Numbers.{class_count};
 ghost use Rattle.graphs.specs.NumberedRanks.{AreNumberWeights};
 ghost use Rattle.graphs.specs.Numbered.{IsFewBy, numbered, graph_of, configuration_of};
 ghost use Rattle.positions.specs.Counts.{HasSize, IsSmallest};
-ghost use Rattle.solver.specs.Words.{value_of_word, AreFirstCounts, AreFirstValues};
+ghost use Rattle.solver.specs.Words.{value_of_word, AreFirstCounts, AreFirstValues, AreValueWords};
 ghost use Rattle.solver.specs.Ending.{IsRoundEnd};
 ghost use Rattle.solver.specs.Inside.Stage.{HasSpaceBy};
 ghost use Rattle.solver.specs.Solving.{IsSolving, IsFresh, HasFiled, HasFoundNone, bucket, source};
@@ -385,15 +385,20 @@ impl<S: ListStore + Drop> Solver<S> {
         Ok(with_ranks(numbered, space))
     }
 
-    /// The values of the board by the solver's numbers, once a round has found that no
-    /// configuration has the next one.
-    pub fn finish_numbered(self) -> Result<NumberedValues, Unfinished<S>>
-        ensures values { IfOk result (λ values. (self.is_done ≡ true) × (values ≡ self.game)) }
+    /// The words of the values of the board by the solver's numbers, once a round has found that no
+    /// configuration has the next one: for each number the value, or `OPEN` for Forever.
+    pub fn finish_words(self) -> Result<Vec<u32>, Unfinished<S>>
+        ensures values { IfOk result (λ words. (self.is_done ≡ true)
+            × AreValueWords self.game words.items) }
         ensures unfinished { IfErr result (λ unfinished.
             (self.is_done ≡ false) × (unfinished.solver ≡ self)) }
     {
-        let (numbered, _) = self.try_close()?;
-        Ok(numbered)
+        if !self.done {
+            return Err(Unfinished { solver: self });
+        }
+        let Solver { stage, .. } = self;
+        let (_, _, words) = stage.into_parts();
+        Ok(words)
     }
 
     /// The values of a solver that is done, and the space, if numbers are ranks; the solver as it

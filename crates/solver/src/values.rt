@@ -16,6 +16,8 @@ ghost use Rattle.solver.specs.Inside.Values.{HaveRanks};
 use crate::numbered_values::NumberedValues;
 use crate::results::Results;
 use board_text::Board;
+use classes::ClassPlaces;
+use gap_values::{OPEN, ValueTable};
 use positions::{Space, Value};
 use std::marker::Model;
 
@@ -125,5 +127,25 @@ impl Values {
         ensures few { configurations self.now ≤ MAX_CONFIGURATIONS }
     {
         &self.space
+    }
+}
+
+impl ValueTable for Values {
+    ghost table_board = { λ values. values };
+
+    fn value(&self, held: &[u16]) -> Value {
+        self.numbered.of(held)
+    }
+
+    fn word_after(&self, _board: &Board, gap: &[u16], label: u16) -> u32 {
+        let Values { numbered, .. } = self;
+        let mut class = ClassPlaces::of(gap);
+        class.put(label);
+        numbered.word_of(class.as_slice())
+    }
+
+    /// Nothing is known of the results of a gap before each is looked up.
+    fn greatest_word(&self, _board: &Board, _gap: &[u16]) -> u32 {
+        OPEN
     }
 }

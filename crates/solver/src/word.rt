@@ -1,9 +1,7 @@
 //! The word of a configuration.
 
 ghost use Rattle.std.specs.Prelude.{◌≡◌};
-ghost use Rattle.solver.specs.Words.{value_of_word, value_with_word};
-
-use positions::Value;
+ghost use Rattle.solver.specs.Words.{value_of_word};
 
 /// The word of a configuration that has no value yet.
 pub const OPEN: u32 = u32::MAX;
@@ -13,15 +11,4 @@ pub fn value_of(word: u32) -> Option<u32>
     ensures { result ≡ value_of_word word }
 {
     if word == OPEN { None } else { Some(word) }
-}
-
-/// The value that `word` stands for, of a board that is solved.
-pub(crate) fn value_with(word: u32) -> Value
-    ensures { result ≡ value_with_word word }
-{
-    if word == OPEN {
-        Value::Forever
-    } else {
-        Value::Finite(word)
-    }
 }

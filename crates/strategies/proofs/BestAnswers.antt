@@ -7,11 +7,16 @@ use Rattle.positions.specs.declared.value.Value.{Value}
 use Rattle.positions.specs.Game.{Legal, DominatesOthers, LabellerTree, moved}
 use Rattle.positions.specs.Value.{HasValue}
 use Rattle.positions.proofs.Cited.{dominates_or_not, moved_is_configuration, some_value, same_value}
-use Rattle.strategies.specs.declared.gap_best.Best.{Best}
+use Rattle.gap_values.specs.declared.value_table.Best.{Best}
 use Rattle.strategies.specs.Best.{IsLess, HasSmallerValue, HasNoGreaterValue, HasGreatestResult, IsBestAnswer}
 use Rattle.strategies.specs.Best.{IsBestFor}
-use Rattle.strategies.specs.Inside.GapBest.{IsBetter}
 use Rattle.strategies.proofs.ValueOrder.{cases_value, IsLess-trans, not_above, lasts_too, one_smallest}
+
+-- the better of the best answer so far and a later one, which must lead to a greater value
+abbrev IsBetter : Option Best → Best → Best → Type 0
+IsBetter (Some first) later better = (IsLess first.value later.value → better ≡ later)
+    × (¬ IsLess first.value later.value → better ≡ first)
+IsBetter None later better = better ≡ later
 
 -- the best label's result has a greater value than the label's, or the same and then the best label isn't larger
 abbrev IsBehind : PlainBoard → List ℕ → ℕ → Best → ℕ → Type 0
@@ -20,15 +25,15 @@ IsBehind board configuration pebble best label =
     × (IsLess value best.value ⊎ ((value ≡ best.value) × (best.label ≤ label)))
 
 -- the smallest of the labels below a bound whose result has the greatest value
-pub record IsBestBelow (board : PlainBoard) (configuration : List ℕ) (pebble bound : ℕ) (best : Best) : Type 0 where
-  pub early : best.label < bound
-  pub legal : Legal board configuration pebble best.label
-  pub has : HasValue board (moved configuration pebble best.label) best.value
-  pub behind : (other : ℕ) → other < bound → Legal board configuration pebble other
+record IsBestBelow (board : PlainBoard) (configuration : List ℕ) (pebble bound : ℕ) (best : Best) : Type 0 where
+  early : best.label < bound
+  legal : Legal board configuration pebble best.label
+  has : HasValue board (moved configuration pebble best.label) best.value
+  behind : (other : ℕ) → other < bound → Legal board configuration pebble other
       → IsBehind board configuration pebble best other
 
 -- that label, or none of the labels is legal
-abbrev pub IsFoundBelow : PlainBoard → List ℕ → ℕ → ℕ → Option Best → Type 0
+abbrev IsFoundBelow : PlainBoard → List ℕ → ℕ → ℕ → Option Best → Type 0
 IsFoundBelow board configuration pebble bound (Some best) = IsBestBelow board configuration pebble bound best
 IsFoundBelow board configuration pebble bound None =
     (other : ℕ) → other < bound → ¬ Legal board configuration pebble other
@@ -42,7 +47,7 @@ better_exists (Some first) later = elim (cases_value first.value later.value) [
 
 module _ (board : PlainBoard) (configuration : List ℕ) (pebble : ℕ) where
   -- if no label is legal from one bound to another, the best label is the same for both
-  pub widen : (bound more : ℕ) (best : Option Best) → bound ≤ more
+  widen : (bound more : ℕ) (best : Option Best) → bound ≤ more
       → ((label : ℕ) → bound ≤ label → label < more → ¬ Legal board configuration pebble label)
       → IsFoundBelow board configuration pebble bound best → IsFoundBelow board configuration pebble more best
   widen bound more None enough none found = λ other below. elim (cases_lt other bound) [
@@ -84,7 +89,7 @@ module _ (board : PlainBoard) (configuration : List ℕ) (pebble : ℕ) where
   }
 
   -- the best label after one more legal label
-  pub next_label : (best : Option Best) (later result : Best) → IsFoundBelow board configuration pebble later.label best
+  next_label : (best : Option Best) (later result : Best) → IsFoundBelow board configuration pebble later.label best
       → Legal board configuration pebble later.label
       → HasValue board (moved configuration pebble later.label) later.value
       → IsBetter best later result → IsBestBelow board configuration pebble (later.label + 1) result
@@ -145,7 +150,7 @@ module _ (board : PlainBoard) (configuration : List ℕ) (pebble : ℕ) where
       ]
 
   -- the best label below a bound is the best answer if it is better than all legal ones from there on
-  pub best_of_all : (bound : ℕ) (best : Best) → IsBestBelow board configuration pebble bound best
+  best_of_all : (bound : ℕ) (best : Best) → IsBestBelow board configuration pebble bound best
       → ((other : ℕ) → bound ≤ other → Legal board configuration pebble other
       → IsBehind board configuration pebble best other)
       → IsBestFor board configuration pebble (Some best)

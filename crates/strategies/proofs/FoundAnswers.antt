@@ -6,7 +6,7 @@ use Rattle.std.proofs.lemmas.Bool.{cases_eq}
 use Rattle.std.proofs.lemmas.List.{get_or-set_same, get_or-set_other}
 use Rattle.board_text.specs.PlainBoard.{PlainBoard}
 use Rattle.board_text.specs.declared.board.TheConstants.{MAX_PEBBLES}
-use Rattle.strategies.specs.declared.gap_best.Best.{Best}
+use Rattle.gap_values.specs.declared.value_table.Best.{Best}
 use Rattle.strategies.specs.Best.{IsBestFor}
 use Rattle.strategies.specs.Inside.Walks.{AreFoundBelow}
 

@@ -15,16 +15,10 @@ use Rattle.positions.proofs.Cited.{moved_is_configuration, same_value, some_valu
 use Rattle.classes.specs.Classes.{IsClass, put, class_of}
 use Rattle.classes.specs.ClassGaps.{gap_at, member_with}
 use Rattle.classes.proofs.Cited.{falls-more, legal-answers, value-of-class, put-is}
-use Rattle.gap_values.specs.BestOfGap.{HasGreatestMember}
+use Rattle.gap_values.specs.BestOfGap.{HasGreatestMember, IsBestOfGap}
 use Rattle.gap_values.proofs.Cited.{class-configuration, gap-is, member-like}
-use Rattle.strategies.specs.declared.gap_best.Best.{Best}
+use Rattle.gap_values.specs.declared.value_table.Best.{Best}
 use Rattle.strategies.specs.Best.{IsLess, HasGreatestResult, IsBestAnswer, IsBestFor}
-
--- the smallest label of the members with the greatest value, and that value; or no label may answer
-abbrev IsBestOfGap : PlainBoard → List ℕ → Option Best → Type 0
-IsBestOfGap board gap (Some best) =
-    IsSmallest (HasGreatestMember board gap) (Some best.label) × HasValue board (member_with gap best.label) best.value
-IsBestOfGap board gap None = (label : ℕ) → AnswersGap board gap label → ⊥
 
 module _ (board : PlainBoard) (held : List ℕ) (is : IsConfiguration board held) (pebble : ℕ)
     (inside : pebble < board.pebbles) where
@@ -109,12 +103,12 @@ module _ (board : PlainBoard) (held : List ℕ) (is : IsConfiguration board held
         | inr most ↦ (value, omega arith, (there other may.is_label (Finite value)).0 has)
       ]
 
-  pub best-result : (label : ℕ) → IsSmallest (HasGreatestMember board gap) (Some label)
+  best-result : (label : ℕ) → IsSmallest (HasGreatestMember board gap) (Some label)
       → IsBestAnswer board held pebble label
   best-result label best =
       (greatest-result label best.0, λ other greatest. best.1 other (greatest-member other greatest))
 
-  pub none-legal : ((label : ℕ) → AnswersGap board gap label → ⊥) → (label : ℕ) → Legal board held pebble label → ⊥
+  none-legal : ((label : ℕ) → AnswersGap board gap label → ⊥) → (label : ℕ) → Legal board held pebble label → ⊥
   none-legal none label may = none label ((legal label).0 may)
 
   pub best-of-gap : (best : Option Best) → IsBestFor board held pebble best → IsBestOfGap board gap best

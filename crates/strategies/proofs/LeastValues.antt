@@ -11,7 +11,7 @@ use Rattle.positions.specs.Game.{LabellerTree, AdversaryTree, Legal, moved}
 use Rattle.positions.specs.Ranks.{configurations}
 use Rattle.positions.specs.Value.{HasValue}
 use Rattle.positions.proofs.Cited.{forever_from_count, lasts_at_most, moved_is_configuration, same_value, some_tree}
-use Rattle.strategies.specs.declared.gap_best.Best.{Best}
+use Rattle.gap_values.specs.declared.value_table.Best.{Best}
 use Rattle.strategies.specs.Best.{IsLess, HasNoGreaterValue, IsBestFor}
 use Rattle.strategies.specs.Inside.RankMoves.{IsCountable, IsSmallValue, answered_with, one_more}
 use Rattle.strategies.proofs.ValueOrder.{IsLess-irrefl, IsLess-trans, at_least}

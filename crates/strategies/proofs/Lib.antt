@@ -22,7 +22,6 @@ pub mod ListedNumbers
 pub mod AddedRanks
 pub mod MarkedRanks
 pub mod GapAnswers
-pub mod Standings
 pub mod LoweringRequests
 pub mod SpreadMoves
 pub mod StartRanks

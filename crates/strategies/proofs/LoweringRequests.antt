@@ -8,9 +8,9 @@ use Rattle.positions.specs.Counts.{IsSmallest}
 use Rattle.positions.specs.Game.{moved}
 use Rattle.positions.specs.Value.{HasValue}
 use Rattle.positions.proofs.Cited.{some_value, same_value}
-use Rattle.strategies.specs.declared.gap_best.Best.{Best}
+use Rattle.gap_values.specs.declared.value_table.Best.{Best}
 use Rattle.strategies.specs.Best.{IsLess, HasSmallerValue, HasNoGreaterValue, LowersValue, IsBestFor}
-use Rattle.strategies.specs.Inside.GapBest.{LeadsBelow}
+use Rattle.strategies.specs.Inside.MovesAt.{LeadsBelow}
 use Rattle.strategies.proofs.ValueOrder.{cases_value, IsLess-trans}
 use Rattle.strategies.proofs.BestRequests.{first_is_smallest, best_request, not_lowered}
 

@@ -11,7 +11,7 @@ use Rattle.classes.specs.ClassGaps.{gap_at}
 use Rattle.classes.specs.Numbers.{class_number, class_with, ways}
 use Rattle.classes.proofs.Cited.{class_of-class, place-below, with-is, with-number}
 use Rattle.gap_values.proofs.Cited.{gap-is}
-use Rattle.strategies.specs.declared.gap_best.Best.{Best}
+use Rattle.gap_values.specs.declared.value_table.Best.{Best}
 use Rattle.strategies.specs.Best.{IsBestFor}
 use Rattle.strategies.specs.Inside.RankMoves.{AreBestBelow}
 use Rattle.strategies.proofs.GapMembers.{same-best}

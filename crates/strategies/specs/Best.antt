@@ -6,7 +6,7 @@ use Rattle.positions.specs.declared.value.Value.TheVariants.{Finite, Forever}
 use Rattle.positions.specs.Game.{Legal, moved}
 use Rattle.positions.specs.Value.{HasValue}
 use Rattle.positions.specs.Counts.{IsSmallest}
-use Rattle.strategies.specs.declared.gap_best.Best.{Best}
+use Rattle.gap_values.specs.declared.value_table.Best.{Best}
 
 -- the first value is smaller than the second; forever is greater than all numbers
 abbrev pub IsLess : Value → Value → Type 0

@@ -4,7 +4,7 @@ ghost use Rattle.std.specs.Prelude.{◌≡◌, None};
 ghost use Rattle.strategies.specs.Inside.Answers.{value_with};
 ghost use Rattle.strategies.specs.Inside.RankMoves.{IsCountable, answered_with};
 
-use crate::gap_best::Best;
+use gap_values::Best;
 use positions::Value;
 use std::marker::Model;
 
@@ -24,7 +24,7 @@ pub(crate) struct Answer {
 impl Model for Answer {
     ghost use Rattle.std.specs.Prelude.{Option};
     ghost use Rattle.std.proofs.Common.{ap, ◌∙◌};
-    ghost use Rattle.strategies.specs.declared.gap_best.Best.{Best};
+    ghost use Rattle.gap_values.specs.declared.value_table.Best.{Best};
     ghost use Rattle.strategies.specs.Inside.Answers.{IsAnswerInNumbers, best_with, label_of};
     ghost use Rattle.strategies.specs.Inside.Answers.{requests_of};
     ghost use Rattle.strategies.specs.Inside.Answers.{same_label, same_requests};

@@ -9,9 +9,9 @@ ghost use Rattle.strategies.specs.Best.{IsBestAnswerIfAny, IsBestRequestIfAny};
 ghost use Rattle.strategies.specs.Inside.MovesAt.{position};
 
 use crate::configuration::Configuration;
-use crate::moves_at::MovesAt;
+use crate::gap_moves::{GapMoves, GapMovesAt};
+use crate::moves::Moves;
 use crate::moves_here::MovesHere;
-use crate::numbered_moves::NumberedMoves;
 use board_text::Board;
 use positions::{MAX_CONFIGURATIONS, Space, Value};
 use solver::Values;
@@ -23,7 +23,7 @@ use std::marker::Model;
 #[derive(Drop)]
 pub struct BestMoves<'a> {
     values: &'a Values,
-    moves: NumberedMoves<'a>,
+    moves: GapMoves<'a, Values>,
 }
 
 impl<'a> Model for BestMoves<'a> {
@@ -45,7 +45,7 @@ impl<'a> BestMoves<'a> {
     {
         BestMoves {
             values,
-            moves: NumberedMoves::new(board, values.numbered()),
+            moves: GapMoves::new(board, values),
         }
     }
 
@@ -66,7 +66,7 @@ impl<'a> BestMoves<'a> {
     }
 
     /// The best moves at configurations given by their places.
-    pub(crate) fn moves(&self) -> &NumberedMoves<'a>
+    pub(crate) fn moves(&self) -> &GapMoves<'a, Values>
         ensures { result.now ≡ self.now }
     {
         &self.moves
@@ -120,7 +120,7 @@ impl<'a> BestMoves<'a> {
     }
 
     /// The best moves at the configuration of `rank`.
-    pub(crate) fn at(&self, rank: u32) -> MovesAt<'_>
+    pub(crate) fn at(&self, rank: u32) -> GapMovesAt<'_, Values>
         requires { rank < configurations self.now }
         ensures { result ≡ position self.now (configuration_at self.now rank) }
     {

@@ -6,14 +6,12 @@ ghost use Rattle.classes.specs.ClassGaps.{gap_at};
 ghost use Rattle.strategies.specs.Inside.MovesAt.{position};
 
 use crate::configuration::Configuration;
-use crate::gap_best::Best;
 use crate::moves::Moves;
 use crate::moves_here::MovesHere;
-use board_text::{Board, MAX_PEBBLES, Memory};
+use board_text::{Board, MAX_PEBBLES};
 use classes::ClassPlaces;
-use gap_values::ValueTable;
+use gap_values::{Best, ValueTable};
 use positions::Value;
-use std::alloc::Global;
 use std::marker::Model;
 
 /// The best moves on a board, by a table of its values. The board may have more classes than there
@@ -22,7 +20,7 @@ use std::marker::Model;
 /// Contracts see the board.
 #[derive(Drop)]
 pub struct GapMoves<'a, V: ValueTable> {
-    board: &'a Board,
+    pub(crate) board: &'a Board,
     values: &'a V,
 }
 
@@ -52,10 +50,19 @@ impl<'a, V: ValueTable> GapMoves<'a, V> {
         ensures { result ≡ position self.now held.now }
     {
         let _ = self.board.pebbles();
+        self.at_configuration(Configuration::of(held))
+    }
+
+    /// The best moves at `configuration`.
+    pub(crate) fn at_configuration(&self, configuration: Configuration) -> GapMovesAt<'_, V>
+        requires { IsConfiguration self.now configuration }
+        ensures { result ≡ position self.now configuration }
+    {
+        let _ = self.board.pebbles();
         GapMovesAt {
             board: self.board,
             values: self.values,
-            configuration: Configuration::of(held),
+            configuration,
         }
     }
 }
@@ -65,11 +72,6 @@ impl<'a, V: ValueTable> Moves for GapMoves<'a, V> {
 
     fn board(&self) -> &Board {
         self.board
-    }
-
-    /// Nothing is found here: a best answer costs a look at each label.
-    fn listed(&self, _alloc: Global) -> Result<GapMoves<'a, V>, Memory> {
-        Ok(GapMoves::new(self.board, self.values))
     }
 
     fn value(&self, held: &[u16]) -> Value {
@@ -97,7 +99,7 @@ impl<'a, V: ValueTable> Moves for GapMoves<'a, V> {
 
 /// The best moves at one configuration. Contracts see the board and the configuration.
 #[derive(Drop)]
-struct GapMovesAt<'a, V: ValueTable> {
+pub(crate) struct GapMovesAt<'a, V: ValueTable> {
     board: &'a Board,
     values: &'a V,
     configuration: Configuration,
@@ -127,10 +129,7 @@ impl<V: ValueTable> MovesHere for GapMovesAt<'_, V> {
 
     fn answer(&self, pebble: u8) -> Option<Best> {
         let gap = others_of(self.configuration.as_slice(), pebble);
-        let label = self.values.best_answer(self.board, gap.as_slice())?;
-        let result = self.configuration.with(pebble, label);
-        let value = self.values.value(result.as_slice());
-        Some(Best { label, value })
+        self.values.best_answer(self.board, gap.as_slice())
     }
 }
 

@@ -9,7 +9,6 @@ mod class_rows;
 mod class_sections;
 mod configuration;
 mod documents;
-mod gap_best;
 mod gap_moves;
 mod gap_walk;
 mod laws;
@@ -22,10 +21,8 @@ mod listed_numbers;
 mod marked_numbers;
 mod marks;
 mod moves;
-mod moves_at;
 mod moves_here;
 mod normal_walk;
-mod numbered_moves;
 mod position_documents;
 mod position_walk;
 mod rank_moves;
@@ -43,7 +40,6 @@ pub use best_moves::{BestMoves, best_answer, best_request};
 pub use class_documents::{MadeDocument, document_by_classes, document_by_classes_in_parts};
 pub use configuration::Configuration;
 pub use documents::{document, document_by};
-pub use gap_best::Best;
 pub use gap_moves::GapMoves;
 pub use laws::{best_answers_last, best_requests_end, one_best_answer, one_best_request};
 pub use laws_of_class_documents::{
@@ -63,7 +59,6 @@ pub use laws_of_symmetric_documents::{
     one_document_up_to_symmetries_of_a_board,
 };
 pub use moves::Moves;
-pub use numbered_moves::NumberedMoves;
 pub use symmetric_documents::{SymmetricDocument, document_up_to_symmetries};
 pub use text::{DocumentText, document_text, document_text_in_parts};
 pub use unmade::Unmade;

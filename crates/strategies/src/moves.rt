@@ -1,14 +1,13 @@
 //! The values of a board and the best moves on it.
 
-ghost use Rattle.std.specs.Prelude.{◌≡◌, ℕ, ◌<◌, None, IfOk, slice_index_or};
+ghost use Rattle.std.specs.Prelude.{◌≡◌, ℕ, ◌<◌, None, slice_index_or};
 ghost use Rattle.board_text.specs.PlainBoard.{IsConfiguration, PlainBoard};
 ghost use Rattle.positions.specs.Value.{HasValue};
 ghost use Rattle.strategies.specs.Best.{IsBestAnswerIfAny, IsBestFor, IsBestRequestIfAny};
 
-use crate::gap_best::Best;
-use board_text::{Board, MAX_PEBBLES, Memory};
+use board_text::{Board, MAX_PEBBLES};
+use gap_values::Best;
 use positions::Value;
-use std::alloc::Global;
 
 /// The values of a board and the best moves on it, at configurations given by their places, so that
 /// the board may have more of them than there are ranks.
@@ -19,10 +18,6 @@ pub trait Moves: Drop {
     /// The board.
     fn board(&self) -> &Board
         ensures { result.now ≡ board self.now };
-
-    /// The same, with all that many moves need found once, here. The error is that memory ran out.
-    fn listed(&self, alloc: Global) -> Result<Self, Memory>
-        ensures { IfOk result (λ listed. board listed ≡ board self.now) };
 
     /// The value of the configuration `held`.
     fn value(&self, held: &[u16]) -> Value

@@ -4,11 +4,11 @@ ghost use Rattle.std.specs.Prelude.{◌≡◌, ℕ, ◌<◌, ◌↔◌, None, Is
 ghost use Rattle.board_text.specs.PlainBoard.{IsBoard, IsConfiguration};
 ghost use Rattle.positions.specs.Value.{HasValue};
 ghost use Rattle.strategies.specs.Best.{IsBestAnswerIfAny, IsBestRequestIfAny, IsBestFor};
-ghost use Rattle.strategies.specs.Inside.GapBest.{LeadsBelow};
+ghost use Rattle.strategies.specs.Inside.MovesAt.{LeadsBelow};
 ghost use Rattle.strategies.specs.Inside.MovesAt.{HeldPosition};
 
-use crate::gap_best::Best;
 use board_text::MAX_PEBBLES;
+use gap_values::Best;
 use positions::Value;
 
 /// The best moves at one configuration, by its value and the best answer to each request.

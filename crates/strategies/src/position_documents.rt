@@ -52,23 +52,22 @@ pub(crate) fn document_over<M: Moves + Sync>(
     ensures fault { IfErr result (HasNoRows side (M.board moves.now) (normal_by
         (M.board moves.now) alike.now) bytes) }
 {
-    let moves = moves.listed(alloc)?;
     let pebbles = moves.board().pebbles();
     let value = moves.value(moves.board().start());
     let claim = claim_for(side, value);
     let most = labeller_room(pebbles, bytes);
     let labeller = if asks_labeller(claim) {
-        section_in_parts(rt, alloc, &moves, alike, value, most, parts)?
+        section_in_parts(rt, alloc, moves, alike, value, most, parts)?
     } else {
         Vec::new(alloc)
     };
     let most = adversary_room(pebbles, bytes);
     let adversary = if asks_adversary(claim) {
-        section_in_parts(rt, alloc, &moves, alike, value, most, parts)?
+        section_in_parts(rt, alloc, moves, alike, value, most, parts)?
     } else {
         Vec::new(alloc)
     };
-    Ok(rows_of(&moves, alike, value, side, labeller, adversary))
+    Ok(rows_of(moves, alike, value, side, labeller, adversary))
 }
 
 /// The document over normal places of the board of `moves`, whose start has the value `value`,

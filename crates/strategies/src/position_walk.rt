@@ -7,8 +7,8 @@ ghost use Rattle.strategies.specs.Best.{IsBestFor, IsBestRequestIfAny};
 ghost use Rattle.strategies.specs.Inside.NumberedPositions.{IsPosition, PositionKind};
 ghost use Rattle.strategies.specs.Inside.NumberedPositions.{position_number, over_kind};
 
-use crate::gap_best::Best;
 use board_text::{Board, MAX_PEBBLES};
+use gap_values::Best;
 use positions::Value;
 
 /// A walk over the positions of a board, each given by its number, and the best moves at the one

@@ -1,5 +1,5 @@
 -- Words of gaps that are open.
-use Rattle.std.specs.Prelude.{ℕ, ◌+◌, nat_eq, if◌then◌else◌, List, slice_index}
+use Rattle.std.specs.Prelude.{ℕ, nat_eq, if◌then◌else◌, List, slice_index}
 use Rattle.classes.specs.Sums.{sum_below}
 use Rattle.gap_values.specs.declared.closing.TheConstants.{OPEN}
 

@@ -4,7 +4,7 @@ use Rattle.std.specs.Prelude.{List, [], ◌∷◌}
 use Rattle.std.specs.Prelude.{length, slice_index, slice_index_or}
 use Rattle.std.specs.List.{remove}
 use Rattle.board_text.specs.Domination.{has_bit}
-use Rattle.board_text.specs.PlainBoard.{PlainBoard, places}
+use Rattle.board_text.specs.PlainBoard.{PlainBoard, IsBoard, places}
 use Rattle.board_text.specs.declared.board.TheConstants.{MAX_LABELS}
 use Rattle.positions.specs.Gaps.{AnswersGap}
 use Rattle.classes.specs.Classes.{IsClass}
@@ -131,6 +131,7 @@ pub record AreToldTo (board : PlainBoard) (words : List ℕ) (round end : ℕ) (
 -- the words are those of a table of gaps, and the sets have the labels with which their lists are
 -- gaps that close in the first round, and that close at all. A board of one pebble has no lists
 pub record AreGapRounds (board : PlainBoard) (rounds : GapRounds) : Type 0 where
+  pub is_board : IsBoard board
   pub words : AreRounds board rounds.words.items
   pub first : 2 ≤ board.pebbles → TellClosed board rounds.words.items 1 rounds.first.items
   pub closed : 2 ≤ board.pebbles → TellClosed board rounds.words.items OPEN rounds.closed.items

@@ -5,7 +5,7 @@ use Rattle.std.proofs.Common.{◌<◌, inl, inr, refl, sym, ap, ◌∙◌, lt-lt
 use Rattle.std.proofs.lemmas.Bool.{cases_lt}
 use Rattle.positions.specs.declared.value.Value.{Value}
 use Rattle.positions.specs.declared.value.Value.TheVariants.{Finite, Forever}
-use Rattle.strategies.specs.declared.gap_best.Best.{Best}
+use Rattle.gap_values.specs.declared.value_table.Best.{Best}
 use Rattle.strategies.specs.declared.answer.TheConstants.{ENDLESS}
 
 -- the value of a configuration at which this number of requests can be answered

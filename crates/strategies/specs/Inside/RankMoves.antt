@@ -8,7 +8,7 @@ use Rattle.positions.specs.declared.space.TheConstants.{MAX_CONFIGURATIONS}
 use Rattle.positions.specs.Ranks.{rank_of}
 use Rattle.classes.specs.ClassGaps.{gap_at}
 use Rattle.classes.specs.Numbers.{class_number, ways}
-use Rattle.strategies.specs.declared.gap_best.Best.{Best}
+use Rattle.gap_values.specs.declared.value_table.Best.{Best}
 use Rattle.strategies.specs.Best.{IsBestFor}
 
 -- the best answers of the gaps with numbers below a bound, by number

@@ -10,7 +10,7 @@ use Rattle.positions.specs.Ranks.{configurations, configuration_at}
 use Rattle.classes.specs.Classes.{class_of}
 use Rattle.classes.specs.ClassGaps.{gap_at}
 use Rattle.classes.specs.Numbers.{class_number}
-use Rattle.strategies.specs.declared.gap_best.Best.{Best}
+use Rattle.gap_values.specs.declared.value_table.Best.{Best}
 use Rattle.strategies.specs.Best.{IsBestFor}
 use Rattle.strategies.specs.Inside.MovesAt.{HeldPosition}
 

@@ -1,4 +1,4 @@
-use Rattle.std.proofs.Common.{◌≡◌, ◌∙◌, ◌+◌, ℕ, suc, ap, arith, sym}
+use Rattle.std.proofs.Common.{ℕ, arith, sym}
 use Rattle.gap_values.proofs.OpenCounts.{open-more, open-same, open-zero}
 use Rattle.gap_values.proofs.rounds.count_open.Goals as goal
 use Rattle.gap_values.proofs.rounds.count_open.Goals.{then-words-index, else-words-index}

@@ -27,6 +27,7 @@ pub returns-then-pebbles-eq1-clause-rounds : goal.returns-then-pebbles-eq1-claus
 returns-then-pebbles-eq1-clause-rounds g c =
     let one = c.if-pebbles-eq1.true in
     record {
+      is_board = c.pebbles.ensures.is_board;
       words = lone-rounds c.args.board.now c.in_ok-words.words.items c.pebbles.ensures.is_board
           (sym c.pebbles.ensures.value ∙ one)
           (words-open g (goal.at.returns-then-pebbles-eq1-clause-rounds g c).In_ok-words);
@@ -120,6 +121,7 @@ returns-then-not-goes_on-clause-rounds g c =
     (subst (λ (l : List ℕ). AreToldTo b l c.loop-round.round (gap_count b) c.tell_round-goes_on.new.sets)
     c.deref-in-loop-round.ensures.value c.tell_round-goes_on.ensures.sets) in
     record {
+      is_board = c.pebbles.ensures.is_board;
       words = last-round b c.pebbles.ensures.is_board (some g at) c.loop-round.round (old g at) (new g at)
           c.loop-round.closed.items (low g at) c.loop-round.invariant.at (passed g at)
           (λ n n_low closed.

@@ -3,23 +3,18 @@ use Rattle.std.proofs.lemmas.Result.{err_from_is_err_and}
 use Rattle.board_text.specs.PlainBoard.{IsBoard}
 use Rattle.positions.specs.Claim.{claim_of}
 use Rattle.positions.specs.Value.{HasValue}
-use Rattle.proof_text.specs.ClassProof.{plain_class_proof}
 use Rattle.proof_text.specs.Proof.{asks_adversary, asks_labeller}
-use Rattle.strategies.specs.Inside.ClassSide.{AreClassPadded}
-use Rattle.strategies.specs.Inside.LongSections.{HasNoRows, IsDocumentOverFor}
-use Rattle.strategies.specs.Inside.NormalForm.{IsNormalBy, normal_by}
+use Rattle.strategies.specs.Inside.NormalForm.{normal_by}
 use Rattle.strategies.specs.Sides.{HasStrategy, claim_for}
 use Rattle.strategies.proofs.LongDocuments.{adversary_unmade, labeller_unmade}
 use Rattle.strategies.proofs.position_documents.document_over.Goals as goal
 
 pub section_in_parts-requires-clause-normal : goal.section_in_parts-requires-clause-normal
-section_in_parts-requires-clause-normal g c = λ κs lives.
-    subst (λ b. IsNormalBy b c.args.alike.now) (sym c.in_ok-moves.ensures) c.requires.normal
+section_in_parts-requires-clause-normal g c = λ κs lives. c.requires.normal
 
 pub section_in_parts-requires-then-asks_adversary-clause-normal :
     goal.section_in_parts-requires-then-asks_adversary-clause-normal
-section_in_parts-requires-then-asks_adversary-clause-normal g c = λ κs lives.
-    subst (λ b. IsNormalBy b c.args.alike.now) (sym c.in_ok-moves.ensures) c.requires.normal
+section_in_parts-requires-then-asks_adversary-clause-normal g c = λ κs lives. c.requires.normal
 
 pub section_in_parts-requires-clause-kind : goal.section_in_parts-requires-clause-kind
 section_in_parts-requires-clause-kind g c = λ κs lives. (c.args.alike.now, refl)
@@ -30,57 +25,46 @@ section_in_parts-requires-then-asks_adversary-clause-kind g c = λ κs lives. (c
 
 pub returns-in_err-labeller-clause-fault : goal.returns-in_err-labeller-clause-fault
 returns-in_err-labeller-clause-fault g c =
-    let listed = g.M.Moves.board c.in_ok-moves.moves in
+    let board = g.M.Moves.board c.args.moves.now in
     let group = c.args.alike.now in
-    let form = (subst (λ b. IsNormalBy b group) (sym c.in_ok-moves.ensures) c.requires.normal).form in
-    let is_board : IsBoard listed = subst IsBoard c.board.ensures c.pebbles-pebbles.ensures.is_board in
-    let pebbles : c.pebbles-pebbles.result ≡ listed.pebbles =
+    let form = c.requires.normal.form in
+    let is_board : IsBoard board = subst IsBoard c.board.ensures c.pebbles-pebbles.ensures.is_board in
+    let pebbles : c.pebbles-pebbles.result ≡ board.pebbles =
     c.pebbles-pebbles.ensures.value ∙ ap (λ b. b.pebbles) c.board.ensures in
     let room = subst (λ p. c.args.bytes < (c.labeller_room-most.result + 1) * (13 + 4 * p)) pebbles
     c.labeller_room-most.ensures in
     let value = c.value-value.result in
-    let has : HasValue listed listed.start value = subst (λ s. HasValue listed s value)
+    let has : HasValue board board.start value = subst (λ s. HasValue board s value)
     (c.start.ensures.value ∙ ap (λ b. b.start) c.board-2.ensures) c.value-value.ensures in
     let strategy : HasStrategy c.args.side value =
-    c.requires.strategy value (subst (λ b. HasValue b b.start value) c.in_ok-moves.ensures has) in
+    c.requires.strategy value has in
     let asked : asks_labeller (claim_for c.args.side (claim_of value)) ≡ true =
     ap asks_labeller (sym c.claim_for-claim.ensures) ∙ sym c.asks_labeller.ensures ∙ c.if-asks_labeller.true in
     let fault = c.in_err-labeller.field-0.0 in
-    let made = labeller_unmade listed (normal_by listed group) form is_board c.args.side value c.args.bytes
+    let made = labeller_unmade board (normal_by board group) form is_board c.args.side value c.args.bytes
     c.labeller_room-most.result has strategy asked room fault c.in_err-labeller.ensures.fault in
-    let p = err_from_is_err_and c.from_residual-in_err-labeller.result c.from_residual-in_err-labeller.ensures.1 in
-    rw (p.1, p.2) (subst (λ b. HasNoRows c.args.side b (normal_by b group) c.args.bytes fault) c.in_ok-moves.ensures
-    made)
+    let p = err_from_is_err_and c.from_residual.result c.from_residual.ensures.1 in
+    rw (p.1, p.2) made
 
 pub returns-in_err-adversary-clause-fault : goal.returns-in_err-adversary-clause-fault
 returns-in_err-adversary-clause-fault g c =
-    let listed = g.M.Moves.board c.in_ok-moves.moves in
+    let board = g.M.Moves.board c.args.moves.now in
     let group = c.args.alike.now in
-    let form = (subst (λ b. IsNormalBy b group) (sym c.in_ok-moves.ensures) c.requires.normal).form in
-    let is_board : IsBoard listed = subst IsBoard c.board.ensures c.pebbles-pebbles.ensures.is_board in
-    let pebbles : c.pebbles-pebbles.result ≡ listed.pebbles =
+    let form = c.requires.normal.form in
+    let is_board : IsBoard board = subst IsBoard c.board.ensures c.pebbles-pebbles.ensures.is_board in
+    let pebbles : c.pebbles-pebbles.result ≡ board.pebbles =
     c.pebbles-pebbles.ensures.value ∙ ap (λ b. b.pebbles) c.board.ensures in
     let room = subst (λ p. c.args.bytes < (c.adversary_room-most.result + 1) * (13 + 2 * p)) pebbles
     c.adversary_room-most.ensures in
     let value = c.value-value.result in
-    let has : HasValue listed listed.start value = subst (λ s. HasValue listed s value)
+    let has : HasValue board board.start value = subst (λ s. HasValue board s value)
     (c.start.ensures.value ∙ ap (λ b. b.start) c.board-2.ensures) c.value-value.ensures in
     let strategy : HasStrategy c.args.side value =
-    c.requires.strategy value (subst (λ b. HasValue b b.start value) c.in_ok-moves.ensures has) in
+    c.requires.strategy value has in
     let asked : asks_adversary (claim_for c.args.side (claim_of value)) ≡ true =
     ap asks_adversary (sym c.claim_for-claim.ensures) ∙ sym c.asks_adversary.ensures ∙ c.if-asks_adversary.true in
     let fault = c.in_err-adversary.field-0.0 in
-    let made = adversary_unmade listed (normal_by listed group) form is_board c.args.side value c.args.bytes
+    let made = adversary_unmade board (normal_by board group) form is_board c.args.side value c.args.bytes
     c.adversary_room-most.result has strategy asked room fault c.in_err-adversary.ensures.fault in
     let p = err_from_is_err_and c.from_residual-in_err-adversary.result c.from_residual-in_err-adversary.ensures.1 in
-    rw (p.1, p.2) (subst (λ b. HasNoRows c.args.side b (normal_by b group) c.args.bytes fault) c.in_ok-moves.ensures
-    made)
-
-pub returns-clause-document : goal.returns-clause-document
-returns-clause-document g c =
-    subst (λ b. IsDocumentOverFor c.args.side b (normal_by b c.args.alike.now)
-    (plain_class_proof b c.rows_of.result.proof)) c.in_ok-moves.ensures c.rows_of.ensures.document
-
-pub returns-clause-padded : goal.returns-clause-padded
-returns-clause-padded g c =
-    subst (λ b. AreClassPadded b c.rows_of.result.proof) c.in_ok-moves.ensures c.rows_of.ensures.padded
+    rw (p.1, p.2) made

@@ -1,0 +1,146 @@
+//! The rounds in which gaps close, by the values of classes.
+
+ghost use Rattle.std.specs.Prelude.{◌≡◌, ◌-◌, ◌<◌, ℕ, IfOk, length, slice_index};
+ghost use Rattle.board_text.specs.PlainBoard.{IsBoard, places};
+ghost use Rattle.classes.specs.Classes.{IsClass};
+ghost use Rattle.gap_values.specs.ClassValues.{AreClassValues};
+ghost use Rattle.gap_values.specs.Inside.ClassRounds.{IsRoundOf, word_with};
+ghost use Rattle.gap_values.specs.Inside.Sets.{AreGapRounds};
+ghost use Rattle.gap_values.specs.Inside.Words.{AreRounds};
+
+use crate::closing::{OPEN, answer_set};
+use crate::gap_numbers::GapNumbers;
+use crate::rounds::GapRounds;
+use crate::telling::tell_round;
+use board_text::{Board, Memory};
+use classes::ClassPlaces;
+use positions::LabelSet;
+use std::alloc::Global;
+
+impl GapRounds {
+    /// The rounds in which the gaps of `board` close, by the words of its classes.
+    pub(crate) fn of_classes(
+        alloc: Global,
+        board: &Board,
+        numbers: &GapNumbers,
+        words: &[u32],
+    ) -> Result<GapRounds, Memory>
+        requires board { numbers.now ≡ board.now }
+        requires words { AreClassValues board.now words.now }
+        ensures { IfOk result (AreGapRounds board.now) }
+    {
+        let rounds = rounds_of_classes(alloc, board, numbers, words)?;
+        GapRounds::told(alloc, board, numbers, rounds)
+    }
+
+    /// The rounds in `words`, with the sets of labels that are told of them.
+    fn told(
+        alloc: Global,
+        board: &Board,
+        numbers: &GapNumbers,
+        words: Vec<u32>,
+    ) -> Result<GapRounds, Memory>
+        requires board { numbers.now ≡ board.now }
+        requires words { AreRounds board.now words.items }
+        ensures { IfOk result (AreGapRounds board.now) }
+    {
+        if board.pebbles() == 1 {
+            return Ok(GapRounds {
+                words,
+                first: Vec::new(alloc),
+                closed: Vec::new(alloc),
+            });
+        }
+        let lists = numbers.ways(board.pebbles() - 2, board.places());
+        let mut first = Vec::with_capacity(alloc, lists as usize)?;
+        let mut closed = vec![in alloc; LabelSet::below(0); lists as usize]?;
+        tell_round(board, numbers, &words, 0, &mut closed);
+        first.extend_from_slice(&closed)?;
+        for round in 1..count_rounds(&words) {
+            tell_round(board, numbers, &words, round, &mut closed);
+        }
+        Ok(GapRounds {
+            words,
+            first,
+            closed,
+        })
+    }
+}
+
+/// The words of the gaps of `board`, by those of its classes.
+fn rounds_of_classes(
+    alloc: Global,
+    board: &Board,
+    numbers: &GapNumbers,
+    words: &[u32],
+) -> Result<Vec<u32>, Memory>
+    requires board { numbers.now ≡ board.now }
+    requires words { AreClassValues board.now words.now }
+    ensures { IfOk result (λ rounds. AreRounds board.now rounds.items) }
+{
+    let mut rounds = vec![in alloc; OPEN; numbers.gaps() as usize]?;
+    let mut walk = numbers.families(board.pebbles() - 1);
+    for number in 0..numbers.gaps() {
+        let gap = &walk.places[..walk.count as usize];
+        rounds[number as usize] = round_of_gap(board, numbers, words, gap);
+        numbers.next_family(&mut walk, number);
+    }
+    Ok(rounds)
+}
+
+/// The word of `gap`: one more than the greatest value of a result of its answers.
+fn round_of_gap(board: &Board, numbers: &GapNumbers, words: &[u32], gap: &[u16]) -> u32
+    requires board { numbers.now ≡ board.now }
+    requires words { AreClassValues board.now words.now }
+    requires is_gap { IsClass (places board.now) (board.now.pebbles - 1) gap.now }
+    ensures { IsRoundOf board.now words.now gap.now result }
+{
+    let answers = answer_set(board, LabelSet::below(board.labels()), gap);
+    let mut labels = answers.walk();
+    let mut round = 0;
+    while let Some(label) = labels.take_next() {
+        let word = word_of_result(board, numbers, words, gap, label);
+        if word == OPEN {
+            return OPEN;
+        }
+        if word >= round {
+            round = word + 1;
+        }
+    }
+    round
+}
+
+/// The word of the result of `label` in `gap`.
+fn word_of_result(
+    board: &Board,
+    numbers: &GapNumbers,
+    words: &[u32],
+    gap: &[u16],
+    label: u16,
+) -> u32
+    requires is_board { IsBoard board.now }
+    requires board { numbers.now ≡ board.now }
+    requires words { AreClassValues board.now words.now }
+    requires is_gap { IsClass (places board.now) (board.now.pebbles - 1) gap.now }
+    requires label { label < board.now.labels }
+    ensures { result ≡ word_with words.now gap.now label }
+{
+    let mut class = ClassPlaces::of(gap);
+    class.put(label);
+    words[numbers.number(class.as_slice()) as usize]
+}
+
+/// A number above the rounds of all `words`.
+fn count_rounds(words: &[u32]) -> u32
+    ensures { (index : ℕ) → index < length words.now → slice_index words.now index < OPEN
+        → slice_index words.now index < result }
+{
+    let mut count = 0;
+    for index in 0..words.len() {
+        let word = words[index];
+        if word != OPEN && word >= count {
+            count = word + 1;
+        }
+    }
+    count
+}

@@ -1,0 +1,21 @@
+use Rattle.std.proofs.Common.{◌∙◌, ◌≤◌, arith, subst, sym}
+use Rattle.gap_values.specs.ClassValues.{AreClassValues}
+use Rattle.graphs.specs.Numbered.{graph_of}
+use Rattle.solver.specs.Words.{AreValueWords}
+use Rattle.round_workers.proofs.ClassValues.{class-values, each-class}
+use Rattle.round_workers.proofs.solving.solve_classes.Goals as goal
+
+pub of_classes-requires-in-Ok : goal.of_classes-requires-in-Ok
+of_classes-requires-in-Ok g c =
+    let board = c.args.board.now in
+    let words = c.in-Ok.words.items in
+    subst (AreClassValues board) (sym c.as_slice.ensures.value)
+    (class-values board words
+    (subst (λ game. AreValueWords game words) (c.in_ok-run_rounds.ensures.game ∙ c.in_ok-solver.ensures.0)
+    c.in-Ok.ensures.values.1))
+
+pub returns-in_err-run_rounds-clause-enough : goal.returns-in_err-run_rounds-clause-enough
+returns-in_err-run_rounds-clause-enough g c = λ refused.
+    each-class c.args.board.now _
+    (subst (λ game. 131072 ≤ (graph_of game).configurations) c.in_ok-solver.ensures.0
+    (omega (arith, c.least_shared-least.ensures, c.in_err-run_rounds.ensures.shared)))
