@@ -8,14 +8,13 @@ use fakes::boards::{ONE_PAIR, TOO_MANY_CONFIGURATIONS};
 use fakes::documents::PAIR_VALUE_ONE;
 use fakes::{Drip, Failing, once_more};
 use positions::Value;
-use runs::{
-    RunFault, Solved, report_text_alone, run_report, run_solve, run_solve_alone, solve_text_alone,
-};
+use runs::{RunFault, report_text_alone, run_report, run_solve, run_solve_alone, solve_text_alone};
 use std::alloc::Global;
 use std::fmt::Debug;
 use std::process::Abort;
 use std::sync::Wait;
 use std::thread::Threads;
+use strategies::DocumentText;
 
 /// The report of the board `ONE_PAIR`: if a pebble is on 1, the other has no legal label.
 const PAIR_REPORT: &str =
@@ -114,7 +113,7 @@ fn one_byte_a_call(rt: HostRuntime) {
 
 /// Asserts the value and the document that a call gives for the pair. A call that was refused
 /// memory is made once more.
-fn assert_solved<F: Fn() -> Result<Solved, RunFault>>(
+fn assert_solved<F: Fn() -> Result<DocumentText, RunFault>>(
     rt: &impl Abort,
     alloc: Global,
     place: &str,

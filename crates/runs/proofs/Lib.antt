@@ -25,7 +25,6 @@ pub mod ChainTexts
 pub mod StartTexts
 pub mod OneSummary
 pub mod Cited
-pub mod ValueCounts
 pub mod SideSolutions
 pub mod SymmetricSolutions
 pub mod AcceptedSymmetries

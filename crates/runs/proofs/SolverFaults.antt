@@ -9,8 +9,6 @@ use Rattle.strategies.specs.Sides.{HasStrategy}
 use Rattle.classes.specs.Numbers.{class_count}
 use Rattle.solver.specs.declared.fault.SolveFault.{SolveFault}
 use Rattle.solver.specs.declared.fault.SolveFault.TheVariants as solve
-use Rattle.graphs.specs.Numbered.{graph_by, graph_of, numbered}
-use Rattle.graphs.specs.declared.graph.Numbering.TheVariants.{Classes}
 use Rattle.round_workers.specs.declared.solving.TheConstants.{MIN_SHARED}
 use Rattle.command_line.specs.declared.asked.BoardLimit.{BoardLimit}
 use Rattle.command_line.specs.declared.asked.BoardLimit.TheVariants.{Small}
@@ -27,21 +25,15 @@ use Rattle.runs.specs.Texts.{HasNoneWithin}
 use Rattle.runs.specs.Inside.SolveRun.{IsRefused, IsUnshown}
 use Rattle.runs.specs.SolveRun.{CannotSolve}
 
--- the graph by classes has a configuration for each class
-enough_classes : (board : PlainBoard) → MIN_SHARED ≤ (graph_of (numbered board Classes)).configurations
-    → MIN_SHARED ≤ class_count board
-unfolding graph_by
-enough_classes board enough = enough
-
 -- the board isn't too large, and a worker is refused only to several, on a board with enough classes
 pub refused_some : (workers : ℕ) (board : PlainBoard) (fault : SolveFault) (told : RunFault)
     → told ≡ fault_of_solving fault → (fault ≡ solve.TooLarge → ⊥) → (fault ≡ solve.Worker → 1 < workers)
-    → (fault ≡ solve.Worker → MIN_SHARED ≤ (graph_of (numbered board Classes)).configurations)
+    → (fault ≡ solve.Worker → MIN_SHARED ≤ class_count board)
     → IsRefused Small workers board told
 refused_some workers board solve.TooLarge told is small several enough = absurd (small refl)
 refused_some workers board solve.Memory told is small several enough = subst (IsRefused Small workers board) (sym is) tt
 refused_some workers board solve.Worker told is small several enough =
-    subst (IsRefused Small workers board) (sym is) (refl, several refl, enough_classes board (enough refl))
+    subst (IsRefused Small workers board) (sym is) (refl, several refl, enough refl)
 
 -- why a document by classes wasn't made
 pub unshown_made : (side : Option Side) (board : PlainBoard) (fault : Unmade) (told : RunFault)

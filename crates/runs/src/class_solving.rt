@@ -14,7 +14,7 @@ use crate::checking::MAX_PROOF_BYTES;
 use crate::fault::RunFault;
 use crate::notices::tell_size;
 use crate::reading::{MAX_BOARD_BYTES, read_text};
-use crate::solving::{Solved, expect_strategy};
+use crate::solving::expect_strategy;
 use crate::work::Work;
 use crate::writing::write_parts;
 use board_text::{Memory, Sink, Source};
@@ -25,7 +25,7 @@ use proof_text::print_classes_in_parts;
 use round_workers::MAX_WORKERS;
 use std::alloc::Global;
 use std::thread::Threads;
-use strategies::{GapMoves, MadeDocument, Moves, document_by_classes_in_parts};
+use strategies::{DocumentText, GapMoves, MadeDocument, Moves, document_by_classes_in_parts};
 
 impl Work {
     /// Reads a board of at most `MAX_GAPS` gaps, finds the value of its start, and writes its
@@ -72,7 +72,7 @@ impl Work {
         side: Option<Side>,
         text: &[u8],
         errors: &mut E,
-    ) -> Result<Solved, RunFault>
+    ) -> Result<DocumentText, RunFault>
         requires workers { InRange 1 MAX_WORKERS self.workers }
         ensures ok { IfOk result (λ solved. SolutionWithin BoardLimit.Large side
             text.now solved.value (flat_map (λ part. part.items) solved.parts.items)) }
@@ -98,7 +98,7 @@ fn class_solution(
     moves: &GapMoves<'_, GapValues>,
     side: Option<Side>,
     parts: u8,
-) -> Result<Solved, RunFault>
+) -> Result<DocumentText, RunFault>
     requires parts { 1 ≤ parts }
     ensures ok { IfOk result (λ solved. IsSolvedByClassesFor side moves.now solved.value
         (flat_map (λ part. part.items) solved.parts.items)) }
@@ -113,7 +113,7 @@ fn class_solution(
         return Err(RunFault::DocumentTooLarge);
     }
     let parts = whole(alloc, text)?;
-    Ok(Solved { value, parts })
+    Ok(DocumentText { value, parts })
 }
 
 /// The text, as one part.

@@ -1,9 +1,9 @@
 //! Solving a board: its document, from the text of the board to the bytes written.
 
-ghost use Rattle.std.specs.Prelude.{◌≡◌, ◌≤◌, true, false, IfOk, IfErr, OnOk, flat_map};
+ghost use Rattle.std.specs.Prelude.{◌≡◌, ◌-◌, ◌≤◌, true, false, IfOk, IfErr, OnOk, flat_map};
+ghost use Rattle.board_text.specs.PlainBoard.{places};
 ghost use Rattle.board_text.specs.Ranges.{InRange};
-ghost use Rattle.classes.specs.Numbers.{class_count};
-ghost use Rattle.graphs.specs.Numbered.{numbered};
+ghost use Rattle.classes.specs.Numbers.{ways};
 ghost use Rattle.positions.specs.Ranks.{configurations};
 ghost use Rattle.positions.specs.Value.{HasValue};
 ghost use Rattle.positions.specs.declared.value.Value.{Value as ValueData};
@@ -19,19 +19,14 @@ use crate::fault::RunFault;
 use crate::reading::{MAX_BOARD_BYTES, read_text};
 use crate::writing::write_parts;
 use board_text::{Board, Memory, Sink, Source};
-use classes::MAX_CLASSES;
 use command_line::BoardLimit;
-use gap_values::GapValues;
-use graphs::Numbering;
+use gap_values::{GapValues, MAX_GAPS};
 use positions::{MAX_CONFIGURATIONS, Side, Space, Value};
 use round_workers::{MAX_WORKERS, NoGate, solve_classes};
-use solver::NumberedValues;
 use std::alloc::Global;
 use std::sync::Wait;
 use std::thread::Threads;
-use strategies::{
-    DocumentText, GapMoves, Moves, NumberedMoves, document_text, document_text_in_parts,
-};
+use strategies::{DocumentText, GapMoves, Moves, document_text, document_text_in_parts};
 
 /// Reads a board, finds the value of its start on this thread and writes the document that shows
 /// it.
@@ -114,17 +109,9 @@ pub(crate) fn solve_small<R: Source, W: Sink>(
     Ok(solved.value)
 }
 
-/// The value of a board's start, and the text of the board's document, in parts that follow one
-/// another.
-#[derive(Drop)]
-pub struct Solved {
-    pub value: Value,
-    pub parts: Vec<Vec<u8>>,
-}
-
 /// The value of the start of the board whose text is `text`, and the text of its document, which
 /// shows that value. It is found on this thread.
-pub fn solve_text_alone(alloc: Global, text: &[u8]) -> Result<Solved, RunFault>
+pub fn solve_text_alone(alloc: Global, text: &[u8]) -> Result<DocumentText, RunFault>
     ensures ok { IfOk result (λ solved.
         IsSolution text.now solved.value (flat_map (λ part. part.items) solved.parts.items)) }
     ensures fault { IfErr result (HasNoBoard text.now) }
@@ -142,7 +129,7 @@ pub(crate) fn solve_text(
     workers: u8,
     side: Option<Side>,
     text: &[u8],
-) -> Result<Solved, RunFault>
+) -> Result<DocumentText, RunFault>
     requires workers { InRange 1 MAX_WORKERS workers }
     ensures ok { IfOk result (λ solved. SolutionWithin BoardLimit.Small side
         text.now solved.value (flat_map (λ part. part.items) solved.parts.items)) }
@@ -152,29 +139,18 @@ pub(crate) fn solve_text(
         return solve_text_alone(alloc, text);
     }
     let board = small_board(alloc, text)?;
-    if workers == 1 {
-        let gaps = GapValues::of(alloc, &board)?;
-        return solution_for(rt, alloc, &GapMoves::new(&board, &gaps), side, 1);
-    }
-    let values = numbered_by(rt, alloc, workers, &board)?;
-    solution_for(
-        rt,
-        alloc,
-        &NumberedMoves::new(&board, &values),
-        side,
-        workers,
-    )
+    let values = small_values(rt, alloc, workers, &board)?;
+    solution_for(rt, alloc, &GapMoves::new(&board, &values), side, workers)
 }
 
 /// The value of the start of the board of `moves`, and the text of the board's document.
-fn solution<M: Moves>(alloc: Global, moves: &M) -> Result<Solved, Memory>
+fn solution<M: Moves>(alloc: Global, moves: &M) -> Result<DocumentText, Memory>
     requires few { configurations (M.board moves.now) ≤ MAX_CONFIGURATIONS }
     ensures { IfOk result (λ solved. IsSolved (M.board moves.now) solved.value
         (flat_map (λ part. part.items) solved.parts.items)) }
 {
     let space = Space::new(moves.board());
-    let DocumentText { value, parts } = document_text(alloc, moves, &space)?;
-    Ok(Solved { value, parts })
+    document_text(alloc, moves, &space)
 }
 
 /// The same for `side` alone, or for both, with the lines of the document's rows made in this
@@ -185,7 +161,7 @@ fn solution_for<M: Moves>(
     moves: &M,
     side: Option<Side>,
     parts: u8,
-) -> Result<Solved, RunFault>
+) -> Result<DocumentText, RunFault>
     requires few { configurations (M.board moves.now) ≤ MAX_CONFIGURATIONS }
     requires parts { 1 ≤ parts }
     ensures ok { IfOk result (λ solved. IsSolvedFor side (M.board moves.now) solved.value
@@ -195,9 +171,7 @@ fn solution_for<M: Moves>(
     expect_strategy(moves, side)?;
     let space = Space::new(moves.board());
     let parts = parts as u32;
-    let made = document_text_in_parts(rt, alloc, moves, &space, side, parts)?;
-    let DocumentText { value, parts } = made;
-    Ok(Solved { value, parts })
+    Ok(document_text_in_parts(rt, alloc, moves, &space, side, parts)?)
 }
 
 /// That `side`, or both, has a strategy on the value of the start: an adversary has none if
@@ -216,17 +190,22 @@ pub(crate) fn expect_strategy<M: Moves>(moves: &M, side: Option<Side>) -> Result
     }
 }
 
-/// The values of a board, by this number of workers, which share the rounds over its graph.
-pub(crate) fn numbered_by(
+/// The values of a small `board`, by this number of `workers`. Several share the rounds over the
+/// graph of its classes.
+pub(crate) fn small_values(
     rt: &(impl Threads + Wait + Sync),
     alloc: Global,
     workers: u8,
     board: &Board,
-) -> Result<NumberedValues, RunFault>
-    requires few { class_count board.now ≤ MAX_CLASSES }
+) -> Result<GapValues, RunFault>
+    requires few { configurations board.now ≤ MAX_CONFIGURATIONS }
+    requires gaps { ways (board.now.pebbles - 1) (places board.now) ≤ MAX_GAPS }
     requires workers { InRange 1 MAX_WORKERS workers }
-    ensures values { IfOk result (λ values. values ≡ numbered board.now Numbering.Classes) }
+    ensures values { IfOk result (λ values. values ≡ board.now) }
     ensures refused { IfErr result (IsRefused BoardLimit.Small workers board.now) }
 {
+    if workers == 1 {
+        return Ok(GapValues::of(alloc, board)?);
+    }
     Ok(solve_classes(rt, alloc, board, workers as u32, &NoGate)?)
 }

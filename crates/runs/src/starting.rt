@@ -6,7 +6,6 @@ ghost use Rattle.board_text.specs.PlainBoard.{places};
 ghost use Rattle.board_text.specs.Ranges.{InRange};
 ghost use Rattle.classes.specs.Numbers.{ways};
 ghost use Rattle.console.specs.Showing.{IsMore};
-ghost use Rattle.positions.specs.Ranks.{configurations};
 ghost use Rattle.runs.specs.Inside.SolveRun.{IsRefused};
 ghost use Rattle.runs.specs.Notices.{AreRoundsTold, IsNoticedInRun, IsNoticedOfText};
 ghost use Rattle.runs.specs.Run.{Ran, Fails, TellsStreams, bytes_of, stream_of};
@@ -14,27 +13,25 @@ ghost use Rattle.runs.specs.SolveRun.{CannotSolve};
 ghost use Rattle.runs.specs.StartText.{AreStartValues, AreStartsOf, AreStartsOfText, SaysStarts};
 ghost use Rattle.runs.specs.StartText.{place_name, place_value_line, place_value_lines};
 ghost use Rattle.runs.specs.StartText.{starts_text};
-ghost use Rattle.runs.specs.Texts.{IsMemory, IsWithinLimit};
+ghost use Rattle.runs.specs.Texts.{IsWithinLimit};
 
 use crate::boards::board_within;
 use crate::fault::RunFault;
 use crate::notices::tell_size;
 use crate::reading::{MAX_BOARD_BYTES, read_text};
 use crate::reporting::write_size;
-use crate::solving::numbered_by;
 use crate::work::Work;
 use crate::writing::write_text;
 use board_text::{Board, MAX_PEBBLES, Memory, Sink, Source};
-use command_line::BoardLimit;
 use gap_values::MAX_GAPS;
-use positions::{Claim, MAX_CONFIGURATIONS, Value};
+use positions::{Claim, Value};
 use proof_text::write_claim;
 use round_workers::MAX_WORKERS;
 use std::alloc::{AllocError, Global};
 use std::fmt::Write;
 use std::sync::Wait;
 use std::thread::Threads;
-use strategies::{GapMoves, Moves, NumberedMoves};
+use strategies::{GapMoves, Moves};
 
 impl Work {
     /// Reads a board, finds its values and writes the value with all pebbles on each label, and
@@ -113,50 +110,10 @@ impl Work {
         ensures rounds { (told : List ℕ) × AreRoundsTold self.shows_size board.now result told
             × IsMore E.contents E.has_failed errors.old errors.new told }
     {
-        match self.limit {
-            BoardLimit::Small if self.workers > 1 => {
-                start_values_by_classes(rt, alloc, self.workers, board)
-            }
-            _ => self.start_values_by_gaps(rt, alloc, board, errors),
-        }
-    }
-
-    /// The same by the gaps of `board`.
-    fn start_values_by_gaps<E: Sink>(
-        self,
-        rt: &(impl Threads + Sync),
-        alloc: Global,
-        board: &Board,
-        errors: &mut E,
-    ) -> Result<Vec<Value>, RunFault>
-        requires gaps { ways (board.now.pebbles - 1) (places board.now) ≤ MAX_GAPS }
-        requires workers { 1 ≤ self.workers }
-        ensures values { IfOk result (λ values. AreStartValues board.now values.items) }
-        ensures memory { IfErr result IsMemory }
-        ensures rounds { (told : List ℕ) × AreRoundsTold self.shows_size board.now result told
-            × IsMore E.contents E.has_failed errors.old errors.new told }
-    {
-        let values = self.values(rt, alloc, board, errors)?;
+        let values = self.values_within(rt, alloc, board, errors)?;
         let moves = GapMoves::new(board, &values);
         Ok(values_at_places(alloc, &moves)?)
     }
-}
-
-/// The same by the classes of a small `board`.
-fn start_values_by_classes(
-    rt: &(impl Threads + Wait + Sync),
-    alloc: Global,
-    workers: u8,
-    board: &Board,
-) -> Result<Vec<Value>, RunFault>
-    requires few { configurations board.now ≤ MAX_CONFIGURATIONS }
-    requires workers { InRange 1 MAX_WORKERS workers }
-    ensures values { IfOk result (λ values. AreStartValues board.now values.items) }
-    ensures refused { IfErr result (IsRefused BoardLimit.Small workers board.now) }
-{
-    let values = numbered_by(rt, alloc, workers, board)?;
-    let moves = NumberedMoves::new(board, &values);
-    Ok(values_at_places(alloc, &moves)?)
 }
 
 /// The values with all pebbles at each place of the board of `moves`.

@@ -15,7 +15,7 @@ use crate::class_solving::whole;
 use crate::fault::RunFault;
 use crate::given_symmetries::{MAX_SYMMETRIES_BYTES, Symmetries, symmetries_of};
 use crate::reading::{read_board_up_to, read_text};
-use crate::solving::{Solved, expect_strategy};
+use crate::solving::expect_strategy;
 use crate::work::Work;
 use crate::writing::write_parts;
 use board_text::{Board, Sink, Source};
@@ -25,7 +25,7 @@ use proof_text::print_symmetric;
 use round_workers::MAX_WORKERS;
 use std::alloc::Global;
 use std::thread::Threads;
-use strategies::{GapMoves, Moves, SymmetricDocument, document_up_to_symmetries};
+use strategies::{DocumentText, GapMoves, Moves, SymmetricDocument, document_up_to_symmetries};
 
 impl Work {
     /// Reads a board and then symmetries of its domain, and writes the board's document up to what
@@ -80,7 +80,7 @@ impl Work {
         side: Option<Side>,
         board: &Board,
         text: &[u8],
-    ) -> Result<Solved, RunFault>
+    ) -> Result<DocumentText, RunFault>
         requires board { IsBoard board.now }
         requires workers { InRange 1 MAX_WORKERS self.workers }
         ensures ok { IfOk result (λ solved. IsSolutionUpTo side board.now text.now solved.value
@@ -104,7 +104,7 @@ fn solution_up_to(
     symmetries: &Symmetries,
     side: Option<Side>,
     parts: u8,
-) -> Result<Solved, RunFault>
+) -> Result<DocumentText, RunFault>
     requires given { (text : List ℕ) × AreGiven moves.now text symmetries.now }
     requires parts { 1 ≤ parts }
     ensures ok { IfOk result (λ solved. IsSolvedUpTo side moves.now
@@ -130,5 +130,5 @@ fn solution_up_to(
         return Err(RunFault::DocumentTooLarge);
     }
     let parts = whole(alloc, text)?;
-    Ok(Solved { value, parts })
+    Ok(DocumentText { value, parts })
 }
