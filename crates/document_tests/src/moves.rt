@@ -1,5 +1,5 @@
-//! Best moves at configurations given by their places, by values of gaps, also on a board that has no
-//! ranks, and by ranks.
+//! Best moves at configurations given by their places, by values of gaps, also on a board that has
+//! no ranks, and by ranks.
 
 use crate::assertions::{assert_same, board_of};
 use fakes::boards::CYCLE_WITHOUT_LABELS;

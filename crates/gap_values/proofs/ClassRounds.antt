@@ -31,7 +31,8 @@ tree-of-value board configuration (Finite depth) bound has = (
   λ tree. elim (cases_lt depth bound) [
     | inl less ↦ less
     | inr most ↦
-        absurd (not_both_trees board bound configuration (lasts_at_most board configuration bound depth most has.0) tree)
+        absurd (not_both_trees board bound configuration (lasts_at_most board configuration bound depth most has.0)
+        tree)
   ],
 )
 tree-of-value board configuration Forever bound has = (

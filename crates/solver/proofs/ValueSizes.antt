@@ -220,7 +220,8 @@ module _ (s : PlainStage) (round : ℕ) (st : IsState s round true) (space : Opt
   pub words-of : AreValueWords n s.values
   words-of = record {
     size = st.stage.words_are.values_length;
-    each = λ x i. value-with n.board (configuration_of n x) s.values x (slice_index s.values x) (values-are.each x i) refl
+    each = λ x i. value-with n.board (configuration_of n x) s.values x (slice_index s.values x) (values-are.each x i)
+        refl
         (elim (true_or_false (is_open s.values x)) [
           | inl still ↦ omega (arith, none-word (slice_index s.values x) still)
           | inr shut ↦ omega (arith, word-small x i shut)

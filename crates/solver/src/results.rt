@@ -13,8 +13,8 @@ use graphs::Graph;
 use positions::LabelSet;
 use std::marker::Model;
 
-/// The answers of a gap, and after which of them a labeller lasts forever. Contracts see the board, what numbers stand
-/// for, and the gap.
+/// The answers of a gap, and after which of them a labeller lasts forever. Contracts see the board,
+/// what numbers stand for, and the gap.
 #[derive(Drop)]
 pub struct Results<'a> {
     pub(crate) graph: &'a Graph,

@@ -1,4 +1,5 @@
-use Rattle.std.proofs.Common.{◌≡◌, ◌∙◌, ◌<◌, ◌+◌, ◌-◌, ℕ, List, length, get_or, set, take, inl, inr, sym, ap, subst, arith}
+use Rattle.std.proofs.Common.{◌≡◌, ◌∙◌, ◌<◌, ◌+◌, ◌-◌, ℕ, List, length, get_or, set, take, inl, inr, sym, ap, subst}
+use Rattle.std.proofs.Common.{arith}
 use Rattle.std.proofs.lemmas.Bool.{cases_eq}
 use Rattle.std.proofs.lemmas.List.{length-set, get_or-set_other, get_or-set_same}
 use Rattle.board_text.specs.PlainBoard.{places}
@@ -20,7 +21,8 @@ module _ (c : In-loop-number) where
       omega (arith, all, c.loop-number-test.true)
 
   held : take c.loop-number.walk.count c.loop-number.walk.places ≡ gap_with c.args.board.now c.loop-number.number
-  held = ap (λ n. take n c.loop-number.walk.places) c.loop-number.invariant.count ∙ (walk-of c.args.numbers.now c.args.board.now c.loop-number.walk.count (c.args.board.now.pebbles - 1)
+  held = ap (λ n. take n c.loop-number.walk.places) c.loop-number.invariant.count ∙
+      (walk-of c.args.numbers.now c.args.board.now c.loop-number.walk.count (c.args.board.now.pebbles - 1)
       c.requires.board c.loop-number.invariant.count c.loop-number.number c.loop-number.walk
       c.loop-number.invariant.walk).held_is low
 

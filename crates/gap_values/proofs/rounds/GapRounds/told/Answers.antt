@@ -27,7 +27,8 @@ tell_round-requires-clause-sets c =
     c.below.ensures c.pebbles.ensures.is_board)))
 
 -- the sets that a round was told to are those after it
-pub next-told : (board : PlainBoard) (is : IsBoard board) (some : 2 ≤ board.pebbles) (words seen : List ℕ) (round len : ℕ)
+pub next-told : (board : PlainBoard) (is : IsBoard board) (some : 2 ≤ board.pebbles) (words seen : List ℕ)
+    (round len : ℕ)
     → (told rest : List (List ℕ)) → round < 4294967295 → seen ≡ words → length told ≡ len
     → AreToldTo board seen round (gap_count board) told
     → TellClosed board words (round + 1) (take len (told ++ rest))
@@ -80,7 +81,8 @@ returns c =
       is_board = c.pebbles.ensures.is_board;
       words = c.requires.words;
       first = λ some. subst (TellClosed b words 1)
-          (sym (c.in_ok-extend_from_slice.ensures.items ∙ ap (λ l. l ++ c.deref-2.result.now) c.in_ok-first.ensures.items
+          (sym (c.in_ok-extend_from_slice.ensures.items ∙ ap (λ l. l ++ c.deref-2.result.now)
+          c.in_ok-first.ensures.items
           ∙ c.deref-2.ensures.value)) (loop-round-init (goal.at.returns c).After-count_rounds-round-end);
       closed = λ some. told-of-all b words c.loop-round.round some c.loop-round.closed.items
           (λ n low finite.
