@@ -17,7 +17,7 @@ use Rattle.classes.specs.Numbers.{class_number}
 use Rattle.classes.proofs.Cited.{AreLike, is-below, labeller-like, legal-answers, with-number}
 use Rattle.gap_values.specs.ClassValues.{AreClassValues}
 use Rattle.gap_values.specs.GapTables.{IsClosedBefore, HasClosedGap}
-use Rattle.gap_values.specs.Inside.ClassRounds.{IsRoundOf, word_with}
+use Rattle.gap_values.specs.Inside.ClassRounds.{IsRoundOf, member_word}
 use Rattle.gap_values.specs.Inside.Words.{AreGapWords, AreRounds, gap_table, round_of_word}
 use Rattle.gap_values.proofs.ClosedGaps.{class-configuration, gap-is, member-like}
 use Rattle.gap_values.proofs.Words.{before-from, before-to, result-is}
@@ -53,8 +53,8 @@ adversary-like board depth one other like tree = elim (some_tree board depth oth
 
 -- the words of the answers so far are below the round, which is 0 or one more than one of them
 pub record IsRoundSoFar (board : PlainBoard) (words gap : List ℕ) (from round : ℕ) : Type 0 where
-  pub below : (label : ℕ) → label < from → AnswersGap board gap label → word_with words gap label < round
-  pub met : (round ≡ 0) ⊎ ((label : ℕ) × AnswersGap board gap label × (word_with words gap label + 1 ≡ round))
+  pub below : (label : ℕ) → label < from → AnswersGap board gap label → member_word words gap label < round
+  pub met : (round ≡ 0) ⊎ ((label : ℕ) × AnswersGap board gap label × (member_word words gap label + 1 ≡ round))
   pub few : round < 4294967295
 
 module _ (board : PlainBoard) (words gap : List ℕ) where
@@ -66,16 +66,16 @@ module _ (board : PlainBoard) (words gap : List ℕ) where
   }
 
   module _ (from label word : ℕ) (next : IsSmallest (λ l. (from ≤ l) × AnswersGap board gap l) (Some label))
-      (is : word ≡ word_with words gap label) where
+      (is : word ≡ member_word words gap label) where
     below-next : (high : ℕ) → word < high → (other : ℕ) → other < label + 1 → AnswersGap board gap other
-        → ((earlier : ℕ) → earlier < from → AnswersGap board gap earlier → word_with words gap earlier < high)
-        → word_with words gap other < high
+        → ((earlier : ℕ) → earlier < from → AnswersGap board gap earlier → member_word words gap earlier < high)
+        → member_word words gap other < high
     below-next high less other low answer before = elim (cases_lt other from) [
       | inl early ↦ before other early answer
       | inr late ↦
           let least : label ≤ other = next.1 other (late, answer) in
           let same : label ≡ other = omega (arith, least, low) in
-          subst (λ n. n < high) (is ∙ ap (word_with words gap) same) less
+          subst (λ n. n < high) (is ∙ ap (member_word words gap) same) less
     ]
 
     pub round-more : (round : ℕ) → IsRoundSoFar board words gap from round → round ≤ word → word < 16777216
@@ -99,7 +99,7 @@ module _ (board : PlainBoard) (words gap : List ℕ) where
     round-none none bound = (
       λ before. absurd (let is_before = before-to 4294967295 (suc bound) before in omega (arith, is_before.1)),
       λ all. absurd
-          (let before = before-to (word_with words gap label) bound (all label next.0.1) in
+          (let before = before-to (member_word words gap label) bound (all label next.0.1) in
           omega (arith, before.1, is, none)),
     )
 
@@ -110,11 +110,11 @@ module _ (board : PlainBoard) (words gap : List ℕ) where
         let less = was.below label (early label answer) answer in
         let is = before-to round (suc bound) before in
         let few = was.few in
-        before-from (word_with words gap label) bound (omega (arith, less, is.0)) (omega (arith, less, few)),
+        before-from (member_word words gap label) bound (omega (arith, less, is.0)) (omega (arith, less, few)),
     λ all. elim was.met [
       | inl begins ↦ before-from round (suc bound) (omega (arith, begins)) was.few
       | inr last ↦
-          let is = before-to (word_with words gap last.0) bound (all last.0 last.1) in
+          let is = before-to (member_word words gap last.0) bound (all last.0 last.1) in
           before-from round (suc bound) (omega (arith, is.0, last.2)) was.few
     ],
   )
@@ -128,7 +128,7 @@ module _ (board : PlainBoard) (words gap : List ℕ) where
 -- a finite value is below the limit of classes
 pub word-small : (board : PlainBoard) (words gap : List ℕ) (label word : ℕ) → IsBoard board
     → AreClassValues board words → IsClass (places board) (board.pebbles - 1) gap → AnswersGap board gap label
-    → word ≡ word_with words gap label → word < 4294967295 → word < 16777216
+    → word ≡ member_word words gap label → word < 4294967295 → word < 16777216
 word-small board words gap label word is_board values is answer same finite =
     let member : List ℕ = member_with gap label in
     let low = is-below (places board) board.pebbles member (result-is board gap label is_board is answer.is_label) in
@@ -178,7 +178,7 @@ module _ (board : PlainBoard) (words rounds : List ℕ) (is_board : IsBoard boar
       )
     where
       tree-at : (pebble : ℕ) → pebble < board.pebbles → (label : ℕ) → AnswersGap board (gap_at class pebble) label
-          → IsClosedBefore (round_of_word (word_with words (gap_at class pebble) label)) bound
+          → IsClosedBefore (round_of_word (member_word words (gap_at class pebble) label)) bound
           ↔ AdversaryTree board bound (moved class pebble label)
       tree-at pebble inside label answer =
           let configuration = class-configuration board class is in
@@ -188,7 +188,7 @@ module _ (board : PlainBoard) (words rounds : List ℕ) (is_board : IsBoard boar
           answer.is_label in
           let like = member-like board class configuration pebble inside label
           (label_is_place board label answer.is_label) in
-          let trees = tree-of-value board member (round_of_word (word_with words gap label)) bound
+          let trees = tree-of-value board member (round_of_word (member_word words gap label)) bound
           (value-at member member_is) in (
             λ before. adversary-like board bound member (moved class pebble label)
                 (record { one_size = like.other_size; other_size = like.one_size; same = sym like.same })

@@ -4,7 +4,7 @@ ghost use Rattle.std.specs.Prelude.{◌≡◌, ◌-◌, ◌<◌, ℕ, IfOk, leng
 ghost use Rattle.board_text.specs.PlainBoard.{IsBoard, places};
 ghost use Rattle.classes.specs.Classes.{IsClass};
 ghost use Rattle.gap_values.specs.ClassValues.{AreClassValues};
-ghost use Rattle.gap_values.specs.Inside.ClassRounds.{IsRoundOf, word_with};
+ghost use Rattle.gap_values.specs.Inside.ClassRounds.{IsRoundOf, member_word};
 ghost use Rattle.gap_values.specs.Inside.Sets.{AreGapRounds};
 ghost use Rattle.gap_values.specs.Inside.Words.{AreRounds};
 
@@ -123,7 +123,7 @@ fn word_of_result(
     requires words { AreClassValues board.now words.now }
     requires is_gap { IsClass (places board.now) (board.now.pebbles - 1) gap.now }
     requires label { label < board.now.labels }
-    ensures { result ≡ word_with words.now gap.now label }
+    ensures { result ≡ member_word words.now gap.now label }
 {
     let mut class = ClassPlaces::of(gap);
     class.put(label);

@@ -8,8 +8,8 @@ use Rattle.gap_values.specs.GapTables.{IsClosedBefore}
 use Rattle.gap_values.specs.Inside.Words.{round_of_word}
 
 -- the word of the gap's member with this place
-abbrev pub word_with : List ℕ → List ℕ → ℕ → ℕ
-word_with words gap place = slice_index words (class_number (member_with gap place))
+abbrev pub member_word : List ℕ → List ℕ → ℕ → ℕ
+member_word words gap place = slice_index words (class_number (member_with gap place))
 
 -- the word is that of the round in which the gap closes: the first one that is greater than the
 -- values of all results of its answers
@@ -17,4 +17,4 @@ abbrev pub IsRoundOf : PlainBoard → List ℕ → List ℕ → ℕ → Type 0
 IsRoundOf board words gap word =
     (bound : ℕ) → IsClosedBefore (round_of_word word) (suc bound)
     ↔ ((label : ℕ) → AnswersGap board gap label
-    → IsClosedBefore (round_of_word (word_with words gap label)) bound)
+    → IsClosedBefore (round_of_word (member_word words gap label)) bound)
