@@ -10,7 +10,7 @@ ghost use Rattle.positions.specs.declared.value.Value.{Value as ValueData};
 ghost use Rattle.strategies.specs.Sides.{HasStrategy};
 ghost use Rattle.runs.specs.LimitedSolveRun.{CannotSolveWithin, SolutionWithin};
 ghost use Rattle.runs.specs.Run.{Ran, Fails, TellsStreams, bytes_of, stream_of};
-ghost use Rattle.runs.specs.SolveRun.{CannotSolve, IsSolution, IsSolved};
+ghost use Rattle.runs.specs.SolveRun.{CannotSolve, IsSolution};
 ghost use Rattle.runs.specs.Inside.SolveRun.{IsRefused, IsSolvedFor, IsUnmade};
 ghost use Rattle.runs.specs.Texts.{HasNoBoard, IsMemory};
 
@@ -18,7 +18,7 @@ use crate::boards::small_board;
 use crate::fault::RunFault;
 use crate::reading::{MAX_BOARD_BYTES, read_text};
 use crate::writing::write_parts;
-use board_text::{Board, Memory, Sink, Source};
+use board_text::{Board, Sink, Source};
 use command_line::BoardLimit;
 use gap_values::{GapValues, MAX_GAPS};
 use positions::{MAX_CONFIGURATIONS, Side, Space, Value};
@@ -118,7 +118,9 @@ pub fn solve_text_alone(alloc: Global, text: &[u8]) -> Result<DocumentText, RunF
 {
     let board = small_board(alloc, text)?;
     let values = GapValues::of(alloc, &board)?;
-    Ok(solution(alloc, &GapMoves::new(&board, &values))?)
+    let moves = GapMoves::new(&board, &values);
+    let space = Space::new(&board);
+    Ok(document_text(alloc, &moves, &space)?)
 }
 
 /// The same as `solve_text_alone` for `side` alone, or for both, found by this number of `workers`,
@@ -143,18 +145,8 @@ pub(crate) fn solve_text(
     solution_for(rt, alloc, &GapMoves::new(&board, &values), side, workers)
 }
 
-/// The value of the start of the board of `moves`, and the text of the board's document.
-fn solution<M: Moves>(alloc: Global, moves: &M) -> Result<DocumentText, Memory>
-    requires few { configurations (M.board moves.now) ≤ MAX_CONFIGURATIONS }
-    ensures { IfOk result (λ solved. IsSolved (M.board moves.now) solved.value
-        (flat_map (λ part. part.items) solved.parts.items)) }
-{
-    let space = Space::new(moves.board());
-    document_text(alloc, moves, &space)
-}
-
-/// The same for `side` alone, or for both, with the lines of the document's rows made in this
-/// number of `parts`.
+/// The value of the start of the board of `moves`, and the text of the board's document, for `side`
+/// alone or for both, with the lines of its rows made in this number of `parts`.
 fn solution_for<M: Moves>(
     rt: &(impl Threads + Sync),
     alloc: Global,

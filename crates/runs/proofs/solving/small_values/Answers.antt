@@ -5,11 +5,12 @@ use Rattle.runs.proofs.SolverFaults.{refused_some}
 use Rattle.runs.proofs.solving.small_values.Goals as goal
 
 pub solve_classes-requires-clause-few : goal.solve_classes-requires-clause-few
-solve_classes-requires-clause-few g c = few-of-small c.args.board.now c.requires.few
+solve_classes-requires-clause-few g c = λ lifetimes lives. few-of-small c.args.board.now c.requires.few
 
 pub returns-in_err-solve_classes-clause-refused : goal.returns-in_err-solve_classes-clause-refused
 returns-in_err-solve_classes-clause-refused g c =
-    let refused = err_from_is_err_and c.from_residual.result c.from_residual.ensures.1 in
+    let refused = err_from_is_err_and c.from_residual-in_err-solve_classes.result
+    c.from_residual-in_err-solve_classes.ensures.1 in
     rw refused.1 (refused_some c.args.workers c.args.board.now c.in_err-solve_classes.field-0.0 refused.0 refused.2
     (λ large. c.in_err-solve_classes.ensures.fault large)
     (λ several. c.in_err-solve_classes.ensures.worker (ap Err several))

@@ -8,4 +8,13 @@ of-requires c =
 
 pub returns-clause-ok : goal.returns-clause-ok
 returns-clause-ok c =
-    (c.in_ok-board.board, c.in_ok-board.ensures.found, rw c.new.ensures at c.in_ok-solution.ensures)
+    let made = rw c.new-moves.ensures at c.in_ok-document_text.ensures in (
+      c.in_ok-board.board,
+      c.in_ok-board.ensures.found,
+      record {
+        has_value = made.value;
+        document = made.text.0;
+        is_document = made.text.1;
+        text_is = made.text.2;
+      },
+    )

@@ -1,7 +1,7 @@
 use Rattle.std.proofs.Common.{[], inr}
 use Rattle.console.proofs.Cited.{none_more}
 use Rattle.runs.proofs.ToldNotices.{small_rounds}
-use Rattle.runs.proofs.work.Work.start_values.Goals as goal
+use Rattle.runs.proofs.work.Work.values_within.Goals as goal
 
 pub returns-in-Small-clause-rounds : goal.returns-in-Small-clause-rounds
 returns-in-Small-clause-rounds g c = (
