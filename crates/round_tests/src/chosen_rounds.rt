@@ -9,7 +9,7 @@ use crate::assertions::assert_same;
 use board_text::{Board, MAX_PEBBLES};
 use claim_round::RoundSeat;
 use classes::has_few_classes;
-use fakes::build_board;
+use fakes::{build_board, is_configuration};
 use gap_values::{GapValues, ValueTable};
 use index_lists::PlainLists;
 use round_workers::{Gate, MIN_SHARED, solve_classes};
@@ -87,15 +87,17 @@ fn counted(
     Ok((values, passes))
 }
 
-/// Asserts that each configuration has its value.
-fn assert_values(rt: &impl Abort, found: &GapValues, wanted: &Values)
-    requires { found.now ≡ wanted.now }
+/// Asserts that each configuration of `board` has its value.
+fn assert_values(rt: &impl Abort, board: &Board, found: &GapValues, wanted: &Values)
+    requires { found.now ≡ board.now }
 {
     let space = wanted.space();
     let pebbles = space.pebbles() as usize;
     for rank in 0..space.configurations() {
-        let held = space.places_at(rank);
-        assert_same(rt, rank, found.value(&held[..pebbles]), wanted.of(rank));
+        let places = space.places_at(rank);
+        let held = &places[..pebbles];
+        assert!(rt; is_configuration(board, held));
+        assert_same(rt, rank, found.value(held), wanted.of(rank));
     }
 }
 
@@ -136,7 +138,7 @@ fn one_round_of_two_is_shared(rt: HostRuntime) {
         let times = if workers == 1 { 0 } else { u64::from(workers) };
         assert_same(&rt, workers, passes.first.load(SeqCst), times);
         assert_same(&rt, workers, passes.later.load(SeqCst), 0);
-        assert_values(&rt, &found, &wanted);
+        assert_values(&rt, &board, &found, &wanted);
     }
 }
 
@@ -154,7 +156,7 @@ fn assert_as_by_ranks(
         let board = board.ok().expect(rt, "a board");
         let wanted = values_of(alloc, &board).expect(rt, "values");
         let (found, _) = counted_at_last(rt, alloc, &board, 2);
-        assert_values(rt, &found, &wanted);
+        assert_values(rt, &board, &found, &wanted);
     }
 }
 
