@@ -22,7 +22,7 @@ use Rattle.index_lists.proofs.Cited.{cond_other}
 use Rattle.positions.specs.declared.value.Value.TheVariants.{Finite}
 use Rattle.positions.specs.Value.{HasValue}
 use Rattle.positions.specs.Counts.{HasSize}
-use Rattle.classes.specs.declared.counting.TheConstants.{MAX_CLASSES}
+use Rattle.positions.specs.declared.space.TheConstants.{MAX_CONFIGURATIONS}
 use Rattle.positions.proofs.Cited.{same_size, size_zero, size_at_most}
 use Rattle.solver.specs.Solving.{Solving, IsSolving, AnswerLasts}
 use Rattle.retro_core.specs.Round.{PlainSeat, Round, IsLawful, IsWorkedOff, spent_seat, seat_at, all_todo}
@@ -322,7 +322,7 @@ small_counts s e sol done g i =
     omega arith
 
 pub small_value : (s : Solving) (words : List ℕ) (counts won : List ℕ) → s.rounds < (graph_of s.game).configurations
-    → (graph_of s.game).configurations ≤ MAX_CLASSES
+    → (graph_of s.game).configurations ≤ MAX_CONFIGURATIONS
     → Finishes s (record { counts = counts; values = map value_of_word words; won = won }) → (rank : ℕ)
     → rank < length words
     → slice_index words rank < 2 ^ 32

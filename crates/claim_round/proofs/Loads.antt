@@ -58,7 +58,7 @@ some_most k sol =
     let some = some_places k.solving.game.board sol.is_board in let same = places_are k.solving.game in omega arith
 
 pub narrow : (k : Key) → IsSolving k.solving → most_members k * size k < 2 ^ 32
-narrow k sol = numbers-fit k.solving.game sol.is_board sol.few_by
+narrow k sol = numbers-fit k.solving.game sol.is_board sol.small
 
 -- ---- loads
 

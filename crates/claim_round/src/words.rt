@@ -9,7 +9,7 @@ use solver::Solver;
 use std::alloc::Global;
 
 /// The word of a configuration without a value.
-pub const OPEN: u64 = solver::OPEN as u64;
+pub const OPEN: u64 = gap_values::OPEN as u64;
 
 /// The words of a round of `solver` at its opening: the count of each gap, and then the word of
 /// each configuration.

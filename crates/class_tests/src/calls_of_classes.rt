@@ -14,7 +14,6 @@ use crate::classes_of_boards::classes_of;
 use board_text::{Board, MAX_PEBBLES};
 use classes::{ClassPlaces, Classes};
 use fakes::boards::THREE_PEBBLES;
-use fakes::is_configuration;
 use std::alloc::Global;
 use std::process::Abort;
 
@@ -66,7 +65,7 @@ const FAMILIES: [u16; 6] = [1, 1, 2, 1, 2, 3];
 const FAMILIES_OF_CLASSES: [usize; 10] = [0, 1, 2, 2, 3, 4, 4, 5, 5, 5];
 
 /// The classes of some pebbles, if the board has as many.
-pub(crate) fn lists_of(alloc: Global, classes: &Classes, pebbles: u8) -> Option<Vec<ClassPlaces>>
+fn lists_of(alloc: Global, classes: &Classes, pebbles: u8) -> Option<Vec<ClassPlaces>>
     ensures lists { IfSome result
         (λ lists. AreClassLists (places classes.now) pebbles lists.items) }
     ensures few { IfSome result (λ _. pebbles ≤ classes.now.pebbles) }
@@ -185,17 +184,6 @@ fn ways_of(classes: &Classes, pebbles: u8, bound: u16) -> Option<u32> {
     }
 }
 
-/// The number of the class of a configuration, if the board has it.
-fn number_of(classes: &Classes, board: &Board, held: &[u16]) -> Option<u32>
-    requires { classes.now ≡ board.now }
-{
-    if is_configuration(board, held) {
-        Some(classes.number_of(held))
-    } else {
-        None
-    }
-}
-
 #[test]
 fn counts_of_classes(rt: HostRuntime) {
     let board = board_of(&rt, rt.alloc(), THREE_PEBBLES);
@@ -205,8 +193,6 @@ fn counts_of_classes(rt: HostRuntime) {
     assert_same(&rt, "classes", classes.count(), 10);
     assert_same(&rt, "gaps", classes.gaps(), 6);
     assert_same(&rt, "on two places", ways_of(&classes, 3, 2), Some(4));
-    let number = number_of(&classes, &board, &[0, 2, 1]);
-    assert_same(&rt, "0 2 1", number, Some(5));
 }
 
 #[test]
@@ -278,7 +264,6 @@ fn with_greatest(class: &ClassPlaces, place: u16) -> Option<ClassPlaces> {
 fn places_of_classes(rt: HostRuntime) {
     let mut class = ClassPlaces::of(&[0, 2, 1]);
     assert_same(&rt, "class", class.as_slice(), &[2, 1, 0][..]);
-    assert_same(&rt, "index of 1", class.index_of(1), 1);
     put(&mut class, 1);
     assert_same(&rt, "with 1", class.as_slice(), &[2, 1, 1, 0][..]);
     let most = with_greatest(&class, 2).expect(&rt, "room");

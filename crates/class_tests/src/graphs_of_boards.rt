@@ -9,9 +9,8 @@ ghost use Rattle.graphs.specs.Numbered.{numbered};
 use crate::assertions::{assert_same, board_of};
 use board_text::Board;
 use fakes::boards::{CYCLE_WITHOUT_LABELS, THREE_CYCLE};
-use fakes::is_configuration;
-use graphs::{Graph, MAX_PLACES, Numbering, has_few};
-use positions::Space;
+use graphs::{Graph, MAX_PLACES, Numbering};
+use positions::is_small;
 use std::alloc::Global;
 use std::process::Abort;
 
@@ -23,9 +22,6 @@ struct Worked {
     members: &'static [&'static [u32]],
     /// The gap in which each configuration is an answer.
     struck: &'static [Option<u32>],
-    /// The number of each rank's configuration, and the gaps of its pebbles.
-    ranks: &'static [(u32, u32, u32)],
-    weights: &'static [u16],
 }
 
 /// The three-cycle, in which 1 dominates 0, 2 dominates 1, and 0 dominates 2.
@@ -53,18 +49,6 @@ const CYCLE_BY_RANKS: Worked = Worked {
         Some(1),
         None,
     ],
-    ranks: &[
-        (0, 0, 3),
-        (1, 1, 3),
-        (2, 2, 3),
-        (3, 0, 4),
-        (4, 1, 4),
-        (5, 2, 4),
-        (6, 0, 5),
-        (7, 1, 5),
-        (8, 2, 5),
-    ],
-    weights: &[1, 1, 1, 1, 1, 1, 1, 1, 1],
 };
 
 /// The same, of which 0 0, 1 0, 1 1, 2 0, 2 1, 2 2 are the classes.
@@ -73,18 +57,6 @@ const CYCLE_BY_CLASSES: Worked = Worked {
     numbering: Numbering::Classes,
     members: &[&[0, 1, 3], &[1, 2, 4], &[3, 4, 5]],
     struck: &[None, Some(0), None, Some(2), Some(1), None],
-    ranks: &[
-        (0, 0, 0),
-        (1, 1, 0),
-        (3, 2, 0),
-        (1, 0, 1),
-        (2, 1, 1),
-        (4, 2, 1),
-        (3, 0, 2),
-        (4, 1, 2),
-        (5, 2, 2),
-    ],
-    weights: &[1, 2, 1, 2, 2, 1],
 };
 
 /// The three-cycle with pebbles that may hold no label, the place 3, which any label dominates.
@@ -105,25 +77,6 @@ const BLANKS_BY_CLASSES: Worked = Worked {
         Some(3),
         None,
     ],
-    ranks: &[
-        (0, 0, 0),
-        (1, 1, 0),
-        (3, 2, 0),
-        (6, 3, 0),
-        (1, 0, 1),
-        (2, 1, 1),
-        (4, 2, 1),
-        (7, 3, 1),
-        (3, 0, 2),
-        (4, 1, 2),
-        (5, 2, 2),
-        (8, 3, 2),
-        (6, 0, 3),
-        (7, 1, 3),
-        (8, 2, 3),
-        (9, 3, 3),
-    ],
-    weights: &[1, 2, 1, 2, 2, 1, 2, 2, 2, 1],
 };
 
 /// The same by ranks. Beside a pebble without a label each label of the other is an answer.
@@ -158,32 +111,13 @@ const BLANKS_BY_RANKS: Worked = Worked {
         Some(7),
         None,
     ],
-    ranks: &[
-        (0, 0, 4),
-        (1, 1, 4),
-        (2, 2, 4),
-        (3, 3, 4),
-        (4, 0, 5),
-        (5, 1, 5),
-        (6, 2, 5),
-        (7, 3, 5),
-        (8, 0, 6),
-        (9, 1, 6),
-        (10, 2, 6),
-        (11, 3, 6),
-        (12, 0, 7),
-        (13, 1, 7),
-        (14, 2, 7),
-        (15, 3, 7),
-    ],
-    weights: &[1, 1, 1, 1, 1, 1, 1, 1, 1, 1, 1, 1, 1, 1, 1, 1],
 };
 
 /// The graph of a board that isn't too large.
 fn graph_of(alloc: Global, board: &Board, numbering: Numbering) -> Option<Graph>
     ensures { IfSome result (λ graph. graph ≡ numbered board.now numbering) }
 {
-    if !has_few(board, numbering) {
+    if !is_small(board) {
         return None;
     }
     match Graph::of(alloc, board, numbering) {
@@ -198,37 +132,6 @@ fn wanted_member(worked: &Worked, gap: u32, place: u32) -> Option<(u32, bool)> {
     let member = *row.get(place as usize)?;
     let struck = worked.struck.get(member as usize)?;
     Some((member, *struck == Some(gap)))
-}
-
-/// The number of a configuration and the gaps of its first two pebbles, if the board has it.
-fn numbers_of(graph: &Graph, board: &Board, held: &[u16]) -> Option<(u32, u32, u32)>
-    requires { board.now ≡ graph.now.board }
-{
-    if is_configuration(board, held) {
-        let standing = graph.standing(held);
-        Some((standing.number, standing.gaps[0], standing.gaps[1]))
-    } else {
-        None
-    }
-}
-
-/// The number alone.
-fn number_of(graph: &Graph, board: &Board, held: &[u16]) -> Option<u32>
-    requires { board.now ≡ graph.now.board }
-{
-    if is_configuration(board, held) {
-        Some(graph.number_of(held))
-    } else {
-        None
-    }
-}
-
-/// The weights of a graph's numbers.
-fn weights_of(alloc: Global, graph: &Graph) -> Option<Vec<u16>> {
-    match graph.weights(alloc) {
-        Ok(weights) => Some(weights),
-        Err(_) => graph.weights(alloc).ok(),
-    }
 }
 
 /// Asserts the members of a graph's gaps, and which are answers.
@@ -288,47 +191,6 @@ fn assert_struck(rt: &impl Abort, graph: &Graph, worked: &Worked) {
     }
 }
 
-/// Asserts the numbers of configurations and of their gaps.
-fn assert_ranks(rt: &impl Abort, graph: &Graph, board: &Board, worked: &Worked)
-    requires { board.now ≡ graph.now.board }
-{
-    let space = Space::of(board).ok().expect(rt, "a space");
-    assert_same(
-        rt,
-        "ranks",
-        space.configurations() as usize,
-        worked.ranks.len(),
-    );
-    for rank in 0..space.configurations() {
-        let wanted = worked.ranks.get(rank as usize).copied();
-        let places = space.places_at(rank);
-        let held = &places[..space.pebbles() as usize];
-        let numbers = numbers_of(graph, board, held);
-        assert_same(rt, ("numbers of", rank), numbers, wanted);
-        let number = wanted.map(|(number, _, _)| number);
-        assert_same(
-            rt,
-            ("number of", rank),
-            number_of(graph, board, held),
-            number,
-        );
-    }
-}
-
-/// Asserts the weight of each number.
-fn assert_weights(rt: &impl Abort, alloc: Global, graph: &Graph, worked: &Worked) {
-    let weights = weights_of(alloc, graph).expect(rt, "weights");
-    assert_same(rt, "weights", weights.len(), worked.weights.len());
-    for (number, weight) in weights.iter().enumerate() {
-        assert_same(
-            rt,
-            ("weight of", number),
-            Some(weight),
-            worked.weights.get(number),
-        );
-    }
-}
-
 /// Asserts that a board has the graph that was worked out.
 fn assert_graph(rt: &impl Abort, alloc: Global, worked: &Worked) {
     let board = board_of(rt, alloc, worked.text);
@@ -336,8 +198,6 @@ fn assert_graph(rt: &impl Abort, alloc: Global, worked: &Worked) {
     assert_members(rt, &graph, worked);
     assert_rows(rt, &graph, worked);
     assert_struck(rt, &graph, worked);
-    assert_ranks(rt, &graph, &board, worked);
-    assert_weights(rt, alloc, &graph, worked);
 }
 
 #[test]

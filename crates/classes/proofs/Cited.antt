@@ -11,12 +11,12 @@ pub use Rattle.classes.proofs.OrderCounts.{weight-orders}
 pub use Rattle.classes.proofs.Places.{all-class_of, of-all-class_of, class_of-own, class_of-set, falls-class_of}
 pub use Rattle.classes.proofs.Places.{length-class_of, length-put, place-cancel, put-cancel, put-here, put-is}
 pub use Rattle.classes.proofs.Places.{put-none, put-past, HasPebble, IsIn, in-put, pebble_of_place, all-put}
-pub use Rattle.classes.proofs.Places.{falls-more, index-here, index-past, of-all-put, others-put}
+pub use Rattle.classes.proofs.Places.{falls-more, index-put, of-all-put, others-put}
 pub use Rattle.classes.proofs.PlacesWithout.{all-remove, class-push, remove-last, remove-past}
 pub use Rattle.classes.proofs.Sums.{sum-add, sum-none, sum-same, sum-suc, sum-swap, sum-zero}
 pub use Rattle.classes.proofs.TableNumbers.{few-of-small, lists-fit, place-below, number-more, ways-fit}
 pub use Rattle.classes.proofs.Values.{AreLike, class_of-class, dominator-answers, labeller-like, legal-answers}
 pub use Rattle.classes.proofs.Values.{one-gap, value-of-class}
-pub use Rattle.classes.proofs.Ways.{members-fit, ways-few, ways-more, ways-suc, ways-zero, ways-none, ways-within}
+pub use Rattle.classes.proofs.Ways.{ways-few, ways-more, ways-suc, ways-zero, ways-none, ways-within}
 pub use Rattle.classes.proofs.WaysRows.{IsRow, row-begins, row-first, row-more}
 pub use Rattle.classes.proofs.WeightProducts.{copies-same, weight-over}

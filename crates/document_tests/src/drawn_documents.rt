@@ -1,79 +1,105 @@
-//! Drawn boards, of which values by ranks and values by classes give one document and one report.
+//! Drawn boards, of which values by ranks and values by gaps give one document and one report.
 //!
 //! A run of the tests may refuse one growth of memory, whichever. So a call that was refused one is
 //! made once more.
 
-ghost use Rattle.std.specs.Prelude.{◌≡◌};
+ghost use Rattle.std.specs.Prelude.{◌≡◌, IfOk};
+ghost use Rattle.proof_text.specs.Documents.{IsDocument};
 
 use crate::assertions::{assert_same, assert_text};
 use crate::documents::print_document;
 use crate::drawn_boards::drawn_board;
 use crate::strategy_documents::document_of;
-use board_text::Board;
-use positions::Value;
-use solved_boards::{value, values_by_classes, values_of};
+use board_text::{Board, Memory};
+use gap_values::{GapValues, Sizes, ValueTable};
+use positions::{Space, Value};
+use proof_text::Proof;
+use solved_boards::{gap_values_of, values_of};
 use solver::Values;
 use std::alloc::Global;
 use std::process::Abort;
+use strategies::{GapMoves, document_by};
 
 /// The number of boards that are drawn.
 const BOARDS: u64 = 1_000;
 
-/// The text of the document of a board with these values.
-fn document_text(rt: &impl Abort, alloc: Global, board: &Board, values: &Values) -> String
-    requires { values.now ≡ board.now }
+/// The text of a document of a board that has a space.
+fn text_of(rt: &impl Abort, alloc: Global, space: &Space, made: Result<Proof, Memory>) -> String
+    requires { IfOk made (IsDocument space.now) }
 {
-    let proof = document_of(alloc, board, values).expect(rt, "a document");
-    print_document(alloc, values.space(), &proof).expect(rt, "its text")
+    let proof = made.expect(rt, "a document");
+    print_document(alloc, space, &proof).expect(rt, "its text")
 }
 
-/// The value of the start of a board with these values.
-fn start_value(board: &Board, values: &Values) -> Option<Value>
-    requires { values.now ≡ board.now }
+/// The document of a board by its gaps, asked for once more if memory was refused.
+fn document_by_gaps(
+    alloc: Global,
+    board: &Board,
+    space: &Space,
+    values: &GapValues,
+) -> Result<Proof, Memory>
+    requires space { space.now ≡ board.now }
+    requires values { values.now ≡ board.now }
+    ensures { IfOk result (IsDocument board.now) }
 {
-    value(values, values.space().rank(board.start()))
+    let moves = GapMoves::new(board, values);
+    match document_by(alloc, &moves, space) {
+        Err(Memory) => document_by(alloc, &moves, space),
+        answer => answer,
+    }
+}
+
+/// How many configurations have each value by the gaps, asked for once more if memory was refused.
+fn sizes_of(alloc: Global, values: &GapValues) -> Result<Sizes, Memory> {
+    match values.sizes(alloc) {
+        Err(Memory) => values.sizes(alloc),
+        answer => answer,
+    }
 }
 
 /// Asserts that all that a report says of values is the same by both: the value of the start, and
-/// how many configurations have each value up to the greatest.
-fn assert_same_report(rt: &impl Abort, seed: u64, board: &Board, found: &Values, wanted: &Values)
-    requires found { found.now ≡ board.now }
-    requires wanted { wanted.now ≡ board.now }
+/// how many configurations have each value up to the greatest. Gives the value of the start.
+fn assert_same_report(
+    rt: &impl Abort,
+    alloc: Global,
+    seed: u64,
+    board: &Board,
+    by_ranks: &Values,
+    by_gaps: &GapValues,
+) -> Value
+    requires ranks { by_ranks.now ≡ board.now }
+    requires gaps { by_gaps.now ≡ board.now }
 {
-    let start = start_value(board, wanted);
-    assert_same(rt, ("start", seed), start_value(board, found), start);
-    let greatest = wanted.greatest_finite();
-    assert_same(rt, ("greatest", seed), found.greatest_finite(), greatest);
-    for number in 0..=greatest.unwrap_or(0) {
-        let finite = Value::Finite(number);
-        assert_same(
-            rt,
-            (number, seed),
-            found.count(finite),
-            wanted.count(finite),
-        );
+    let start = by_ranks.of(by_ranks.space().rank(board.start()));
+    assert_same(rt, ("start", seed), by_gaps.value(board.start()), start);
+    let sizes = sizes_of(alloc, by_gaps).expect(rt, "sizes");
+    let finite = by_ranks.greatest_finite().map_or(0, |greatest: u32| u64::from(greatest) + 1);
+    assert_same(rt, ("values", seed), sizes.finite.len() as u64, finite);
+    for (number, size) in sizes.finite.iter().enumerate() {
+        let count = by_ranks.count(Value::Finite(number as u32));
+        assert_same(rt, (number as u64, seed), *size, u64::from(count));
     }
-    let forever = wanted.count(Value::Forever);
-    assert_same(rt, ("forever", seed), found.count(Value::Forever), forever);
+    let forever = by_ranks.count(Value::Forever);
+    assert_same(rt, ("forever", seed), sizes.forever, u64::from(forever));
+    start
 }
 
-/// Asserts that the values of the board of this seed give one document and one report by both
-/// numberings. Gives whether its text is of the second version, and whether its start lasts for
-/// ever.
+/// Asserts that the values of the board of this seed give one document and one report by ranks and
+/// by gaps. Gives whether its text is of the second version, and whether its start lasts for ever.
 fn assert_same_answers(rt: &impl Abort, alloc: Global, seed: u64) -> (bool, bool) {
     let board = drawn_board(alloc, seed).expect(rt, "a board");
     let by_ranks = values_of(alloc, &board).expect(rt, "values by ranks");
-    let by_classes = values_by_classes(alloc, &board).expect(rt, "values by classes");
-    let wanted = document_text(rt, alloc, &board, &by_ranks);
-    let found = document_text(rt, alloc, &board, &by_classes);
+    let by_gaps = gap_values_of(alloc, &board).expect(rt, "values by gaps");
+    let space = by_ranks.space();
+    let wanted = text_of(rt, alloc, space, document_of(alloc, &board, &by_ranks));
+    let found = text_of(rt, alloc, space, document_by_gaps(alloc, &board, space, &by_gaps));
     assert_text(rt, ("document", seed), found.as_bytes(), wanted.as_bytes());
-    assert_same_report(rt, seed, &board, &by_classes, &by_ranks);
-    let lasts = start_value(&board, &by_ranks) == Some(Value::Forever);
-    (board.version() == 2, lasts)
+    let start = assert_same_report(rt, alloc, seed, &board, &by_ranks, &by_gaps);
+    (board.version() == 2, start == Value::Forever)
 }
 
 #[test]
-fn a_thousand_boards_by_ranks_and_by_classes(rt: HostRuntime) {
+fn a_thousand_boards_by_ranks_and_by_gaps(rt: HostRuntime) {
     let mut counts = [[0u32; 2]; 2];
     for seed in 0..BOARDS {
         let (is_second, lasts) = assert_same_answers(&rt, rt.alloc(), seed);

@@ -14,7 +14,7 @@ ghost use Rattle.strategies.specs.Meaning.{Means};
 
 use board_text::{Board, Memory};
 use index_lists::PlainLists;
-use positions::{MAX_CONFIGURATIONS, Value, is_small};
+use positions::{MAX_CONFIGURATIONS, Value};
 use proof_text::Proof;
 use solver::{SolveFault, Solver, Values};
 use std::alloc::Global;
@@ -67,9 +67,6 @@ fn values_of(alloc: Global, board: &Board) -> Result<Values, SolveFault>
         ↔ (MAX_CONFIGURATIONS < configurations board.now) }
     ensures no_worker { result ≡ Err SolveFault.Worker → ⊥ }
 {
-    if !is_small(board) {
-        return Err(SolveFault::TooLarge);
-    }
-    let solver = Solver::<PlainLists>::of_classes(alloc, board)?;
-    Ok(Values::new(solver.solve_numbered(), board))
+    let solver = Solver::<PlainLists>::open(alloc, board)?;
+    Ok(solver.solve())
 }

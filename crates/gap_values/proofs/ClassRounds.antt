@@ -78,7 +78,7 @@ module _ (board : PlainBoard) (words gap : List ℕ) where
           subst (λ n. n < high) (is ∙ ap (member_word words gap) same) less
     ]
 
-    pub round-more : (round : ℕ) → IsRoundSoFar board words gap from round → round ≤ word → word < 16777216
+    pub round-more : (round : ℕ) → IsRoundSoFar board words gap from round → round ≤ word → word < 1048576
         → IsRoundSoFar board words gap (label + 1) (word + 1)
     round-more round was most low = record {
       below = λ other under answer. below-next (word + 1) (omega arith) other under answer
@@ -128,7 +128,7 @@ module _ (board : PlainBoard) (words gap : List ℕ) where
 -- a finite value is below the limit of classes
 pub word-small : (board : PlainBoard) (words gap : List ℕ) (label word : ℕ) → IsBoard board
     → AreClassValues board words → IsClass (places board) (board.pebbles - 1) gap → AnswersGap board gap label
-    → word ≡ member_word words gap label → word < 4294967295 → word < 16777216
+    → word ≡ member_word words gap label → word < 4294967295 → word < 1048576
 word-small board words gap label word is_board values is answer same finite =
     let member : List ℕ = member_with gap label in
     let low = is-below (places board) board.pebbles member (result-is board gap label is_board is answer.is_label) in

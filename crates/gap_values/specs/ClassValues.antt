@@ -3,7 +3,7 @@ use Rattle.std.specs.Prelude.{◌≡◌, ℕ, ◌<◌, List, length, slice_index
 use Rattle.board_text.specs.PlainBoard.{PlainBoard, places}
 use Rattle.positions.specs.Value.{HasValue}
 use Rattle.classes.specs.Numbers.{class_count, class_with}
-use Rattle.classes.specs.declared.counting.TheConstants.{MAX_CLASSES}
+use Rattle.positions.specs.declared.space.TheConstants.{MAX_CONFIGURATIONS}
 use Rattle.gap_values.specs.declared.closing.TheConstants.{OPEN}
 use Rattle.gap_values.specs.Inside.Words.{round_of_word}
 
@@ -14,4 +14,4 @@ pub record AreClassValues (board : PlainBoard) (words : List ℕ) : Type 0 where
       → HasValue board (class_with (places board) board.pebbles class)
       (round_of_word (slice_index words class))
   pub few : (class : ℕ) → class < class_count board → slice_index words class < OPEN
-      → slice_index words class < MAX_CLASSES
+      → slice_index words class < MAX_CONFIGURATIONS

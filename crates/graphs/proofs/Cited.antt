@@ -14,6 +14,6 @@ pub use Rattle.graphs.proofs.NumberedValues.{tree_of_lasts, lasts_of_tree, value
 pub use Rattle.graphs.proofs.NumberedValues.{forever_of_lasts, lasts_of_forever, places_are}
 pub use Rattle.graphs.proofs.Dominators.{ordered-gaps, dominator-some, dominator-none}
 pub use Rattle.graphs.proofs.ConfigurationNumbers.{configuration-is, gap-in-below, gap-in-legal, gap-in-moved}
-pub use Rattle.graphs.proofs.ConfigurationNumbers.{number-below, number-value, number_at-below}
-pub use Rattle.graphs.proofs.NumberWeights.{counted-numbers, counted-values}
+pub use Rattle.graphs.proofs.ConfigurationNumbers.{number-below, number-value}
 pub use Rattle.graphs.proofs.FewNumbers.{numbers-fit}
+pub use Rattle.graphs.proofs.RankTables.{answer-in, answer-of}

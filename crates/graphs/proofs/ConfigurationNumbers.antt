@@ -19,7 +19,7 @@ use Rattle.graphs.specs.Inside.Tables.{found_by}
 use Rattle.graphs.specs.declared.graph.Finder.{Finder}
 use Rattle.graphs.specs.declared.graph.Finder.TheVariants.{Ranks, Classes as ByClasses}
 use Rattle.graphs.specs.Numbered.{Numbered, numbered, graph_by, graph_of, configuration_by, configuration_of}
-use Rattle.graphs.specs.NumberedRanks.{number_by, number_in, gap_by, gap_in, number_at}
+use Rattle.graphs.specs.NumberedRanks.{number_by, number_in, gap_by, gap_in}
 use Rattle.graphs.proofs.OrderedGraphs as ranks
 use Rattle.graphs.proofs.ClassGraphs as kinds
 
@@ -129,9 +129,6 @@ module _ (n : Numbered) (is : IsBoard n.board) where
   pub number-value : (c : List ℕ) → IsConfiguration n.board c → (value : Value)
       → HasValue n.board c value ↔ HasValue n.board (configuration_of n (number_in n c)) value
   number-value c ok value = value-by n.numbering n.board is c ok value
-
-  pub number_at-below : (rank : ℕ) → rank < configurations n.board → number_at n rank < (graph_of n).configurations
-  number_at-below rank low = number-below (configuration_at n.board rank) (configuration_at_is n.board rank low)
 
   module _ (c : List ℕ) (p : ℕ) (ok : IsConfiguration n.board c) (low : p < n.board.pebbles) where
     pub gap-in-below : gap_in n c p < (graph_of n).gaps

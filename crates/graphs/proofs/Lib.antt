@@ -7,7 +7,6 @@ pub mod OrderedGraphs
 pub mod ClassGraphs
 pub mod NumberedGraphs
 pub mod ConfigurationNumbers
-pub mod NumberWeights
 pub mod Filling
 pub mod StruckFamilies
 pub mod FilledFamilies

@@ -15,10 +15,10 @@ use Rattle.graphs.proofs.OrderedGraphs.{struck-there, there-struck}
 
 -- the answers of a gap are its answers in the graph
 module _ (b : PlainBoard) (is : IsBoard b) (g : ℕ) (i : g < gaps b) where
-  answer-of : (v : ℕ) → IsAnswerIn (ordered b) g v → IsAnswer b g v
+  pub answer-of : (v : ℕ) → IsAnswerIn (ordered b) g v → IsAnswer b g v
   answer-of v is_in = there-struck b is g v i is_in.is_place is_in.struck
 
-  answer-in : (v : ℕ) → IsAnswer b g v → IsAnswerIn (ordered b) g v
+  pub answer-in : (v : ℕ) → IsAnswer b g v → IsAnswerIn (ordered b) g v
   answer-in v answer =
       let place = label_is_place b v answer.is_label in
       record { is_place = place; struck = struck-there b is g v i place answer }

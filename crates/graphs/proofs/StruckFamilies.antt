@@ -11,7 +11,7 @@ use Rattle.classes.specs.Classes.{put, Falls, IsClass}
 use Rattle.classes.specs.Numbers.{ways, class_number}
 use Rattle.positions.specs.Gaps.{AnswersGap}
 use Rattle.classes.specs.ClassGaps.{gap_at, index_in}
-use Rattle.classes.proofs.Places.{falls-more, put-none, put-past, put-here, index-past, index-here, others-put}
+use Rattle.classes.proofs.Places.{falls-more, index-put, put-none, put-past, put-here, others-put}
 use Rattle.classes.proofs.Ways.{ways-one}
 use Rattle.classes.proofs.Cited.{is-below, with-is, with-number, class_of-class, class_of-own, one-gap, place-cancel}
 use Rattle.classes.proofs.Cited.{place-below}
@@ -26,18 +26,6 @@ use Rattle.graphs.proofs.DominatingPebbles.{struck-found}
 
 abbrev with_least : List ℕ → ℕ → List ℕ
 with_least gap place = gap ++ (place ∷ [])
-
-index-put : (place : ℕ) (gap : List ℕ) → index_in place (put place gap) < length (put place gap)
-index-put place [] =
-    subst (λ l. index_in place l < length l) (sym (put-none place)) (let here =
-    index-here place place [] (omega arith) in omega (arith, here))
-index-put place (first ∷ others) = elim (cases_lt place first) [
-  | inl less ↦ subst (λ l. index_in place l < length l) (sym (put-past place first others less))
-      (let rest = index-put place others in let past = index-past place first (put place others) less in
-      omega (arith, rest, past))
-  | inr most ↦ subst (λ l. index_in place l < length l) (sym (put-here place first others most))
-      (let here = index-here place place (first ∷ others) (omega arith) in omega (arith, here))
-]
 
 number-least : (gap : List ℕ) (place : ℕ)
     → class_number (with_least gap place) ≡ class_number (with_least gap 0) + place

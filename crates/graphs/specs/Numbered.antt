@@ -1,10 +1,7 @@
 -- The two graphs of a board: its configurations in order, or their classes.
-use Rattle.std.specs.Prelude.{ℕ, ◌≤◌, List}
+use Rattle.std.specs.Prelude.{ℕ, List}
 use Rattle.board_text.specs.PlainBoard.{PlainBoard}
-use Rattle.positions.specs.Ranks.{configurations, configuration_at}
-use Rattle.positions.specs.declared.space.TheConstants.{MAX_CONFIGURATIONS}
-use Rattle.classes.specs.Numbers.{class_count}
-use Rattle.classes.specs.declared.counting.TheConstants.{MAX_CLASSES}
+use Rattle.positions.specs.Ranks.{configuration_at}
 use Rattle.graphs.specs.declared.graph.Numbering.{Numbering}
 use Rattle.graphs.specs.declared.graph.Numbering.TheVariants.{Ordered, Classes}
 use Rattle.graphs.specs.Graph.{PlainGraph}
@@ -18,11 +15,6 @@ pub record Numbered : Type 0 where
 
 abbrev pub numbered : PlainBoard → Numbering → Numbered
 numbered board numbering = record { board = board; numbering = numbering }
-
--- few enough configurations to have ranks, or classes to have numbers
-unfoldable pub IsFewBy : Numbering → PlainBoard → Type 0
-IsFewBy Ordered board = configurations board ≤ MAX_CONFIGURATIONS
-IsFewBy Classes board = class_count board ≤ MAX_CLASSES
 
 unfoldable pub graph_by : Numbering → PlainBoard → PlainGraph
 graph_by Ordered board = ordered board

@@ -4,11 +4,10 @@ ghost use Rattle.std.specs.Prelude.{◌≡◌, ℕ, ◌<◌, ◌≤◌, drop, le
 ghost use Rattle.std.specs.Prelude.{◌↔◌, IfOk, IsTrue, true, false};
 ghost use Rattle.board_text.specs.PlainBoard.{IsBoard};
 ghost use Rattle.positions.specs.Ranks.{configurations};
-ghost use Rattle.classes.specs.Numbers.{class_count};
 ghost use Rattle.graphs.specs.Answers.{AreAnswerBits, AreMembers};
 ghost use Rattle.graphs.specs.Graph.{IsGraph};
 ghost use Rattle.graphs.specs.Inside.Tables.{IsStruckTable};
-ghost use Rattle.graphs.specs.Numbered.{IsFewBy, numbered, graph_of};
+ghost use Rattle.graphs.specs.Numbered.{numbered, graph_of};
 ghost use Rattle.graphs.specs.Stuck.{AreStuckZeroed};
 ghost use Rattle.graphs.specs.declared.graph.Numbering.TheVariants.{Ordered};
 ghost use Rattle.graphs.specs.declared.graph.Numbering.TheVariants.{Classes as ClassesData};
@@ -17,8 +16,7 @@ use crate::class_numbers::ClassNumbers;
 use crate::numbers::{MAX_PLACES, Numbers, Tables, all_struck};
 use crate::ordered_numbers::OrderedNumbers;
 use board_text::{Board, Memory};
-use classes::{MAX_CLASSES, has_few_classes};
-use positions::{LabelSet, MAX_CONFIGURATIONS, is_small};
+use positions::{LabelSet, MAX_CONFIGURATIONS, Space};
 use std::alloc::Global;
 use std::marker::Model;
 
@@ -30,17 +28,6 @@ pub enum Numbering {
     /// A class of configurations: the places of all pebbles,
     /// or of all but one, whichever pebble holds which.
     Classes,
-}
-
-/// Whether `board` has few enough configurations to have ranks, or classes to have numbers, so that
-/// its graph by `numbering` can be made.
-pub fn has_few(board: &Board, numbering: Numbering) -> bool
-    ensures { IsTrue result ↔ IsFewBy numbering board.now }
-{
-    match numbering {
-        Numbering::Ordered => is_small(board),
-        Numbering::Classes => has_few_classes(board),
-    }
 }
 
 /// What finds the numbers of a board's configurations and of their gaps, and the members and
@@ -75,11 +62,12 @@ impl Model for Graph {
 }
 
 impl Graph {
-    /// The graph of `board` by `numbering`. The error is that memory ran out.
+    /// The graph of `board`, which has at most `MAX_CONFIGURATIONS` configurations, by `numbering`.
+    /// The error is that memory ran out.
     ///
     /// It takes time in the number of answers of all gaps.
     pub fn of(alloc: Global, board: &Board, numbering: Numbering) -> Result<Graph, Memory>
-        requires { IsFewBy numbering board.now }
+        requires { configurations board.now ≤ MAX_CONFIGURATIONS }
         ensures { IfOk result (λ graph. graph ≡ numbered board.now numbering) }
     {
         match numbering {
@@ -104,7 +92,7 @@ impl Graph {
 
     /// The graph of the classes of `board`.
     fn of_classes(alloc: Global, board: &Board) -> Result<Graph, Memory>
-        requires { class_count board.now ≤ MAX_CLASSES }
+        requires { configurations board.now ≤ MAX_CONFIGURATIONS }
         ensures { IfOk result (λ graph. graph ≡ numbered board.now ClassesData) }
     {
         let numbers = ClassNumbers::of(alloc, board)?;
@@ -124,11 +112,25 @@ impl Graph {
         }
     }
 
+    /// The space of the board. Numbers are ranks.
+    pub fn space(&self) -> &Space
+        requires { self.now.numbering ≡ Ordered }
+        ensures value { result.now ≡ self.now.board }
+        ensures is_board { IsBoard self.now.board }
+        ensures few { configurations self.now.board ≤ MAX_CONFIGURATIONS }
+    {
+        match &self.finder {
+            Finder::Ranks(numbers) => numbers.space(),
+            // A graph whose numbers are ranks has them from a space.
+            Finder::Classes(_) => unreachable!(),
+        }
+    }
+
     /// The number of configurations, each a number below it.
     pub fn configurations(&self) -> u32
         ensures value { result ≡ (graph_of self.now).configurations }
-        ensures few { result ≤ MAX_CLASSES }
-        ensures few_by { IsFewBy self.now.numbering self.now.board }
+        ensures few { result ≤ MAX_CONFIGURATIONS }
+        ensures small { configurations self.now.board ≤ MAX_CONFIGURATIONS }
         ensures graph { IsGraph (graph_of self.now) }
         ensures board { IsBoard self.now.board }
     {

@@ -1,19 +1,16 @@
 //! Laws, each the contract of a function without a body.
 
-ghost use Rattle.std.specs.Prelude.{◌≡◌, ◌↔◌, ◌<◌, ℕ, Bool, true, cond, List, slice_index};
+ghost use Rattle.std.specs.Prelude.{◌≡◌, ◌↔◌, ◌<◌, ℕ, List, slice_index};
 ghost use Rattle.board_text.specs.PlainBoard.{PlainBoard, IsBoard, IsConfiguration};
-ghost use Rattle.positions.specs.Counts.{HasSize};
 ghost use Rattle.positions.specs.Game.{Legal, moved};
-ghost use Rattle.positions.specs.Ranks.{configurations, configuration_at};
 ghost use Rattle.positions.specs.Value.{HasValue};
 ghost use Rattle.positions.specs.declared.value.Value.{Value as ValueData};
 ghost use Rattle.positions.specs.declared.value.Value.TheVariants.{Finite, Forever};
-ghost use Rattle.classes.specs.Sums.{sum_below};
 ghost use Rattle.graphs.specs.Answers.{IsAnswerIn};
 ghost use Rattle.graphs.specs.Graph.{PlainGraph, IsGraph};
 ghost use Rattle.graphs.specs.Lasting.{LastsExactly, LastsForever};
 ghost use Rattle.graphs.specs.Numbered.{Numbered, graph_of, configuration_of};
-ghost use Rattle.graphs.specs.NumberedRanks.{number_in, gap_in, number_at, AreNumberWeights};
+ghost use Rattle.graphs.specs.NumberedRanks.{number_in, gap_in};
 ghost use Rattle.graphs.specs.Shows.{ShowsGame};
 
 /// The values of a graph that shows a board are those of the configurations that its numbers stand
@@ -72,20 +69,4 @@ pub fn gaps_answer_requests()
         → IsBoard n.board → IsConfiguration n.board configuration → pebble < n.board.pebbles
         → Legal n.board configuration pebble label
         ↔ IsAnswerIn (graph_of n) (gap_in n configuration pebble) label }
-{}
-
-/// The weights of the numbers that pass a test count the configurations whose number passes it, and
-/// those of the numbers with a value count the configurations of that value.
-pub fn weights_count_configurations()
-    ensures passing { (n : Numbered) → (weights : List ℕ) → (test : ℕ → Bool) → IsBoard n.board
-        → AreNumberWeights n weights
-        → HasSize (λ rank. (rank < configurations n.board) × (test (number_at n rank) ≡ true))
-        (sum_below (graph_of n).configurations (λ x. cond (test x) (slice_index weights x) 0)) }
-    ensures values { (n : Numbered) → (weights : List ℕ) → (test : ℕ → Bool) → (value : ValueData)
-        → IsBoard n.board → AreNumberWeights n weights
-        → ((x : ℕ) → x < (graph_of n).configurations
-        → (test x ≡ true) ↔ HasValue n.board (configuration_of n x) value)
-        → HasSize (λ rank. (rank < configurations n.board)
-        × HasValue n.board (configuration_at n.board rank) value)
-        (sum_below (graph_of n).configurations (λ x. cond (test x) (slice_index weights x) 0)) }
 {}

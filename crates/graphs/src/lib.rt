@@ -6,14 +6,13 @@ mod class_numbers;
 mod families;
 mod graph;
 mod laws;
-mod numbered_ranks;
 mod numbers;
 mod ordered_numbers;
 mod stuck;
 
-pub use graph::{Graph, Numbering, has_few};
+pub use graph::{Graph, Numbering};
 pub use laws::{
     configurations_have_numbers, gaps_answer_requests, graphs_have_the_values_of_boards,
-    numbered_graphs_show_their_boards, weights_count_configurations,
+    numbered_graphs_show_their_boards,
 };
 pub use numbers::MAX_PLACES;

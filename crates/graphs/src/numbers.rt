@@ -5,11 +5,11 @@ ghost use Rattle.board_text.specs.PlainBoard.{IsBoard};
 ghost use Rattle.graphs.specs.Answers.{AreAnswerBits, AreMembers};
 ghost use Rattle.graphs.specs.Inside.Filling.{IsGapNoted};
 ghost use Rattle.graphs.specs.Inside.Tables.{AreTables, IsStruckTable};
-ghost use Rattle.graphs.specs.Numbered.{IsFewBy, Numbered, graph_of};
+ghost use Rattle.graphs.specs.Numbered.{Numbered, graph_of};
+ghost use Rattle.positions.specs.Ranks.{configurations};
 
 use board_text::{MAX_LABELS, Memory};
-use classes::MAX_CLASSES;
-use positions::LabelSet;
+use positions::{LabelSet, MAX_CONFIGURATIONS};
 use std::alloc::Global;
 
 /// The most places that a pebble can have: those of the labels, and one without a label.
@@ -23,8 +23,8 @@ pub(crate) trait Numbers {
     /// The number of configurations.
     fn configurations(&self) -> u32
         ensures value { result ≡ (graph_of (game self.now)).configurations }
-        ensures few { result ≤ MAX_CLASSES }
-        ensures few_by { IsFewBy (game self.now).numbering (game self.now).board }
+        ensures few { result ≤ MAX_CONFIGURATIONS }
+        ensures small { configurations (game self.now).board ≤ MAX_CONFIGURATIONS }
         ensures is_board { IsBoard (game self.now).board };
 
     /// The number of gaps.

@@ -8,7 +8,7 @@ use Rattle.std.proofs.Math.ListN.{get_or-map}
 use Rattle.std.proofs.lemmas.List.{get_or_default, length-map, map-set, set_comm, set-set, set-append_left, set-get_or}
 use Rattle.graphs.specs.Graph.{PlainGraph}
 use Rattle.graphs.specs.Numbered.{graph_of}
-use Rattle.solver.specs.declared.word.TheConstants.{OPEN}
+use Rattle.gap_values.specs.declared.closing.TheConstants.{OPEN}
 use Rattle.solver.specs.Solving.{Solving, IsSolving}
 use Rattle.solver.specs.Words.{value_of_word}
 use Rattle.retro_core.specs.Round.{PlainSeat, Round, spent_seat, seat_at, IsDue, IsLawful, first_of, seat_struck}

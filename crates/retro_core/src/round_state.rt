@@ -14,8 +14,9 @@ ghost use Rattle.retro_core.specs.Stepping.{Does, IsAllowed, LacksSeat, Refuses}
 use crate::seat::Seat;
 use crate::step::{Seen, Step, StepFault};
 use board_text::Memory;
+use gap_values::OPEN;
 use index_lists::ListStore;
-use solver::{OPEN, Solver, value_of};
+use solver::{Solver, value_of};
 use std::alloc::Global;
 use std::marker::Model;
 use std::mem;

@@ -6,7 +6,6 @@ use Rattle.board_text.proofs.Cited.{some_places}
 use Rattle.positions.specs.Ranks.{configurations}
 use Rattle.positions.specs.declared.space.TheConstants.{MAX_CONFIGURATIONS}
 use Rattle.classes.specs.Numbers.{class_count, ways}
-use Rattle.classes.specs.declared.counting.TheConstants.{MAX_CLASSES}
 use Rattle.classes.proofs.Cited.{few-of-small, ways-within}
 use Rattle.gap_values.specs.declared.rounds.TheConstants.{MAX_GAPS}
 use Rattle.runs.specs.Texts.{IsWithinLimit}
@@ -17,7 +16,7 @@ use Rattle.command_line.specs.declared.asked.BoardLimit.TheVariants.{Small, Larg
 pub few_gaps : (limit : BoardLimit) (board : PlainBoard) → IsBoard board → IsWithinLimit limit board
     → ways (board.pebbles - 1) (places board) ≤ MAX_GAPS
 few_gaps Small board is few =
-    let classes : class_count board ≤ MAX_CLASSES = few-of-small board few in
+    let classes : class_count board ≤ MAX_CONFIGURATIONS = few-of-small board few in
     let less : ways (board.pebbles - 1) (places board) ≤ ways board.pebbles (places board) =
     ways-within (board.pebbles - 1) board.pebbles (places board) (places board) (omega arith) (omega arith)
     (some_places board is) in

@@ -4,5 +4,5 @@
 mod solved;
 
 pub use solved::{
-    class_solver_of, gap_values_of, solver_of, value, values_by_classes, values_of, values_over,
+    class_solver_of, gap_values_of, solver_of, value, values_of, values_over,
 };

@@ -8,7 +8,6 @@ ghost use Rattle.graphs.specs.Numbered.{numbered};
 ghost use Rattle.solver.specs.Solving.{IsFresh};
 
 use board_text::{Board, Memory};
-use classes::has_few_classes;
 use gap_values::{GapValues, has_few_gaps};
 use index_lists::{ListStore, PlainLists};
 use positions::{MAX_CONFIGURATIONS, Value, is_small};
@@ -25,12 +24,12 @@ pub fn solver_of<S: ListStore + Drop>(alloc: Global, board: &Board) -> Result<So
     }
 }
 
-/// The solver of a board that hasn't too many classes, by these. `Solver::of_classes` is asked once
-/// more if it was refused memory.
+/// The solver of a board that isn't too large, by classes. `Solver::of_classes` is asked once more
+/// if it was refused memory.
 pub fn class_solver_of<S: ListStore + Drop>(alloc: Global, board: &Board) -> Option<Solver<S>>
     ensures { IfSome result (λ solver. IsFresh (numbered board.now Classes) solver) }
 {
-    if !has_few_classes(board) {
+    if !is_small(board) {
         return None;
     }
     match Solver::of_classes(alloc, board) {
@@ -54,17 +53,6 @@ pub fn values_over<S: ListStore + Drop>(alloc: Global, board: &Board) -> Option<
 {
     let solver = solver_of::<S>(alloc, board).ok()?;
     Some(solver.solve())
-}
-
-/// The values of a board that isn't too large, found by classes.
-pub fn values_by_classes(alloc: Global, board: &Board) -> Option<Values>
-    ensures { IfSome result (λ values. values ≡ board.now) }
-{
-    if !is_small(board) {
-        return None;
-    }
-    let solver = class_solver_of::<PlainLists>(alloc, board)?;
-    Some(Values::new(solver.solve_numbered(), board))
 }
 
 /// The values of a board that hasn't too many gaps, which may be one without ranks, by its gaps.

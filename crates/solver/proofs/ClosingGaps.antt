@@ -1,7 +1,7 @@
 -- A gap closes: its open members are filed one after the other.
 use Rattle.std.proofs.Common.{◌≡◌, ℕ, ◌+◌, ◌<◌, ◌≤◌, true, false, refl, arith, sym, ap, ◌∙◌, subst, length, slice_set}
 use Rattle.graphs.specs.Numbered.{Numbered, graph_of}
-use Rattle.classes.specs.declared.counting.TheConstants.{MAX_CLASSES}
+use Rattle.positions.specs.declared.space.TheConstants.{MAX_CONFIGURATIONS}
 use Rattle.graphs.specs.Graph.{PlainGraph, IsGraph}
 use Rattle.graphs.proofs.Cited.{member-is}
 use Rattle.solver.specs.Inside.Stage.{PlainStage, rank_filed, IsFiled, IsKeptStage, Closes}
@@ -12,7 +12,7 @@ use Rattle.solver.proofs.ListedWords.{IsClosing, closing-step, closing-end, shut
 -- a board that isn't too large, a value of at most its number of configurations, and one of its gaps
 pub record IsToClose (s : PlainStage) (gap : ℕ) : Type 0 where
   pub is_graph : IsGraph (graph_of s.game)
-  pub few : (graph_of s.game).configurations ≤ MAX_CLASSES
+  pub few : (graph_of s.game).configurations ≤ MAX_CONFIGURATIONS
   pub low : s.value ≤ (graph_of s.game).configurations
   pub is_gap : gap < (graph_of s.game).gaps
 

@@ -9,7 +9,7 @@ use Rattle.std.proofs.lemmas.List.FromFn.{length-map-range_with_len, get_or-map-
 use Rattle.index_lists.specs.Lists.{Lists, times, AreLists, AreSame, node_pushed}
 use Rattle.index_lists.proofs.Cited.{cond_same, cond_other, times-append}
 use Rattle.graphs.specs.Numbered.{Numbered, graph_of}
-use Rattle.classes.specs.declared.counting.TheConstants.{MAX_CLASSES}
+use Rattle.positions.specs.declared.space.TheConstants.{MAX_CONFIGURATIONS}
 use Rattle.solver.specs.Inside.Stage.{first_lists, PlainStage, stage_of, filed_at, rank_listed, rank_filed, IsFiled}
 use Rattle.solver.specs.Inside.Tables.{is_open}
 use Rattle.graphs.proofs.Cited.{same_or_not}
@@ -103,7 +103,7 @@ module _ (s : PlainStage) (rank : ℕ) where
 -- an open configuration, which the value may be filed for
 pub record IsToFile (s : PlainStage) (rank : ℕ) : Type 0 where
   pub filed_are : IsFiled s
-  pub few : (graph_of s.game).configurations ≤ MAX_CLASSES
+  pub few : (graph_of s.game).configurations ≤ MAX_CONFIGURATIONS
   pub low : s.value ≤ (graph_of s.game).configurations
   pub is_rank : rank < (graph_of s.game).configurations
   pub still_open : is_open s.values rank ≡ true

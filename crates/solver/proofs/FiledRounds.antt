@@ -7,7 +7,7 @@ use Rattle.std.proofs.lemmas.List.{append_assoc, take_more, take-append-drop}
 use Rattle.index_lists.specs.Lists.{times}
 use Rattle.index_lists.proofs.Cited.{cond_other, times-append, times-here}
 use Rattle.positions.specs.Counts.{HasSize}
-use Rattle.classes.specs.declared.counting.TheConstants.{MAX_CLASSES}
+use Rattle.positions.specs.declared.space.TheConstants.{MAX_CONFIGURATIONS}
 use Rattle.positions.proofs.Cited.{same_size}
 use Rattle.graphs.specs.Graph.{PlainGraph, IsGraph, live_answers, lasts}
 use Rattle.graphs.specs.Numbered.{Numbered, graph_of}
@@ -28,7 +28,7 @@ use Rattle.solver.proofs.StageStrikes.{unstruck-none, filed-counting}
 -- ---- filing one after the other
 
 pub files-more : (s : PlainStage) (ranks : List ℕ) (rank : ℕ) (now : PlainStage)
-    → (graph_of s.game).configurations ≤ MAX_CLASSES → s.value ≤ (graph_of s.game).configurations
+    → (graph_of s.game).configurations ≤ MAX_CONFIGURATIONS → s.value ≤ (graph_of s.game).configurations
     → rank < (graph_of s.game).configurations → is_open s.values rank ≡ true → times rank ranks ≡ 0
     → FilesAll s ranks now → FilesAll s (ranks ++ rank ∷ []) (rank_filed now rank)
 files-more s ranks rank now few low i still new so_far =

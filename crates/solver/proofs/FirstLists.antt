@@ -7,13 +7,13 @@ use Rattle.std.proofs.lemmas.Bool.{cases_lt}
 use Rattle.std.proofs.lemmas.List.Quantifiers.{all_pairs_push}
 use Rattle.index_lists.specs.Lists.{times}
 use Rattle.index_lists.proofs.Cited.{cond_same, cond_other, times-append}
-use Rattle.classes.specs.declared.counting.TheConstants.{MAX_CLASSES}
+use Rattle.positions.specs.declared.space.TheConstants.{MAX_CONFIGURATIONS}
 use Rattle.graphs.specs.Graph.{PlainGraph, is_answered, lasts}
 use Rattle.graphs.specs.Numbered.{Numbered, graph_of}
 use Rattle.solver.specs.Inside.Stage.{PlainStage, filed_at, rank_listed}
 use Rattle.solver.specs.Inside.Opening.{IsUnlisted, IsOpened}
 use Rattle.solver.specs.Inside.Tables.{is_open, AreWords, AreFirstWords}
-use Rattle.solver.specs.declared.word.TheConstants.{OPEN}
+use Rattle.gap_values.specs.declared.closing.TheConstants.{OPEN}
 use Rattle.solver.proofs.FiledRanks.{listed-here, listed-away}
 use Rattle.graphs.proofs.Cited.{same_or_not, true_or_false}
 use Rattle.solver.proofs.ListedWords.{times_one, times_none}
@@ -126,7 +126,7 @@ module _ (a : PlainGraph) (words : List ℕ) (are : AreFirstWords a words) where
   }
 
 pub all-listed : (s : PlainStage) (rank : ℕ) (now : PlainStage) → IsUnlisted s
-    → (graph_of s.game).configurations ≤ MAX_CLASSES → rank ≡ (graph_of s.game).configurations → IsListing s rank now
+    → (graph_of s.game).configurations ≤ MAX_CONFIGURATIONS → rank ≡ (graph_of s.game).configurations → IsListing s rank now
     → IsOpened now
 all-listed s rank now are few all l = record {
   value_is = l.value_is;

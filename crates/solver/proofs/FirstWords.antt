@@ -8,7 +8,7 @@ use Rattle.graphs.specs.Graph.{PlainGraph, IsGraph, is_member, is_answered, last
 use Rattle.graphs.specs.Stuck.{AreStuckZeroed}
 use Rattle.solver.specs.Inside.Opening.{AreZeroed}
 use Rattle.solver.specs.Inside.Tables.{IsCounted, AreFirstWords}
-use Rattle.solver.specs.declared.word.TheConstants.{OPEN}
+use Rattle.gap_values.specs.declared.closing.TheConstants.{OPEN}
 use Rattle.graphs.proofs.Cited.{member-is, member-at}
 use Rattle.graphs.proofs.Cited.{true_or_false, true_not_false, same_or_not, next-closed, next-fails}
 

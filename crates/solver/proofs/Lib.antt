@@ -18,7 +18,6 @@ pub mod OpenMembers
 pub mod Lending
 pub mod RoundsLeft
 pub mod Cited
-pub mod ValueSizes
-pub mod RankSpaces
-pub mod GapResults
+pub mod FoundWords
+pub mod RankValues
 pub mod SafeWalks

@@ -7,7 +7,7 @@ use Rattle.index_lists.specs.Lists.{times}
 use Rattle.index_lists.proofs.Cited.{same_is, differ_is, times-later}
 use Rattle.graphs.specs.Graph.{PlainGraph, is_member}
 use Rattle.solver.specs.Inside.Tables.{is_open, GapIsClosed}
-use Rattle.solver.specs.declared.word.TheConstants.{OPEN}
+use Rattle.gap_values.specs.declared.closing.TheConstants.{OPEN}
 use Rattle.graphs.proofs.Cited.{member-at}
 use Rattle.graphs.proofs.Cited.{true_or_false, true_not_false, same_or_not}
 

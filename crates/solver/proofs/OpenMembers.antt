@@ -4,7 +4,7 @@ use Rattle.graphs.specs.Graph.{PlainGraph}
 use Rattle.graphs.proofs.Cited.{same_is}
 use Rattle.solver.specs.Inside.SourceWalk.{open_from}
 use Rattle.solver.specs.Inside.Tables.{is_open, members_from}
-use Rattle.solver.specs.declared.word.TheConstants.{OPEN}
+use Rattle.gap_values.specs.declared.closing.TheConstants.{OPEN}
 use Rattle.solver.proofs.ListedWords.{valued_word}
 use Rattle.solver.proofs.Sources.{members-skip, members-take}
 

@@ -5,7 +5,7 @@ use Rattle.std.proofs.lemmas.Bool.Decides.{nat_tests}
 use Rattle.index_lists.specs.Lists.{times}
 use Rattle.index_lists.proofs.Cited.{times-here, times-more, times-later}
 use Rattle.graphs.specs.Numbered.{graph_of}
-use Rattle.classes.specs.declared.counting.TheConstants.{MAX_CLASSES}
+use Rattle.positions.specs.declared.space.TheConstants.{MAX_CONFIGURATIONS}
 use Rattle.graphs.specs.Graph.{PlainGraph, IsGraph, live_answers, lasts}
 use Rattle.solver.specs.Inside.Stage.{PlainStage, with_counts, strikes_copied, IsFiled, IsKeptStage, Closes, IsStruckAt}
 use Rattle.solver.specs.Inside.Stage.{IsStriking}
@@ -167,7 +167,7 @@ module _ (s : PlainStage) (is : IsGraph (graph_of s.game)) (c : ℕ) (rest : Lis
       once = fewer;
     }
 
-    pub struck-closed : (s' : PlainStage) → n ≡ 0 → (graph_of s.game).configurations ≤ MAX_CLASSES
+    pub struck-closed : (s' : PlainStage) → n ≡ 0 → (graph_of s.game).configurations ≤ MAX_CONFIGURATIONS
         → s.value ≤ (graph_of s.game).configurations → Closes (with_counts s (slice_set s.counts g n)) g s'
         → IsStriking s' rest
     struck-closed s' none few low closes =

@@ -11,14 +11,15 @@ use Rattle.index_lists.specs.Lists.{times}
 use Rattle.index_lists.proofs.Cited.{cond_same, cond_other, times-here}
 use Rattle.board_text.specs.PlainBoard.{IsBoard}
 use Rattle.positions.specs.declared.value.Value.TheVariants.{Finite}
+use Rattle.positions.specs.Ranks.{configurations}
 use Rattle.positions.specs.Value.{HasValue}
-use Rattle.graphs.specs.Numbered.{Numbered, graph_of, configuration_of, IsFewBy}
+use Rattle.graphs.specs.Numbered.{Numbered, graph_of, configuration_of}
 use Rattle.solver.specs.Words.{value_of_word}
 use Rattle.graphs.proofs.Cited.{numbered-is, numbered-shows, some-configurations}
 use Rattle.solver.specs.Inside.Opening.{IsOpened}
 use Rattle.graphs.proofs.Cited.{number-below, number-value, worth-is, tree_of_lasts, lasts_of_tree, forever_of_lasts}
 use Rattle.solver.proofs.AnswerSizes.{live-size, above-size}
-use Rattle.classes.specs.declared.counting.TheConstants.{MAX_CLASSES}
+use Rattle.positions.specs.declared.space.TheConstants.{MAX_CONFIGURATIONS}
 use Rattle.graphs.specs.Graph.{PlainGraph, IsGraph, count_below, is_member, lasts, is_struck}
 use Rattle.positions.specs.declared.value.Value.TheVariants.{Forever}
 use Rattle.positions.specs.Counts.{HasSize}
@@ -97,7 +98,7 @@ filed-few s v x f = elim (cases_lt 0 (times x (filed_at s v))) [
 
 -- ---- the start and the end of a round
 
-module _ (s : PlainStage) (is : IsGraph (graph_of s.game)) (few : (graph_of s.game).configurations ≤ MAX_CLASSES) where
+module _ (s : PlainStage) (is : IsGraph (graph_of s.game)) (few : (graph_of s.game).configurations ≤ MAX_CONFIGURATIONS) where
   abbrev a : PlainGraph
   a = (graph_of s.game)
 
@@ -225,16 +226,17 @@ filed-turned : (s : PlainStage) → IsFiled s → IsFiled (at_next_value s)
 filed-turned s f =
     record { values_length = f.values_length; lists_length = f.lists_length; below = f.below; once = f.once }
 
-pub start-state : (s : PlainStage) → IsBoard s.game.board → (graph_of s.game).configurations ≤ MAX_CLASSES
-    → IsFewBy s.game.numbering s.game.board → IsOpened s → IsState (at_next_value s) ((at_next_value s).value - 1) false
-start-state s board few few_by opened =
+pub start-state : (s : PlainStage) → IsBoard s.game.board → (graph_of s.game).configurations ≤ MAX_CONFIGURATIONS
+    → configurations s.game.board ≤ MAX_CONFIGURATIONS → IsOpened s
+    → IsState (at_next_value s) ((at_next_value s).value - 1) false
+start-state s board few small opened =
     let some = some-configurations s.game board in
     let zero_is : 0 ≡ s.value + 1 - 1 = (let at = opened.value_is in omega arith) in
     subst (λ n. IsState (at_next_value s) n false) zero_is (record {
       is_board = board;
       is_graph = numbered-is s.game board;
       few = few;
-      few_by = few_by;
+      small = small;
       value_is = (let at = opened.value_is in omega arith);
       stage = record {
         counts_are = opened.stage.counts_are;
@@ -398,7 +400,7 @@ module _ (s : PlainStage) (round : ℕ) (is_done : Bool) (st : IsState s round i
   solving_of = record {
     is_board = st.is_board;
     few = st.few;
-    few_by = st.few_by;
+    small = st.small;
     below = round-below;
     buckets = record {
       filed = filed-exactly;
@@ -495,11 +497,11 @@ module _ (s : PlainStage) (round : ℕ) (is_done : Bool) (st : IsState s round i
     board' : IsBoard s'.game.board
     board' = subst (λ (n : Numbered). IsBoard n.board) (sym kept.game_is) st.is_board
 
-    few' : (graph_of s'.game).configurations ≤ MAX_CLASSES
-    few' = subst (λ (p : PlainGraph). p.configurations ≤ MAX_CLASSES) (sym (ap graph_of kept.game_is)) st.few
+    few' : (graph_of s'.game).configurations ≤ MAX_CONFIGURATIONS
+    few' = subst (λ (p : PlainGraph). p.configurations ≤ MAX_CONFIGURATIONS) (sym (ap graph_of kept.game_is)) st.few
 
-    few_by' : IsFewBy s'.game.numbering s'.game.board
-    few_by' = subst (λ (n : Numbered). IsFewBy n.numbering n.board) (sym kept.game_is) st.few_by
+    small' : configurations s'.game.board ≤ MAX_CONFIGURATIONS
+    small' = subst (λ (n : Numbered). configurations n.board ≤ MAX_CONFIGURATIONS) (sym kept.game_is) st.small
 
     below' : round < (graph_of s'.game).configurations
     below' = subst (λ (p : PlainGraph). round < p.configurations) (sym (ap graph_of kept.game_is)) round-below
@@ -515,7 +517,7 @@ module _ (s : PlainStage) (round : ℕ) (is_done : Bool) (st : IsState s round i
       is_board = board';
       is_graph = graph';
       few = few';
-      few_by = few_by';
+      small = small';
       value_is = value_is;
       stage = after;
       some = subst (λ (p : PlainGraph). 0 < count_below p.configurations (lasts p round))
@@ -558,7 +560,7 @@ module _ (s : PlainStage) (round : ℕ) (is_done : Bool) (st : IsState s round i
           is_board = board';
           is_graph = graph';
           few = few';
-          few_by = few_by';
+          small = small';
           value_is = (let at = value_is in omega arith);
           stage = record {
             counts_are = after.counts_are;

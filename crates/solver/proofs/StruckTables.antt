@@ -5,7 +5,7 @@ use Rattle.std.proofs.Math.ListN.{length-set}
 use Rattle.std.proofs.lemmas.Bool.Decides.{nat_tests}
 use Rattle.graphs.specs.Graph.{PlainGraph, IsGraph, is_member, live_answers, is_answered, lasts}
 use Rattle.solver.specs.Inside.Tables.{is_open, IsCounted, AreWords, GapIsClosed}
-use Rattle.solver.specs.declared.word.TheConstants.{OPEN}
+use Rattle.gap_values.specs.declared.closing.TheConstants.{OPEN}
 use Rattle.graphs.proofs.Cited.{without, IsBetween, member-at}
 use Rattle.graphs.proofs.Cited.{both_true, and_true, true_or_false, true_not_false, same_or_not, live-le, live-same}
 use Rattle.graphs.proofs.Cited.{next-closed, next-le, next-same}

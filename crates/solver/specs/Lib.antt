@@ -3,7 +3,6 @@ pub mod Ending
 pub mod Striking
 pub mod Words
 pub mod Sizes
-pub mod GapRequests
 pub mod LabelSets
 pub mod SafeAnswers
 pub mod Inside

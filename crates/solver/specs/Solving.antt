@@ -3,13 +3,14 @@ use Rattle.std.specs.Prelude.{◌≡◌, ℕ, suc, ◌+◌, ◌<◌, ◌≤◌, 
 use Rattle.std.specs.Prelude.{filter, AllPairs, slice_index_or}
 use Rattle.board_text.specs.PlainBoard.{PlainBoard, IsBoard, IsConfiguration}
 use Rattle.index_lists.specs.Lists.{times}
-use Rattle.classes.specs.declared.counting.TheConstants.{MAX_CLASSES}
+use Rattle.positions.specs.declared.space.TheConstants.{MAX_CONFIGURATIONS}
 use Rattle.positions.specs.declared.value.Value.TheVariants.{Finite, Forever}
 use Rattle.positions.specs.Game.{LabellerTree}
+use Rattle.positions.specs.Ranks.{configurations}
 use Rattle.positions.specs.Value.{HasValue}
 use Rattle.graphs.specs.Answers.{IsAnswerIn}
 use Rattle.graphs.specs.Graph.{is_struck}
-use Rattle.graphs.specs.Numbered.{Numbered, graph_of, configuration_of, IsFewBy}
+use Rattle.graphs.specs.Numbered.{Numbered, graph_of, configuration_of}
 
 -- a board and what its numbers stand for, the last round that filed something, whether a later one
 -- filed nothing; the configurations filed at each value, the members of each gap that are not
@@ -66,8 +67,8 @@ to_strike s = filter (is_struck (graph_of s.game)) (bucket s s.rounds)
 -- the knowledge of a solver, whenever no call of it runs
 pub record IsSolving (s : Solving) : Type 0 where
   pub is_board : IsBoard s.game.board
-  pub few : (graph_of s.game).configurations ≤ MAX_CLASSES
-  pub few_by : IsFewBy s.game.numbering s.game.board
+  pub few : (graph_of s.game).configurations ≤ MAX_CONFIGURATIONS
+  pub small : configurations s.game.board ≤ MAX_CONFIGURATIONS
   pub below : s.rounds < (graph_of s.game).configurations
   pub buckets : AreBuckets s
   pub sources : AreOpenMembers s

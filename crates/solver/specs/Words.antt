@@ -6,10 +6,10 @@ use Rattle.std.specs.Prelude.{Option, Some, None}
 use Rattle.positions.specs.declared.value.Value.TheVariants.{Finite}
 use Rattle.positions.specs.Value.{HasValue}
 use Rattle.positions.specs.Counts.{HasSize}
-use Rattle.classes.specs.declared.counting.TheConstants.{MAX_CLASSES}
+use Rattle.positions.specs.declared.space.TheConstants.{MAX_CONFIGURATIONS}
 use Rattle.gap_values.specs.Inside.Words.{round_of_word}
 use Rattle.graphs.specs.Numbered.{Numbered, graph_of, configuration_of}
-use Rattle.solver.specs.declared.word.TheConstants.{OPEN}
+use Rattle.gap_values.specs.declared.closing.TheConstants.{OPEN}
 use Rattle.solver.specs.Solving.{Solving, AnswerLasts}
 
 -- the value that a word stands for, if it stands for one
@@ -33,4 +33,4 @@ pub record AreValueWords (n : Numbered) (words : List ℕ) : Type 0 where
   pub each : (x : ℕ) → x < (graph_of n).configurations
       → HasValue n.board (configuration_of n x) (round_of_word (slice_index words x))
   pub few : (x : ℕ) → x < (graph_of n).configurations → slice_index words x ≢ OPEN
-      → slice_index words x < MAX_CLASSES
+      → slice_index words x < MAX_CONFIGURATIONS

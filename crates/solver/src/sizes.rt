@@ -1,48 +1,45 @@
 //! How many configurations have each value.
 
-ghost use Rattle.std.specs.Prelude.{◌≡◌, ◌^◌, ◌<◌, ◌≤◌, ℕ, [], false, length, slice_index};
-ghost use Rattle.std.specs.Prelude.{vec_capacity};
-ghost use Rattle.classes.specs.Sums.{sum_below};
+ghost use Rattle.std.specs.Prelude.{◌≡◌, ◌^◌, ◌<◌, ◌≤◌, ℕ, false, length, slice_index, vec_capacity};
+ghost use Rattle.graphs.specs.Graph.{count_below};
 ghost use Rattle.solver.specs.Inside.Tables.{is_open};
-ghost use Rattle.solver.specs.Inside.Values.{weighed, AreSums, AreZeros};
+ghost use Rattle.solver.specs.Inside.Values.{AreWordCounts, AreZeros};
 
-use crate::word::OPEN;
+use gap_values::OPEN;
 
-/// This number of zeros, in the room of an empty list.
-pub(crate) fn zeros(room: Vec<u64>, count: u32) -> Vec<u64>
-    requires empty { room.items ≡ [] }
+/// This number of zeros, in the room of a list that is no longer needed.
+pub(crate) fn zeros(room: Vec<u32>, count: u32) -> Vec<u32>
     requires room { count ≤ vec_capacity room }
     ensures size { length result.items ≡ count }
     ensures zeros { AreZeros result.items }
 {
     let mut sizes = room;
+    sizes.clear();
     for _ in 0..count {
         sizes.push_reserved(0);
     }
     sizes
 }
 
-/// Adds the weight of each number to the size of the value that is its word, and returns the sum of
-/// the weights of those whose word is `OPEN`.
-pub(crate) fn add_weights(sizes: &mut [u64], words: &[u32], weights: &[u16]) -> u64
-    requires wide { length weights.now ≡ length words.now }
+/// Counts the words that are each value in `sizes`, which are all 0, and returns the number of
+/// those that are `OPEN`.
+pub(crate) fn count_words(sizes: &mut [u32], words: &[u32]) -> u32
     requires zeros { AreZeros sizes.old }
     requires inside { (x : ℕ) → x < length words.now → is_open words.now x ≡ false
         → slice_index words.now x < length sizes.old }
     requires small { length sizes.old ≤ OPEN }
-    requires few { sum_below (length words.now) (slice_index weights.now) < 2 ^ 64 }
+    requires few { length words.now < 2 ^ 32 }
     ensures size { length sizes.new ≡ length sizes.old }
-    ensures sums { AreSums words.now weights.now (length words.now) sizes.new }
-    ensures forever { result ≡ weighed weights.now (is_open words.now) (length words.now) }
+    ensures counts { AreWordCounts words.now (length words.now) sizes.new }
+    ensures forever { result ≡ count_below (length words.now) (is_open words.now) }
 {
     let mut forever = 0;
     for number in 0..words.len() {
         let word = words[number];
-        let weight = weights[number] as u64;
         if word == OPEN {
-            forever += weight;
+            forever += 1;
         } else {
-            sizes[word as usize] += weight;
+            sizes[word as usize] += 1;
         }
     }
     forever

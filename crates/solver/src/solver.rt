@@ -10,31 +10,25 @@ ghost use Rattle.positions.specs.declared.value.Value.TheVariants.{Finite};
 ghost use Rattle.positions.specs.Value.{HasValue};
 ghost use Rattle.positions.specs.Ranks.{configurations};
 ghost use Rattle.positions.specs.Gaps.{IsDominator};
-ghost use Rattle.classes.specs.Numbers.{class_count};
-ghost use Rattle.graphs.specs.NumberedRanks.{AreNumberWeights};
-ghost use Rattle.graphs.specs.Numbered.{IsFewBy, numbered, graph_of, configuration_of};
+ghost use Rattle.graphs.specs.Numbered.{numbered, graph_of, configuration_of};
 ghost use Rattle.positions.specs.Counts.{HasSize, IsSmallest};
 ghost use Rattle.solver.specs.Words.{value_of_word, AreFirstCounts, AreFirstValues, AreValueWords};
 ghost use Rattle.solver.specs.Ending.{IsRoundEnd};
-ghost use Rattle.solver.specs.Inside.Stage.{HasSpaceBy};
 ghost use Rattle.solver.specs.Solving.{IsSolving, IsFresh, HasFiled, HasFoundNone, bucket, source};
 ghost use Rattle.solver.specs.Solving.{AnswerLasts, AnswerForever, to_strike};
 
 use crate::end::RoundEnd;
 use crate::fault::SolveFault;
 use crate::next_value::{ByStrikes, FromEnd, NextValue};
-use crate::numbered_values::NumberedValues;
 use crate::progress::Progress;
-use crate::sizes::{add_weights, zeros};
 use crate::source_walk::SourceWalk;
 use crate::stage::Stage;
 use crate::values::Values;
 use crate::word::value_of;
 use board_text::{Board, Memory};
-use classes::MAX_CLASSES;
 use graphs::{Graph, Numbering};
 use index_lists::ListStore;
-use positions::{MAX_CONFIGURATIONS, Space, TooLarge};
+use positions::{MAX_CONFIGURATIONS, Space, is_small};
 use std::alloc::Global;
 use std::marker::Model;
 
@@ -46,26 +40,19 @@ use std::marker::Model;
 #[derive(Drop)]
 pub struct Solver<S: ListStore> {
     stage: Stage<S>,
-    /// The space of the board, if numbers are ranks.
-    space: Option<Space>,
-    /// How many configurations have each number.
-    weights: Vec<u16>,
-    /// Room for the number of configurations of each finite value.
-    sizes: Vec<u64>,
     done: bool,
 }
 
 impl<S: ListStore> Model for Solver<S> {
-    ghost use Rattle.std.specs.Prelude.{◌≡◌, ◌-◌, vec_capacity};
+    ghost use Rattle.std.specs.Prelude.{◌-◌};
     ghost use Rattle.solver.specs.Solving.{Solving};
-    ghost use Rattle.solver.specs.Inside.Stage.{IsState, IsEquipped, as_solving};
+    ghost use Rattle.solver.specs.Inside.Stage.{IsState, as_solving};
 
     ghost Value = { Solving };
 
     ghost view = { λ s. as_solving s.stage s.done };
 
-    ghost invariant = { λ s. IsState s.stage (s.stage.value - 1) s.done
-        × IsEquipped s.stage.game s.space s.weights.items s.sizes.items (vec_capacity s.sizes) };
+    ghost invariant = { λ s. IsState s.stage (s.stage.value - 1) s.done };
 }
 
 impl<S: ListStore + Drop> Solver<S> {
@@ -78,63 +65,34 @@ impl<S: ListStore + Drop> Solver<S> {
             ↔ (MAX_CONFIGURATIONS < configurations board.now) }
         ensures no_worker { result ≡ Err SolveFault.Worker → ⊥ }
     {
-        match Space::of(board) {
-            Ok(space) => match Solver::start(alloc, board, Numbering::Ordered, Some(space)) {
-                Ok(solver) => Ok(solver),
-                Err(Memory) => Err(SolveFault::Memory),
-            },
-            Err(TooLarge) => Err(SolveFault::TooLarge),
+        if !is_small(board) {
+            return Err(SolveFault::TooLarge);
+        }
+        match Solver::start(alloc, board, Numbering::Ordered) {
+            Ok(solver) => Ok(solver),
+            Err(Memory) => Err(SolveFault::Memory),
         }
     }
 
-    /// A solver of `board`, which has few classes, whose numbers are those of classes of
-    /// configurations, whichever pebble holds which label. It has filed the classes of value 0, in
-    /// ascending order.
+    /// A solver of `board`, which has at most `MAX_CONFIGURATIONS` configurations, whose numbers are
+    /// those of classes of configurations, whichever pebble holds which label. It has filed the
+    /// classes of value 0, in ascending order.
     pub fn of_classes(alloc: Global, board: &Board) -> Result<Solver<S>, Memory>
-        requires few { class_count board.now ≤ MAX_CLASSES }
+        requires few { configurations board.now ≤ MAX_CONFIGURATIONS }
         ensures { IfOk result (λ solver. IsFresh (numbered board.now Numbering.Classes) solver) }
     {
-        Solver::start(alloc, board, Numbering::Classes, None)
+        Solver::start(alloc, board, Numbering::Classes)
     }
 
-    /// A solver of `board` by `numbering`. The space is the board's, if numbers are ranks.
-    fn start(
-        alloc: Global,
-        board: &Board,
-        numbering: Numbering,
-        space: Option<Space>,
-    ) -> Result<Solver<S>, Memory>
-        requires few { IsFewBy numbering board.now }
-        requires space { HasSpaceBy numbering board.now space }
+    /// A solver of `board` by `numbering`.
+    fn start(alloc: Global, board: &Board, numbering: Numbering) -> Result<Solver<S>, Memory>
+        requires few { configurations board.now ≤ MAX_CONFIGURATIONS }
         ensures { IfOk result (λ solver. IsFresh (numbered board.now numbering) solver) }
     {
         let graph = Graph::of(alloc, board, numbering)?;
-        let weights = graph.weights(alloc)?;
-        Solver::of_graph(alloc, graph, weights, space)
-    }
-
-    /// A solver of the board of `graph`, whose numbers have these `weights`. The space is the
-    /// board's, if numbers are ranks.
-    fn of_graph(
-        alloc: Global,
-        graph: Graph,
-        weights: Vec<u16>,
-        space: Option<Space>,
-    ) -> Result<Solver<S>, Memory>
-        requires weights { AreNumberWeights graph weights.items }
-        requires space { HasSpaceBy graph.numbering graph.board space }
-        ensures { IfOk result (λ solver. IsFresh graph solver) }
-    {
-        let sizes = Vec::with_capacity(alloc, graph.configurations() as usize)?;
         let mut stage = Stage::<S>::open(alloc, graph)?;
         stage.begin_next_value();
-        Ok(Solver {
-            stage,
-            space,
-            weights,
-            sizes,
-            done: false,
-        })
+        Ok(Solver { stage, done: false })
     }
 }
 
@@ -226,11 +184,7 @@ impl<S: ListStore> Solver<S> {
         requires ordered { self.now.game.numbering ≡ Numbering.Ordered }
         ensures { result.now ≡ self.now.game.board }
     {
-        match &self.space {
-            Some(space) => space,
-            // A solver whose numbers are ranks has the space of its board.
-            None => unreachable!(),
-        }
+        self.stage.graph().space()
     }
 
     /// The smallest pebble that dominates all others at the configuration of `rank`, if one does. A
@@ -381,8 +335,10 @@ impl<S: ListStore + Drop> Solver<S> {
         ensures unfinished { IfErr result
             (λ unfinished. (self.is_done ≡ false) × (unfinished.solver ≡ self)) }
     {
-        let (numbered, space) = self.try_close()?;
-        Ok(with_ranks(numbered, space))
+        if !self.done {
+            return Err(Unfinished { solver: self });
+        }
+        Ok(self.close())
     }
 
     /// The words of the values of the board by the solver's numbers, once a round has found that no
@@ -397,45 +353,19 @@ impl<S: ListStore + Drop> Solver<S> {
             return Err(Unfinished { solver: self });
         }
         let Solver { stage, .. } = self;
-        let (_, _, words) = stage.into_parts();
+        let (_, _, words, _) = stage.into_parts();
         Ok(words)
     }
 
-    /// The values of a solver that is done, and the space, if numbers are ranks; the solver as it
-    /// was, if it isn't done.
-    fn try_close(self) -> Result<(NumberedValues, Option<Space>), Unfinished<S>>
-        ensures done { IfOk result (λ _. self.is_done ≡ true) }
-        ensures is_board { IfOk result (λ _. IsBoard self.game.board) }
-        ensures values { IfOk result (λ parts. parts.0 ≡ self.game) }
-        ensures space { IfOk result
-            (λ parts. HasSpaceBy self.game.numbering self.game.board parts.1) }
-        ensures unfinished { IfErr result
-            (λ unfinished. (self.is_done ≡ false) × (unfinished.solver ≡ self)) }
+    /// The values of a solver that is done. The numbers of the solver are ranks.
+    fn close(self) -> Values
+        requires done { self.is_done ≡ true }
+        requires ordered { self.game.numbering ≡ Numbering.Ordered }
+        ensures { result ≡ self.game.board }
     {
-        if !self.done {
-            return Err(Unfinished { solver: self });
-        }
-        Ok(self.close())
-    }
-
-    /// The values of a solver that is done, and the space, if numbers are ranks.
-    fn close(self) -> (NumberedValues, Option<Space>)
-        requires { self.is_done ≡ true }
-        ensures is_board { IsBoard self.game.board }
-        ensures values { result.0 ≡ self.game }
-        ensures space { HasSpaceBy self.game.numbering self.game.board result.1 }
-    {
-        let Solver {
-            stage,
-            space,
-            weights,
-            sizes,
-            done: _,
-        } = self;
-        let (graph, value, words) = stage.into_parts();
-        let mut sizes = zeros(sizes, value);
-        let forever = add_weights(&mut sizes, &words, &weights);
-        (NumberedValues::new(graph, words, sizes, forever), space)
+        let Solver { stage, .. } = self;
+        let (graph, value, words, room) = stage.into_parts();
+        Values::new(graph, words, value, room)
     }
 
     /// The values of the board, after all rounds that it takes.
@@ -444,16 +374,7 @@ impl<S: ListStore + Drop> Solver<S> {
         requires ordered { self.game.numbering ≡ Numbering.Ordered }
         ensures { result ≡ self.game.board }
     {
-        let (numbered, space) = self.after_all_rounds().close();
-        with_ranks(numbered, space)
-    }
-
-    /// The values of the board by the solver's numbers, after all rounds that it takes.
-    pub fn solve_numbered(self) -> NumberedValues
-        ensures { result ≡ self.game }
-    {
-        let (numbered, _) = self.after_all_rounds().close();
-        numbered
+        self.after_all_rounds().close()
     }
 
     /// The solver after all rounds that the board takes.
@@ -466,19 +387,5 @@ impl<S: ListStore + Drop> Solver<S> {
             solver.round();
         }
         solver
-    }
-}
-
-/// The values `numbered`, whose numbers are ranks, with the space of their board.
-fn with_ranks(numbered: NumberedValues, space: Option<Space>) -> Values
-    requires ordered { numbered.numbering ≡ Numbering.Ordered }
-    requires is_board { IsBoard numbered.board }
-    requires space { HasSpaceBy numbered.numbering numbered.board space }
-    ensures { result ≡ numbered.board }
-{
-    match space {
-        Some(space) => Values::with_space(numbered, space),
-        // Numbers that are ranks have the space of their board.
-        None => unreachable!(),
     }
 }

@@ -2,7 +2,7 @@
 
 ghost use Rattle.std.specs.Prelude.{◌≡◌, ◌∷◌, [], MatchOption};
 
-use crate::word::OPEN;
+use gap_values::OPEN;
 use graphs::Graph;
 use std::marker::Model;
 

@@ -13,7 +13,7 @@ mod ended_round;
 mod opening;
 mod reading;
 
-use crate::word::OPEN;
+use gap_values::OPEN;
 use graphs::{Graph, MAX_PLACES};
 use index_lists::ListStore;
 use std::marker::Model;

@@ -1,24 +1,28 @@
 //! The values of a board within the limit of configurations, by their ranks.
 
-ghost use Rattle.std.specs.Prelude.{◌≡◌, ◌<◌, ◌≤◌};
-ghost use Rattle.board_text.specs.PlainBoard.{IsBoard};
+ghost use Rattle.std.specs.Prelude.{◌≡◌, ◌≢◌, ◌↔◌, ◌<◌, ◌≤◌, ℕ, IsTrue, length, slice_index};
+ghost use Rattle.std.specs.Prelude.{vec_capacity};
+ghost use Rattle.board_text.specs.PlainBoard.{IsBoard, IsConfiguration, places};
+ghost use Rattle.gap_values.specs.Inside.Words.{round_of_word};
+ghost use Rattle.graphs.specs.declared.graph.Numbering.TheVariants.{Ordered};
 ghost use Rattle.positions.specs.Counts.{IsSmallest};
-ghost use Rattle.positions.specs.Gaps.{gaps, member_of, pebble_of};
+ghost use Rattle.positions.specs.Gaps.{gaps, member_of, IsAnswer};
 ghost use Rattle.positions.specs.Laws.{Occurs};
 ghost use Rattle.positions.specs.Ranks.{configurations, configuration_at};
 ghost use Rattle.positions.specs.Value.{HasValue};
 ghost use Rattle.positions.specs.declared.space.TheConstants.{MAX_CONFIGURATIONS};
-ghost use Rattle.solver.specs.GapRequests.{IsRequestIn};
+ghost use Rattle.positions.specs.declared.value.Value.TheVariants.{Finite, Forever};
+ghost use Rattle.solver.specs.LabelSets.{IsInSet};
 ghost use Rattle.solver.specs.SafeAnswers.{IsSafeAnswer};
 ghost use Rattle.solver.specs.Sizes.{HasCount, IsGreatest};
-ghost use Rattle.solver.specs.Inside.Values.{HaveRanks};
+ghost use Rattle.solver.specs.Words.{AreValueWords};
 
-use crate::numbered_values::NumberedValues;
-use crate::results::Results;
+use crate::sizes::{count_words, zeros};
 use board_text::Board;
 use classes::ClassPlaces;
-use gap_values::{OPEN, ValueTable};
-use positions::{Space, Value};
+use gap_values::{OPEN, ValueTable, value_with};
+use graphs::Graph;
+use positions::{LabelSet, Space, Value};
 use std::marker::Model;
 
 /// The value of each configuration of a board, which has at most `MAX_CONFIGURATIONS`, by its rank.
@@ -26,37 +30,47 @@ use std::marker::Model;
 /// It holds no board: contracts see it as the board.
 #[derive(Drop)]
 pub struct Values {
-    numbered: NumberedValues,
-    space: Space,
+    graph: Graph,
+    /// The value of the configuration of each rank, or `OPEN` for Forever.
+    words: Vec<u32>,
+    /// How many configurations have each finite value. None has one beyond these.
+    sizes: Vec<u32>,
+    /// How many configurations have the value Forever.
+    forever: u32,
 }
 
 impl Model for Values {
     ghost use Rattle.board_text.specs.PlainBoard.{PlainBoard};
-    ghost use Rattle.solver.specs.Inside.Values.{HaveRanks};
+    ghost use Rattle.solver.specs.Inside.Values.{AreRankValues};
 
     ghost Value = { PlainBoard };
 
-    ghost view = { λ s. s.space };
+    ghost view = { λ s. s.graph.board };
 
-    ghost invariant = { λ s. HaveRanks s.numbered s.space };
+    ghost invariant = { λ s. AreRankValues s.graph s.words.items s.sizes.items s.forever };
 }
 
 impl Values {
-    /// The values `numbered` of `board`, which has at most `MAX_CONFIGURATIONS` configurations.
-    pub fn new(numbered: NumberedValues, board: &Board) -> Values
-        requires same_board { numbered.board ≡ board.now }
-        requires few { configurations board.now ≤ MAX_CONFIGURATIONS }
-        ensures { result ≡ board.now }
+    /// The values of the board of `graph`, whose numbers are ranks, in `words`: each below `bound`,
+    /// or `OPEN` for Forever. There is `room` for as many numbers.
+    pub(crate) fn new(graph: Graph, words: Vec<u32>, bound: u32, room: Vec<u32>) -> Values
+        requires is_board { IsBoard graph.board }
+        requires few { configurations graph.board ≤ MAX_CONFIGURATIONS }
+        requires ordered { graph.numbering ≡ Ordered }
+        requires words { AreValueWords graph words.items }
+        requires inside { (x : ℕ) → x < length words.items → slice_index words.items x ≢ OPEN
+            → slice_index words.items x < bound }
+        requires room { bound ≤ vec_capacity room }
+        ensures { result ≡ graph.board }
     {
-        Values::with_space(numbered, Space::new(board))
-    }
-
-    /// The values `numbered` of the board whose space is `space`.
-    pub(crate) fn with_space(numbered: NumberedValues, space: Space) -> Values
-        requires { HaveRanks numbered space }
-        ensures { result ≡ space }
-    {
-        Values { numbered, space }
+        let mut sizes = zeros(room, bound);
+        let forever = count_words(&mut sizes, &words);
+        Values {
+            graph,
+            words,
+            sizes,
+            forever,
+        }
     }
 
     /// The value of the configuration of `rank`.
@@ -64,29 +78,39 @@ impl Values {
         requires { rank < configurations self.now }
         ensures { HasValue self.now (configuration_at self.now rank) result }
     {
-        let held = self.space.places_at(rank);
-        self.numbered.of(&held[..self.space.pebbles() as usize])
+        value_with(self.words[rank as usize])
     }
 
     /// The number of configurations that have the value `value`.
     pub fn count(&self, value: Value) -> u32
         ensures { HasCount self.now value result }
     {
-        self.numbered.count(value) as u32
+        match value {
+            Value::Finite(number) => self.count_finite(number),
+            Value::Forever => self.forever,
+        }
+    }
+
+    /// The number of configurations that have the finite value `number`.
+    fn count_finite(&self, number: u32) -> u32
+        ensures { HasCount self.now (Finite number) result }
+    {
+        if number as usize >= self.sizes.len() {
+            return 0;
+        }
+        self.sizes[number as usize]
     }
 
     /// The greatest finite value of a configuration, if one has a finite value.
     pub fn greatest_finite(&self) -> Option<u32>
         ensures { IsGreatest (Occurs self.now) result }
     {
-        self.numbered.greatest_finite()
-    }
-
-    /// The same values by the numbers of the graph that they were found over.
-    pub fn numbered(&self) -> &NumberedValues
-        ensures { result.now.board ≡ self.now }
-    {
-        &self.numbered
+        for value in (0..self.sizes.len()).rev() {
+            if self.sizes[value] > 0 {
+                return Some(value as u32);
+            }
+        }
+        None
     }
 
     /// The smallest answer of `gap` after which a labeller lasts forever, if there is one.
@@ -94,30 +118,40 @@ impl Values {
         requires { gap < gaps self.now }
         ensures { IsSmallest (IsSafeAnswer self.now gap) result }
     {
-        let results = self.results(gap);
-        let answers = results.answers();
-        let mut labels = answers.walk();
+        let mut labels = self.answers(gap).walk();
         while let Some(label) = labels.take_next() {
-            if results.lasts_forever(label) {
+            if self.lasts_forever(gap, label) {
                 return Some(label);
             }
         }
         None
     }
 
-    /// The results of the answers of `gap`.
-    fn results(&self, gap: u32) -> Results<'_>
+    /// The answers of `gap`.
+    fn answers(&self, gap: u32) -> LabelSet
         requires { gap < gaps self.now }
-        ensures board { result.game.board ≡ self.now }
+        ensures answers { (label : ℕ) → IsInSet result label ↔ IsAnswer self.now gap label }
         ensures is_board { IsBoard self.now }
-        ensures requests { IsRequestIn result (member_of self.now gap 0) (pebble_of self.now gap) }
     {
-        let pebble = self.space.gap_pebble(gap);
-        let held = self.space.places_at(self.space.member(gap, 0));
-        let standing = self
-            .numbered
-            .standing(&held[..self.space.pebbles() as usize]);
-        self.numbered.results(standing.gaps[pebble as usize])
+        self.graph.answers(gap)
+    }
+
+    /// Whether a labeller lasts forever at the member of `gap` with `place`.
+    fn lasts_forever(&self, gap: u32, place: u16) -> bool
+        requires gap { gap < gaps self.now }
+        requires place { place < places self.now }
+        ensures { IsTrue result ↔ HasValue self.now (member_of self.now gap place) Forever }
+    {
+        self.words[self.space().member(gap, place) as usize] == OPEN
+    }
+
+    /// The word of the value of the configuration `held`: the value, or `OPEN` for Forever.
+    fn word_of(&self, held: &[u16]) -> u32
+        requires { IsConfiguration self.now held.now }
+        ensures value { HasValue self.now held.now (round_of_word result) }
+        ensures few { result ≤ OPEN }
+    {
+        self.words[self.space().rank(held) as usize]
     }
 
     /// The space of the board.
@@ -126,7 +160,7 @@ impl Values {
         ensures is_board { IsBoard self.now }
         ensures few { configurations self.now ≤ MAX_CONFIGURATIONS }
     {
-        &self.space
+        self.graph.space()
     }
 }
 
@@ -134,14 +168,13 @@ impl ValueTable for Values {
     ghost table_board = { λ values. values };
 
     fn value(&self, held: &[u16]) -> Value {
-        self.numbered.of(held)
+        value_with(self.word_of(held))
     }
 
     fn word_after(&self, _board: &Board, gap: &[u16], label: u16) -> u32 {
-        let Values { numbered, .. } = self;
         let mut class = ClassPlaces::of(gap);
         class.put(label);
-        numbered.word_of(class.as_slice())
+        self.word_of(class.as_slice())
     }
 
     /// Nothing is known of the results of a gap before each is looked up.

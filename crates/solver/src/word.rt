@@ -3,8 +3,7 @@
 ghost use Rattle.std.specs.Prelude.{◌≡◌};
 ghost use Rattle.solver.specs.Words.{value_of_word};
 
-/// The word of a configuration that has no value yet.
-pub const OPEN: u32 = u32::MAX;
+use gap_values::OPEN;
 
 /// The value that `word` stands for, unless it is `OPEN`.
 pub fn value_of(word: u32) -> Option<u32>

@@ -8,7 +8,6 @@ ghost use Rattle.graphs.specs.Numbered.{numbered};
 ghost use Rattle.graphs.specs.declared.graph.Numbering.TheVariants.{Ordered, Classes};
 
 use crate::assertions::{assert_same, board_of};
-use crate::solving_classes::assert_same_values;
 use board_text::Board;
 use fakes::boards::{
     CHAIN_OF_THREE, CYCLE_WITHOUT_LABELS, LONE_LABEL, LONE_WITHOUT_LABEL, ONE_PAIR,
@@ -16,7 +15,7 @@ use fakes::boards::{
 };
 use fakes::value_at;
 use index_lists::{LinkLists, ListStore, PlainLists};
-use positions::{Space, Value, is_small};
+use positions::{Space, Value};
 use solved_boards::{class_solver_of, solver_of, value};
 use solver::{Progress, Solver, Values};
 use std::alloc::Global;
@@ -43,16 +42,6 @@ pub(crate) fn open_classes<S: ListStore + Drop>(
 /// The values of a board, found by ranks.
 pub(crate) fn solve<S: ListStore + Drop>(rt: &impl Abort, alloc: Global, board: &Board) -> Values {
     open::<S>(rt, alloc, board).solve()
-}
-
-/// The values of a board that isn't too large, found by classes.
-pub(crate) fn solve_classes<S: ListStore + Drop>(
-    rt: &impl Abort,
-    alloc: Global,
-    board: &Board,
-) -> Values {
-    assert!(rt; is_small(board));
-    Values::new(open_classes::<S>(rt, alloc, board).solve_numbered(), board)
 }
 
 /// The value that a solver has for a number, if it is that of a configuration.
@@ -210,8 +199,7 @@ fn one_label(rt: HostRuntime) {
     assert_same(&rt, SHARED_LABEL, shared, (Some(Value::Finite(0)), None));
 }
 
-/// Asserts that each configuration has the value of the slow program, with both stores, and that
-/// the values by classes are the same.
+/// Asserts that each configuration has the value of the slow program, with both stores.
 pub(crate) fn assert_solved(rt: &impl Abort, alloc: Global, board: &Board) {
     let linked = solve::<LinkLists>(rt, alloc, board);
     let plain = solve::<PlainLists>(rt, alloc, board);
@@ -220,8 +208,6 @@ pub(crate) fn assert_solved(rt: &impl Abort, alloc: Global, board: &Board) {
         assert_same(rt, ("linked", rank), value(&linked, rank), expected);
         assert_same(rt, ("plain", rank), value(&plain, rank), expected);
     }
-    let classes = solve_classes::<PlainLists>(rt, alloc, board);
-    assert_same_values(rt, &classes, &plain);
 }
 
 #[test]

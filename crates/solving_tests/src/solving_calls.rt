@@ -6,13 +6,12 @@ ghost use Rattle.std.specs.Prelude.{◌≡◌};
 ghost use Rattle.graphs.specs.declared.graph.Numbering.TheVariants.{Ordered};
 
 use crate::assertions::{assert_same, board_of};
-use crate::solving::{open, solve, solve_classes};
+use crate::solving::{open, solve};
 use board_text::Board;
-use classes::has_few_classes;
 use fakes::boards::{CHAIN_OF_THREE, CYCLE_WITH_A_WAY_IN, NO_PAIRS, THREE_PEBBLES};
 use fakes::make_nested;
 use index_lists::{LinkLists, ListStore, PlainLists};
-use positions::Value;
+use positions::{Value, is_small};
 use solver::{Progress, SolveFault, Solver, Values};
 use std::alloc::Global;
 use std::process::Abort;
@@ -195,7 +194,7 @@ fn first_rounds_of_classes<S: ListStore + Drop>(
     alloc: Global,
     board: &Board,
 ) -> Result<[Progress; 3], SolveFault> {
-    if !has_few_classes(board) {
+    if !is_small(board) {
         return Err(SolveFault::TooLarge);
     }
     let mut solver: Solver<S> = Solver::of_classes(alloc, board)?;
@@ -269,8 +268,6 @@ fn counts(rt: HostRuntime) {
         let board = board_of(&rt, rt.alloc(), text);
         let values = solve::<LinkLists>(&rt, rt.alloc(), &board);
         assert_counts(&rt, &values, finite, forever);
-        let classes = solve_classes::<PlainLists>(&rt, rt.alloc(), &board);
-        assert_counts(&rt, &classes, finite, forever);
     }
 }
 

@@ -1,16 +1,14 @@
-//! Solving by classes: a worked board round by round, and values beside those found by ranks.
+//! Solving by classes: a worked board round by round.
 //!
 //! A run of the tests may refuse one growth of memory, whichever. So a call that was refused one is
 //! made once more.
 
 use crate::assertions::{assert_same, board_of};
-use crate::solving::{assert_known, open_classes, safe};
+use crate::solving::{assert_known, open_classes};
 use crate::solving_calls::assert_filed;
 use fakes::boards::CHAIN_OF_THREE;
 use index_lists::{LinkLists, ListStore, PlainLists};
-use positions::Value;
-use solved_boards::value;
-use solver::{Progress, Solver, Values};
+use solver::{Progress, Solver};
 use std::alloc::Global;
 use std::process::Abort;
 
@@ -34,28 +32,4 @@ fn chain<S: ListStore + Drop>(rt: &impl Abort, alloc: Global) {
 fn classes_of_a_chain(rt: HostRuntime) {
     chain::<PlainLists>(&rt, rt.alloc());
     chain::<LinkLists>(&rt, rt.alloc());
-}
-
-/// Asserts that two records of one board have the same value for each rank, the same number of
-/// configurations of each value, and the same safe answer of each gap.
-pub(crate) fn assert_same_values(rt: &impl Abort, found: &Values, wanted: &Values) {
-    for rank in 0..wanted.space().configurations() {
-        assert_same(rt, rank, value(found, rank), value(wanted, rank));
-    }
-    for gap in 0..wanted.space().gaps() {
-        assert_same(rt, ("gap", gap), safe(found, gap), safe(wanted, gap));
-    }
-    assert_same_counts(rt, found, wanted);
-}
-
-/// Asserts that two records have the same number of configurations of each value.
-fn assert_same_counts(rt: &impl Abort, found: &Values, wanted: &Values) {
-    let greatest = wanted.greatest_finite();
-    assert_same(rt, "the greatest", found.greatest_finite(), greatest);
-    for number in 0..=greatest.unwrap_or(0) {
-        let finite = Value::Finite(number);
-        assert_same(rt, number, found.count(finite), wanted.count(finite));
-    }
-    let forever = Value::Forever;
-    assert_same(rt, "forever", found.count(forever), wanted.count(forever));
 }

@@ -2,12 +2,13 @@
 use Rattle.std.specs.Prelude.{◌≡◌, ℕ, ◌<◌, ◌≤◌, List, length}
 use Rattle.std.specs.Prelude.{slice_index}
 use Rattle.board_text.specs.PlainBoard.{IsBoard}
-use Rattle.classes.specs.declared.counting.TheConstants.{MAX_CLASSES}
+use Rattle.positions.specs.Ranks.{configurations as board_configurations}
+use Rattle.positions.specs.declared.space.TheConstants.{MAX_CONFIGURATIONS}
 use Rattle.graphs.specs.declared.graph.Finder.{Finder}
 use Rattle.graphs.specs.declared.graph.Finder.TheVariants.{Ranks, Classes as ByClasses}
 use Rattle.graphs.specs.declared.graph.Numbering.TheVariants.{Ordered, Classes}
 use Rattle.graphs.specs.Graph.{PlainGraph}
-use Rattle.graphs.specs.Numbered.{Numbered, numbered, graph_of, IsFewBy}
+use Rattle.graphs.specs.Numbered.{Numbered, numbered, graph_of}
 
 -- the board whose numbers are found, and what they stand for
 abbrev pub found_by : Finder → Numbered
@@ -23,8 +24,8 @@ pub record IsStruckTable (a : PlainGraph) (struck : List ℕ) : Type 0 where
 pub record AreTables (n : Numbered) (configurations gaps places : ℕ)
     (struck : List ℕ) : Type 0 where
   pub is_board : IsBoard n.board
-  pub few : configurations ≤ MAX_CLASSES
-  pub few_by : IsFewBy n.numbering n.board
+  pub few : configurations ≤ MAX_CONFIGURATIONS
+  pub small : board_configurations n.board ≤ MAX_CONFIGURATIONS
   pub configurations_is : configurations ≡ (graph_of n).configurations
   pub gaps_is : gaps ≡ (graph_of n).gaps
   pub places_is : places ≡ (graph_of n).places

@@ -1,17 +1,13 @@
 -- A stage as plain data, and the changes that a round makes to it.
 use Rattle.std.specs.Prelude.{◌≡◌, ◌≢◌, ℕ, suc, ◌+◌, ◌-◌, ◌<◌, ◌≤◌, ◌==◌, Bool, true, false, cond}
 use Rattle.std.specs.Prelude.{List, [], ◌∷◌, ◌++◌, length, map, filter, AllPairs, slice_index}
-use Rattle.std.specs.Prelude.{slice_index_or, slice_set, Option, Some}
+use Rattle.std.specs.Prelude.{slice_index_or, slice_set}
 use Rattle.std.specs.List.{range_with_len}
 use Rattle.index_lists.specs.Lists.{Lists, AreLists, times}
-use Rattle.board_text.specs.PlainBoard.{PlainBoard, IsBoard}
+use Rattle.board_text.specs.PlainBoard.{IsBoard}
 use Rattle.positions.specs.Ranks.{configurations}
 use Rattle.positions.specs.declared.space.TheConstants.{MAX_CONFIGURATIONS}
-use Rattle.graphs.specs.declared.graph.Numbering.{Numbering}
-use Rattle.graphs.specs.declared.graph.Numbering.TheVariants.{Ordered, Classes}
-use Rattle.graphs.specs.Numbered.{Numbered, graph_of, IsFewBy}
-use Rattle.graphs.specs.NumberedRanks.{AreNumberWeights}
-use Rattle.classes.specs.declared.counting.TheConstants.{MAX_CLASSES}
+use Rattle.graphs.specs.Numbered.{Numbered, graph_of}
 use Rattle.graphs.specs.Graph.{PlainGraph, IsGraph, count_below, lasts, is_struck}
 use Rattle.solver.specs.Solving.{Solving}
 use Rattle.solver.specs.Inside.Tables.{IsLast, is_unstruck, struck_rounds, open_members, IsCounted}
@@ -46,7 +42,7 @@ stage_of game value values counts stored strikes = record {
 -- a graph with few configurations, and a value that one of them may have
 pub record IsSmall (a : PlainGraph) (value : ℕ) : Type 0 where
   pub is_graph : IsGraph a
-  pub few : a.configurations ≤ MAX_CLASSES
+  pub few : a.configurations ≤ MAX_CONFIGURATIONS
   pub low : value ≤ a.configurations
 
 -- a word for each configuration and for each gap
@@ -161,8 +157,8 @@ pub record TakesCounts (s : PlainStage) (counts : List ℕ) (s' : PlainStage) : 
 pub record IsState (s : PlainStage) (round : ℕ) (is_done : Bool) : Type 0 where
   pub is_board : IsBoard s.game.board
   pub is_graph : IsGraph (graph_of s.game)
-  pub few : (graph_of s.game).configurations ≤ MAX_CLASSES
-  pub few_by : IsFewBy s.game.numbering s.game.board
+  pub few : (graph_of s.game).configurations ≤ MAX_CONFIGURATIONS
+  pub small : configurations s.game.board ≤ MAX_CONFIGURATIONS
   pub value_is : s.value ≡ suc round
   pub stage : IsStage (lasts (graph_of s.game) (struck_rounds is_done round)) s
   pub some : 0 < count_below (graph_of s.game).configurations (lasts (graph_of s.game) round)
@@ -171,20 +167,6 @@ pub record IsState (s : PlainStage) (round : ℕ) (is_done : Bool) : Type 0 wher
   pub last : is_done ≡ true → IsLast (graph_of s.game) (suc round)
   pub ascending : AllPairs (λ first second. first < second) (filed_at s 0)
   pub last_filed : 0 < round → 0 < length (filed_at s round)
-
--- numbers that are ranks have the board's space
-unfoldable pub HasSpaceBy : Numbering → PlainBoard → Option PlainBoard → Type 0
-HasSpaceBy Ordered board space = (space ≡ Some board) × (configurations board ≤ MAX_CONFIGURATIONS)
-HasSpaceBy Classes board space = Unit {0}
-
--- numbers that are ranks have a space, each number has its weight, and there is room for the size
--- of each value
-pub record IsEquipped (n : Numbered) (space : Option PlainBoard) (weights sizes : List ℕ)
-    (capacity : ℕ) : Type 0 where
-  pub has_space : HasSpaceBy n.numbering n.board space
-  pub weighed : AreNumberWeights n weights
-  pub no_sizes : sizes ≡ []
-  pub room : (graph_of n).configurations ≤ capacity
 
 -- a solver, as its callers see it
 abbrev pub as_solving : PlainStage → Bool → Solving

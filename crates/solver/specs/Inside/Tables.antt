@@ -4,7 +4,7 @@ use Rattle.std.specs.Prelude.{slice_index, map, filter}
 use Rattle.std.specs.List.{range_with_len}
 use Rattle.index_lists.specs.Lists.{times}
 use Rattle.graphs.specs.Graph.{PlainGraph, is_member, live_answers, is_answered, lasts}
-use Rattle.solver.specs.declared.word.TheConstants.{OPEN}
+use Rattle.gap_values.specs.declared.closing.TheConstants.{OPEN}
 
 -- nothing that lasts r requests fails to last one more
 pub record IsLast (a : PlainGraph) (r : ℕ) : Type 0 where

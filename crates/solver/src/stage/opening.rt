@@ -3,16 +3,17 @@
 ghost use Rattle.std.specs.Prelude.{◌≡◌, ◌<◌, ◌≤◌, length, replicate, IfOk};
 ghost use Rattle.board_text.specs.PlainBoard.{IsBoard};
 ghost use Rattle.graphs.specs.Graph.{live_answers, lasts};
-ghost use Rattle.graphs.specs.Numbered.{IsFewBy, graph_of};
+ghost use Rattle.graphs.specs.Numbered.{graph_of};
+ghost use Rattle.positions.specs.Ranks.{configurations};
 ghost use Rattle.solver.specs.Inside.Tables.{IsCounted, AreFirstWords};
 ghost use Rattle.solver.specs.Inside.Opening.{AreZeroed, IsUnlisted, IsOpened};
 
 use crate::stage::Stage;
-use crate::word::OPEN;
 use board_text::Memory;
-use classes::MAX_CLASSES;
+use gap_values::OPEN;
 use graphs::{Graph, MAX_PLACES};
 use index_lists::ListStore;
+use positions::MAX_CONFIGURATIONS;
 use std::alloc::Global;
 
 impl<S: ListStore + Drop> Stage<S> {
@@ -21,8 +22,8 @@ impl<S: ListStore + Drop> Stage<S> {
         ensures game { IfOk result (λ stage. stage.game ≡ graph) }
         ensures opened { IfOk result (λ stage. IsOpened stage) }
         ensures board { IfOk result (λ _. IsBoard graph.board) }
-        ensures few { IfOk result (λ _. (graph_of graph).configurations ≤ MAX_CLASSES) }
-        ensures few_by { IfOk result (λ _. IsFewBy graph.numbering graph.board) }
+        ensures few { IfOk result (λ _. (graph_of graph).configurations ≤ MAX_CONFIGURATIONS) }
+        ensures small { IfOk result (λ _. configurations graph.board ≤ MAX_CONFIGURATIONS) }
     {
         let size = graph.configurations();
         let counts = first_counts(alloc, &graph)?;

@@ -1,7 +1,7 @@
 //! Reading a stage.
 
-ghost use Rattle.std.specs.Prelude.{◌≡◌, ℕ, ◌+◌, ◌-◌, ◌<◌, Some, None, length, slice_index};
-ghost use Rattle.std.specs.Prelude.{slice_get, filter, IfOk};
+ghost use Rattle.std.specs.Prelude.{◌≡◌, ℕ, ◌+◌, ◌-◌, ◌<◌, ◌≤◌, Some, None, length, slice_index};
+ghost use Rattle.std.specs.Prelude.{slice_get, filter, vec_capacity, IfOk};
 ghost use Rattle.index_lists.specs.Lists.{times};
 ghost use Rattle.graphs.specs.Graph.{is_struck};
 ghost use Rattle.graphs.specs.Numbered.{graph_of};
@@ -16,19 +16,22 @@ use index_lists::ListStore;
 use std::alloc::Global;
 
 impl<S: ListStore + Drop> Stage<S> {
-    /// The graph, the value that configurations are filed at, and the words.
-    pub(crate) fn into_parts(self) -> (Graph, u32, Vec<u32>)
+    /// The graph, the value that configurations are filed at, the words, and room for as many
+    /// numbers as that value.
+    pub(crate) fn into_parts(self) -> (Graph, u32, Vec<u32>, Vec<u32>)
         ensures graph { result.0 ≡ self.game }
         ensures value { result.1 ≡ self.value }
         ensures words { result.2.items ≡ self.values }
+        ensures room { result.1 ≤ vec_capacity result.3 }
     {
         let Stage {
             graph,
             value,
             values,
+            strikes,
             ..
         } = self;
-        (graph, value, values)
+        (graph, value, values, strikes)
     }
 }
 

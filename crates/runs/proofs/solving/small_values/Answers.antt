@@ -1,11 +1,7 @@
 use Rattle.std.proofs.Common.{Err, ap}
 use Rattle.std.proofs.lemmas.Result.{err_from_is_err_and}
-use Rattle.classes.proofs.Cited.{few-of-small}
 use Rattle.runs.proofs.SolverFaults.{refused_some}
 use Rattle.runs.proofs.solving.small_values.Goals as goal
-
-pub solve_classes-requires-clause-few : goal.solve_classes-requires-clause-few
-solve_classes-requires-clause-few g c = λ lifetimes lives. few-of-small c.args.board.now c.requires.few
 
 pub returns-in_err-solve_classes-clause-refused : goal.returns-in_err-solve_classes-clause-refused
 returns-in_err-solve_classes-clause-refused g c =

@@ -1,7 +1,7 @@
 use Rattle.std.proofs.Common.{◌≡◌, ◌+◌, ◌==◌, cond, List, ℕ, map, sym, get_or, set, rules}
 use Rattle.std.proofs.lemmas.List.{places}
 use Rattle.index_lists.proofs.Cited.{cond_same, cond_other}
-use Rattle.solver.specs.declared.word.TheConstants.{OPEN}
+use Rattle.gap_values.specs.declared.closing.TheConstants.{OPEN}
 use Rattle.solver.specs.Words.{value_of_word}
 use Rattle.retro_core.specs.Round.{seat_tried}
 use Rattle.retro_core.proofs.Machine.{some-of, owed-word, IsTrying, claiming}

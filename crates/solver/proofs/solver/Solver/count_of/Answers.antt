@@ -11,11 +11,11 @@ returns-clause-before g c =
     subst (λ (v : Solving). v.is_done ≡ false
     → HasSize (AnswerLasts v.game c.args.gap v.rounds) c.count.result) c.self.view_is
     (λ going. rw c.count.ensures
-    (counts-before c.self.inside.stage _ c.self.inside.done c.self.invariant.0 c.args.gap i going))
+    (counts-before c.self.inside.stage _ c.self.inside.done c.self.invariant c.args.gap i going))
 
 pub returns-clause-after : goal.returns-clause-after
 returns-clause-after g c =
     let i : c.args.gap < (graph_of c.self.inside.stage.game).gaps = rw (← c.self.view_is) at c.requires in
     subst (λ (v : Solving). v.is_done ≡ true → HasSize (AnswerForever v.game c.args.gap) c.count.result) c.self.view_is
     (λ done. rw c.count.ensures
-    (counts-after c.self.inside.stage _ c.self.inside.done c.self.invariant.0 c.args.gap i done))
+    (counts-after c.self.inside.stage _ c.self.inside.done c.self.invariant c.args.gap i done))

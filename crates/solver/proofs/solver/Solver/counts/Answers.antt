@@ -7,11 +7,11 @@ use Rattle.solver.proofs.solver.Solver.counts.Goals as goal
 
 pub returns-clause-size : goal.returns-clause-size
 returns-clause-size g c = subst (λ (v : Solving). length c.counts.result.now ≡ (graph_of v.game).gaps) c.self.view_is
-    (ap length c.counts.ensures ∙ c.self.invariant.0.stage.counts_are.counts_length)
+    (ap length c.counts.ensures ∙ c.self.invariant.stage.counts_are.counts_length)
 
 pub returns-clause-counts : goal.returns-clause-counts
 returns-clause-counts g c =
     let s = c.self.inside.stage in
     let going : c.self.inside.done ≡ false = rw (← c.self.view_is) at c.requires in
     subst (λ (v : Solving). AreFirstCounts v c.counts.result.now) c.self.view_is
-    (rw c.counts.ensures (first-counts s _ c.self.inside.done c.self.invariant.0 going))
+    (rw c.counts.ensures (first-counts s _ c.self.inside.done c.self.invariant going))

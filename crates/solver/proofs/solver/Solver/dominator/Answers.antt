@@ -43,7 +43,7 @@ returns-in-Some g c =
     subst (λ (v : Solving). IsSmallest (IsDominator v.game.board (configuration_of v.game c.args.rank))
     (Some c.gap_pebble.result)) c.self.view_is
     (subst (λ p. IsSmallest (IsDominator (game g at).board (configuration_of (game g at) c.args.rank)) (Some p)) pebble
-    (dominator-some (game g at) (ordered g at) c.self.invariant.0.is_board c.args.rank c.in-Some.gap (inside g at)
+    (dominator-some (game g at) (ordered g at) c.self.invariant.is_board c.args.rank c.in-Some.gap (inside g at)
     (same g at c.in-Some.gap c.in-Some.ensures.0) low))
 
 pub returns-in-None : goal.returns-in-None
@@ -53,4 +53,4 @@ returns-in-None g c =
     c.in-None.ensures in
     subst (λ (v : Solving). IsSmallest (IsDominator v.game.board (configuration_of v.game c.args.rank)) None)
     c.self.view_is
-    (dominator-none (game g at) (ordered g at) c.self.invariant.0.is_board c.args.rank (inside g at) none)
+    (dominator-none (game g at) (ordered g at) c.self.invariant.is_board c.args.rank (inside g at) none)

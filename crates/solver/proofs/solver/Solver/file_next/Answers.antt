@@ -1,8 +1,7 @@
 use Rattle.std.proofs.Common.{◌≡◌, ◌≢◌, ◌-◌, ◌∙◌, ℕ, suc, length, true, false, refl, sym, ap, subst, arith}
-use Rattle.std.proofs.Common.{vec_capacity}
 use Rattle.graphs.specs.Numbered.{Numbered}
 use Rattle.solver.specs.Solving.{HasFoundNone, IsSolving, NoneHas, Solving}
-use Rattle.solver.specs.Inside.Stage.{PlainStage, at_next_value, filed_at, IsEquipped, IsState}
+use Rattle.solver.specs.Inside.Stage.{PlainStage, at_next_value, filed_at, IsState}
 use Rattle.solver.proofs.States.{solving_of, unstruck-of, none-has, to-begin, last-state, next-below, further-state}
 use Rattle.solver.proofs.solver.Solver.file_next.Given
 use Rattle.solver.proofs.solver.Solver.file_next.Goals as goal
@@ -11,18 +10,18 @@ use Rattle.solver.proofs.solver.Solver.file_next.Goals.{Then-filed-eq0, Else-fil
 pub returns-then-self-clause-none : goal.returns-then-self-clause-none
 returns-then-self-clause-none g c = λ _.
     subst (λ (v : Solving). HasFoundNone v v) c.self.view_is
-    (none-has c.self.inside.stage _ c.self.inside.done c.self.invariant.0 c.if-self.true, refl, c.if-self.true)
+    (none-has c.self.inside.stage _ c.self.inside.done c.self.invariant c.if-self.true, refl, c.if-self.true)
 
 pub returns-then-self-clause-kept : goal.returns-then-self-clause-kept
 returns-then-self-clause-kept g c =
-    subst IsSolving c.self.view_is (solving_of c.self.inside.stage _ c.self.inside.done c.self.invariant.0)
+    subst IsSolving c.self.view_is (solving_of c.self.inside.stage _ c.self.inside.done c.self.invariant)
 
 pub file-requires-clause-striking : goal.file-requires-clause-striking
-file-requires-clause-striking g c = to-begin c.self.inside.stage _ c.self.inside.done c.self.invariant.0 c.if-self.false
+file-requires-clause-striking g c = to-begin c.self.inside.stage _ c.self.inside.done c.self.invariant c.if-self.false
 
 pub file-requires-clause-unstruck : goal.file-requires-clause-unstruck
 file-requires-clause-unstruck g c =
-    unstruck-of c.self.inside.stage _ c.self.inside.done c.self.invariant.0 c.if-self.false
+    unstruck-of c.self.inside.stage _ c.self.inside.done c.self.invariant c.if-self.false
 
 -- the stage after a round that filed nothing, and its state at the value that it goes back to
 module _ (g : Given.Over) (c : Then-filed-eq0 g) where
@@ -30,7 +29,7 @@ module _ (g : Given.Over) (c : Then-filed-eq0 g) where
   ended = c.file.new.stage
 
   last : IsState ended (c.self.inside.stage.value - 1) true
-  last = last-state c.self.inside.stage _ c.self.inside.done c.self.invariant.0 ended c.file.ensures.struck
+  last = last-state c.self.inside.stage _ c.self.inside.done c.self.invariant ended c.file.ensures.struck
       c.file.ensures.kept
       (sym c.filed-filed.ensures ∙ c.if-filed-eq0.true)
 
@@ -40,15 +39,8 @@ module _ (g : Given.Over) (c : Then-filed-eq0 g) where
   state : IsState ended (ended.value - 1) true
   state = subst (λ n. IsState ended n true) same last
 
-  equipped : IsEquipped ended.game c.self.inside.space c.self.inside.weights.items c.self.inside.sizes.items
-      (vec_capacity c.self.inside.sizes)
-  equipped = subst
-      (λ (n : Numbered). IsEquipped n c.self.inside.space c.self.inside.weights.items c.self.inside.sizes.items
-      (vec_capacity c.self.inside.sizes))
-      (sym c.file.ensures.kept.game_is) c.self.invariant.1
-
 pub invariant_of-self : goal.invariant_of-self
-invariant_of-self g c = let at = (goal.at.invariant_of-self g c).Then-filed-eq0 in (state g at, equipped g at)
+invariant_of-self g c = let at = (goal.at.invariant_of-self g c).Then-filed-eq0 in state g at
 
 pub returns-then-filed-eq0-clause-none : goal.returns-then-filed-eq0-clause-none
 returns-then-filed-eq0-clause-none g c = λ _.
@@ -84,33 +76,26 @@ module _ (g : Given.Over) (c : Else-filed-eq0 g) where
   filed = some _ _ c.filed-filed.ensures c.if-filed-eq0.false
 
   next : suc (c.self.inside.stage.value - 1) ≡ (at_next_value more).value - 1
-  next = next-round c.self.inside.stage more _ c.self.invariant.0.value_is c.file.ensures.kept.value_is
+  next = next-round c.self.inside.stage more _ c.self.invariant.value_is c.file.ensures.kept.value_is
 
   to-value : more.value ≡ suc (c.self.inside.stage.value - 1)
-  to-value = omega (arith, c.self.invariant.0.value_is, c.file.ensures.kept.value_is)
+  to-value = omega (arith, c.self.invariant.value_is, c.file.ensures.kept.value_is)
 
   state-next : IsState (at_next_value more) ((at_next_value more).value - 1) false
   state-next = subst (λ n. IsState (at_next_value more) n false) next
-      (further-state c.self.inside.stage _ c.self.inside.done c.self.invariant.0 more c.file.ensures.struck
+      (further-state c.self.inside.stage _ c.self.inside.done c.self.invariant more c.file.ensures.struck
       c.file.ensures.kept c.if-self.false filed)
-
-  equipped-next : IsEquipped more.game c.self.inside.space c.self.inside.weights.items c.self.inside.sizes.items
-      (vec_capacity c.self.inside.sizes)
-  equipped-next =
-      subst (λ (n : Numbered). IsEquipped n c.self.inside.space c.self.inside.weights.items c.self.inside.sizes.items
-      (vec_capacity c.self.inside.sizes))
-      (sym c.file.ensures.kept.game_is) c.self.invariant.1
 
 pub begin_next_value-requires : goal.begin_next_value-requires
 begin_next_value-requires g c =
     let at = (goal.at.begin_next_value-requires g c).Else-filed-eq0 in
-    next-below c.self.inside.stage _ c.self.inside.done c.self.invariant.0 c.file.new.stage c.file.ensures.struck
+    next-below c.self.inside.stage _ c.self.inside.done c.self.invariant c.file.new.stage c.file.ensures.struck
     c.file.ensures.kept (filed g at)
 
 pub invariant_of-self-2 : goal.invariant_of-self-2
 invariant_of-self-2 g c =
     let at = (goal.at.invariant_of-self-2 g c).Else-filed-eq0 in
-    rw (c.begin_next_value.ensures, c.if-self.false) (state-next g at, equipped-next g at)
+    rw (c.begin_next_value.ensures, c.if-self.false) (state-next g at)
 
 pub returns-clause-kept : goal.returns-clause-kept
 returns-clause-kept g c =

@@ -12,7 +12,7 @@ loop-member-init g c =
     let here : c.sources-members.result ≡ source c.args.self.now c.args.gap =
     subst (λ (v : Solving). c.sources-members.result ≡ source v c.args.gap) c.self.view_is
     (c.sources-members.ensures ∙ sym
-    (source-shown c.self.inside.stage _ c.self.inside.done c.self.invariant.0 c.args.gap i)) in
+    (source-shown c.self.inside.stage _ c.self.inside.done c.self.invariant c.args.gap i)) in
     subst (λ l. IsSearched (source c.args.self.now c.args.gap) l c.args.rank) (sym here)
     (search-begins (source c.args.self.now c.args.gap) c.args.rank)
 
@@ -22,7 +22,7 @@ loop-member-preserved g c = search-more _ _ _ _ _ c.loop-member.invariant c.in-S
 pub returns-then-member-rank-clause-behind : goal.returns-then-member-rank-clause-behind
 returns-then-member-rank-clause-behind g c =
     let sol : IsSolving c.args.self.now =
-    subst IsSolving c.self.view_is (solving_of c.self.inside.stage _ c.self.inside.done c.self.invariant.0) in
+    subst IsSolving c.self.view_is (solving_of c.self.inside.stage _ c.self.inside.done c.self.invariant) in
     let found : c.loop-member.members ≡ c.args.rank ∷ c.take_next.new.self =
     subst (λ m. c.loop-member.members ≡ m ∷ c.take_next.new.self) c.if-member-rank.true c.in-Some.ensures in
     search-found _ _ _ _ _ _ c.loop-member.invariant found

@@ -8,4 +8,4 @@ pub returns : goal.returns
 returns g c =
     let i : c.args.gap < (graph_of c.self.inside.stage.game).gaps = rw (← c.self.view_is) at c.requires in
     subst (λ (v : Solving). c.sources.result ≡ source v c.args.gap) c.self.view_is
-    (c.sources.ensures ∙ sym (source-shown c.self.inside.stage _ c.self.inside.done c.self.invariant.0 c.args.gap i))
+    (c.sources.ensures ∙ sym (source-shown c.self.inside.stage _ c.self.inside.done c.self.invariant c.args.gap i))

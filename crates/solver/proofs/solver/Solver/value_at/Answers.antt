@@ -13,5 +13,5 @@ returns g c =
     let i : c.args.rank < (graph_of s.game).configurations = rw (← c.self.view_is) at c.requires in
     subst (λ (v : Solving). (value : ℕ) → (c.value_of.result ≡ Some value)
     ↔ ((value ≤ v.rounds) × HasValue v.game.board (configuration_of v.game c.args.rank) (Finite value))) c.self.view_is
-    (value-read s _ c.self.inside.done c.self.invariant.0 c.args.rank i c.value_of.result
+    (value-read s _ c.self.inside.done c.self.invariant c.args.rank i c.value_of.result
     (c.value_of.ensures ∙ ap value_of_word c.word.ensures))

@@ -8,10 +8,10 @@ use Rattle.solver.proofs.solver.Solver.words.Goals as goal
 pub returns-clause-size : goal.returns-clause-size
 returns-clause-size g c =
     subst (λ (v : Solving). length c.words.result.now ≡ (graph_of v.game).configurations) c.self.view_is
-    (ap length c.words.ensures ∙ c.self.invariant.0.stage.filed_are.values_length)
+    (ap length c.words.ensures ∙ c.self.invariant.stage.filed_are.values_length)
 
 pub returns-clause-values : goal.returns-clause-values
 returns-clause-values g c =
     let s = c.self.inside.stage in
     subst (λ (v : Solving). AreFirstValues v (map value_of_word c.words.result.now)) c.self.view_is
-    (rw c.words.ensures (first-values s _ c.self.inside.done c.self.invariant.0))
+    (rw c.words.ensures (first-values s _ c.self.inside.done c.self.invariant))

@@ -2,7 +2,7 @@ use Rattle.std.proofs.Common.{◌≡◌, ◌<◌, ℕ, slice_index, sym, ap, ◌
 use Rattle.std.proofs.lemmas.List.{get_or_read}
 use Rattle.graphs.specs.Numbered.{Numbered, graph_of}
 use Rattle.solver.specs.Inside.Stage.{PlainStage, IsSmall}
-use Rattle.solver.specs.declared.word.TheConstants.{OPEN}
+use Rattle.gap_values.specs.declared.closing.TheConstants.{OPEN}
 use Rattle.solver.proofs.ClosingGaps.{IsToClose, in_words, gap-takes, gap-skips, gap-closed}
 use Rattle.graphs.proofs.Cited.{same_is}
 use Rattle.solver.proofs.ListedWords.{valued_word}

@@ -1,26 +1,23 @@
-use Rattle.std.proofs.Common.{◌≡◌, ◌∙◌, ℕ, List, take, ap, sym, subst}
-use Rattle.board_text.specs.PlainBoard.{PlainBoard, IsConfiguration}
-use Rattle.positions.specs.Ranks.{configuration_at}
+use Rattle.std.proofs.Common.{◌<◌, ap, sym, subst, ◌∙◌}
+use Rattle.std.proofs.lemmas.List.{get_or_read}
+use Rattle.board_text.specs.PlainBoard.{PlainBoard}
+use Rattle.gap_values.specs.Inside.Words.{round_of_word}
+use Rattle.positions.specs.Ranks.{configurations, configuration_at}
 use Rattle.positions.specs.Value.{HasValue}
-use Rattle.positions.proofs.Cited.{configuration_at_is}
+use Rattle.solver.proofs.RankValues.{rank-inside, rank-value}
 use Rattle.solver.proofs.values.Values.of.Goals as goal
 
-pub of-requires : goal.of-requires
-of-requires c =
-    let space = c.self.inside.space in
-    let low = rw (← c.self.view_is) at c.requires in
-    let held : take c.pebbles.result c.places_at-held.result ≡ configuration_at space c.args.rank =
-    ap (λ n. take n c.places_at-held.result) c.pebbles.ensures.value ∙ c.places_at-held.ensures in
-    subst (λ (l : List ℕ). IsConfiguration c.self.inside.numbered.board l) (sym held)
-    (subst (λ (b : PlainBoard). IsConfiguration b (configuration_at space c.args.rank))
-    (sym c.self.invariant.same_board)
-    (configuration_at_is space c.args.rank low))
+pub index-requires : goal.index-requires
+index-requires c =
+    let low : c.args.rank < configurations c.self.inside.graph.board = rw (← c.self.view_is) at c.requires in
+    rank-inside _ _ _ _ c.self.invariant c.args.rank low
 
 pub returns : goal.returns
 returns c =
-    let space = c.self.inside.space in
-    let held : take c.pebbles.result c.places_at-held.result ≡ configuration_at space c.args.rank =
-    ap (λ n. take n c.places_at-held.result) c.pebbles.ensures.value ∙ c.places_at-held.ensures in
-    subst (λ (b : PlainBoard). HasValue b (configuration_at b c.args.rank) c.of.result) c.self.view_is
-    (subst (λ (b : PlainBoard). HasValue b (configuration_at space c.args.rank) c.of.result) c.self.invariant.same_board
-    (subst (λ (l : List ℕ). HasValue c.self.inside.numbered.board l c.of.result) held c.of.ensures))
+    let low : c.args.rank < configurations c.self.inside.graph.board = rw (← c.self.view_is) at c.requires in
+    let inside = rank-inside _ _ _ _ c.self.invariant c.args.rank low in
+    let read = get_or_read c.self.inside.words.items c.args.rank c.index.result.now inside c.index.ensures 0 in
+    subst (λ (b : PlainBoard). HasValue b (configuration_at b c.args.rank) c.value_with.result) c.self.view_is
+    (subst (HasValue c.self.inside.graph.board (configuration_at c.self.inside.graph.board c.args.rank))
+    (ap round_of_word (sym read) ∙ sym c.value_with.ensures)
+    (rank-value _ _ _ _ c.self.invariant c.args.rank low))

@@ -23,8 +23,8 @@ module _ (c : After-as_slice) where
   abbrev b : PlainBoard
   b = c.args._board.now
 
-  same : c.self.inside.numbered.board ≡ b
-  same = c.self.invariant.same_board ∙ c.self.view_is ∙ c.requires.board
+  same : c.args.self.now ≡ b
+  same = c.requires.board
 
   member : c.as_slice.result.now ≡ member_with c.args.gap.now c.args.label
   member = result-class (places b) c.args.gap.now c.of-class.result c.put.new.self c.as_slice.result.now c.args.label
