@@ -7,7 +7,6 @@ ghost use Rattle.std.specs.Prelude.{◌≡◌, ℕ, ◌-◌, ◌<◌, ◌≤◌,
 ghost use Rattle.board_text.specs.PlainBoard.{places};
 ghost use Rattle.classes.specs.Classes.{Falls};
 ghost use Rattle.classes.specs.Lists.{AreClassLists};
-ghost use Rattle.classes.specs.Numbers.{class_count};
 
 use crate::assertions::{assert_same, board_of};
 use crate::classes_of_boards::classes_of;
@@ -60,9 +59,6 @@ const GAPS_OF_CLASSES: [[u32; 3]; 10] = [
 
 /// How many classes end in each gap's places and a least one.
 const FAMILIES: [u16; 6] = [1, 1, 2, 1, 2, 3];
-
-/// The gap of the two greatest places of each class.
-const FAMILIES_OF_CLASSES: [usize; 10] = [0, 1, 2, 2, 3, 4, 4, 5, 5, 5];
 
 /// The classes of some pebbles, if the board has as many.
 fn lists_of(alloc: Global, classes: &Classes, pebbles: u8) -> Option<Vec<ClassPlaces>>
@@ -117,15 +113,6 @@ fn least_places(classes: &Classes, lists: &[ClassPlaces], gap: usize) -> u16
 {
     let _ = classes.pebbles();
     classes.least_places(lists[gap].as_slice())
-}
-
-/// The gap in whose family a class is.
-fn family_of(classes: &Classes, lists: &[ClassPlaces], number: u32) -> usize
-    requires lists { AreClassLists (places classes.now) (classes.now.pebbles - 1) lists.now }
-    requires number { number < class_count classes.now }
-{
-    let others = classes.pebbles() - 1;
-    classes.family_of(others, lists, number)
 }
 
 /// Asserts the number of each class, and its gaps.
@@ -213,7 +200,7 @@ fn members_of_gaps(rt: HostRuntime) {
     assert_gaps(&rt, &classes, &lists);
 }
 
-/// Asserts how many places the family of each gap has, and the gap of each class's family.
+/// Asserts how many places the family of each gap has.
 fn assert_families(rt: &impl Abort, classes: &Classes, lists: &[ClassPlaces])
     requires { AreClassLists (places classes.now) (classes.now.pebbles - 1) lists.now }
 {
@@ -221,15 +208,6 @@ fn assert_families(rt: &impl Abort, classes: &Classes, lists: &[ClassPlaces])
     for gap in 0..lists.len() {
         let many = least_places(classes, lists, gap);
         assert_same(rt, ("places of", gap), Some(&many), FAMILIES.get(gap));
-    }
-    for number in 0..classes.count() {
-        let gap = family_of(classes, lists, number);
-        assert_same(
-            rt,
-            ("family of", number),
-            Some(&gap),
-            FAMILIES_OF_CLASSES.get(number as usize),
-        );
     }
 }
 

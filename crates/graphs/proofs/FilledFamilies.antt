@@ -1,5 +1,5 @@
 -- The entries of a gap's family in the table of the gaps in which classes are answers.
-use Rattle.std.proofs.Common.{◌≡◌, ◌≢◌, ℕ, suc, ◌+◌, ◌-◌, ◌<◌, ◌≤◌, ◌↔◌, min, inl, inr, refl, sym, ap, ◌∙◌, subst}
+use Rattle.std.proofs.Common.{◌≡◌, ◌≢◌, ℕ, suc, ◌+◌, ◌-◌, ◌<◌, ◌≤◌, ◌↔◌, inl, inr, refl, sym, ap, ◌∙◌, subst}
 use Rattle.std.proofs.Common.{arith}
 use Rattle.std.proofs.Common.{List, [], ◌∷◌, ◌++◌, length, get_or, take, true, MatchOption, Some, None, Option}
 use Rattle.std.specs.List.{All, remove}
@@ -13,7 +13,6 @@ use Rattle.board_text.specs.declared.board.TheConstants.{MAX_LABELS}
 use Rattle.classes.specs.Classes.{Falls, IsClass}
 use Rattle.classes.specs.Numbers.{ways}
 use Rattle.positions.specs.Gaps.{AnswersGap}
-use Rattle.graphs.specs.Graph.{PlainGraph}
 use Rattle.graphs.specs.Answers.{AreAnswerBits}
 use Rattle.graphs.specs.ClassGraph.{gap_class, classes}
 use Rattle.graphs.specs.declared.graph.Numbering.TheVariants.{Classes}
@@ -22,10 +21,8 @@ use Rattle.graphs.specs.declared.families.Dominator.{Dominator}
 use Rattle.graphs.specs.declared.families.Family.{Family}
 use Rattle.graphs.specs.Inside.Families.{family_start, family_size, IsDominatorAt, HasNoDominator, IsFamilyDominator}
 use Rattle.graphs.specs.Inside.Families.{IsFamily}
-use Rattle.graphs.specs.Inside.Families.{IsFilledTo}
 use Rattle.graphs.specs.Inside.Tables.{IsStruckTable}
-use Rattle.classes.specs.Families.{IsInFamily}
-use Rattle.classes.proofs.Cited.{last-family, least-below, least-some, next-family}
+use Rattle.classes.proofs.Cited.{first-family, last-family, least-below, least-some, next-family, some-ways}
 use Rattle.graphs.proofs.ClassGraphs.{gap-is, classes-is}
 use Rattle.graphs.proofs.ClassTables.{answer-of, answer-in}
 use Rattle.graphs.proofs.StruckFamilies.{struck-own, struck-left, struck-no, one-dominator, some-place}
@@ -157,14 +154,6 @@ module _ (b : PlainBoard) (is : IsBoard b) where
         (no-other h v (gap-is b is k.gap ok.is_gap).falls k.dominator ok.dominator_is not_beaten))
         ∙ ap (classes b).struck here
 
--- a part that is the whole table
-pub whole-part : (a : PlainGraph) (count : ℕ) (part : List ℕ) → IsFilledTo a 0 count part → count ≡ a.configurations
-    → length part ≡ a.configurations → IsStruckTable a part
-whole-part a count part filled count_is size = record {
-  size = size;
-  each = λ x i. filled x (omega arith) ∙ ap a.struck (let same : 0 + x ≡ x = omega arith in same);
-}
-
 -- the same of the graph that a trait's clauses name
 pub struck-shown : (b c : PlainBoard) → b ≡ c → (struck : List ℕ) → IsStruckTable (classes c) struck
     → IsStruckTable (graph_of (numbered b Classes)) struck
@@ -173,12 +162,10 @@ struck-shown b c same struck has = subst (λ (p : PlainBoard). IsStruckTable (cl
 
 -- ---- from family to family
 
--- the next entry is of the family of this gap
-pub record IsNext (b : PlainBoard) (gap start first filled : ℕ) : Type 0 where
-  pub is_gap : gap < ways (b.pebbles - 1) (places b)
-  pub start_is : start ≡ family_start b gap
-  pub reached : start ≤ first + filled
-  pub within : first + filled < start + family_size b gap
+-- where the family of a gap begins, or the end of all, after the last one
+pub record IsAtGap (b : PlainBoard) (gap start : ℕ) : Type 0 where
+  pub begins : gap < ways (b.pebbles - 1) (places b) → start ≡ family_start b gap
+  pub ends : gap ≡ ways (b.pebbles - 1) (places b) → start ≡ ways b.pebbles (places b)
 
 module _ (b : PlainBoard) (is : IsBoard b) where
   abbrev bound : ℕ
@@ -189,17 +176,6 @@ module _ (b : PlainBoard) (is : IsBoard b) where
 
   all : ways (suc count) bound ≡ ways b.pebbles bound
   all = ap (λ n. ways n bound) (let some = is.pebbles.0 in omega arith)
-
-  pub next-of : (gap start first : ℕ) → IsInFamily bound count gap first → start ≡ family_start b gap
-      → IsNext b gap start first 0
-  next-of gap start first in_family start_is =
-      let low = in_family.first in
-      let high = in_family.last in record {
-        is_gap = in_family.inside;
-        start_is = start_is;
-        reached = omega arith;
-        within = omega arith;
-      }
 
   -- the end of a family is a class, or the end of all
   pub end-below : (gap : ℕ) → gap < ways count bound → family_start b gap + family_size b gap ≤ ways b.pebbles bound
@@ -214,33 +190,39 @@ module _ (b : PlainBoard) (is : IsBoard b) where
         | inr end ↦ let last = last-family bound count (some-place b is) gap (omega arith) in omega arith
       ]
 
-  -- if the family ends before the part does, the next one follows
-  pub next-after : (gap start first filled length size end : ℕ) → IsNext b gap start first filled
-      → size ≡ family_size b gap → first + length ≤ ways b.pebbles bound → end ≡ min length (start + size - first)
-      → end < length
-      → IsNext b (gap + 1) (start + size) first end
-  next-after gap start first filled length size end next size_is inside end_is more =
-      let low = next.is_gap in
-      let start_is = next.start_is in
-      let reached = next.reached in
-      let within = next.within in
-      let whole = all in
-      let some = least-some bound (gap_class b (suc gap)) (some-place b is) in
-      let here : first + end ≡ start + size = omega arith in
-      elim (cases_lt (suc gap) (ways count bound)) [
-        | inl another ↦
-            let follows = next-family bound count (some-place b is) gap another in
-            let one : suc gap ≡ gap + 1 = omega arith in
-            subst (λ g. IsNext b g (start + size) first end) one (record {
-              is_gap = another;
-              start_is = omega arith;
-              reached = omega arith;
-              within = omega arith;
-            })
-        | inr last ↦
+  some-gaps : 0 < ways count bound
+  some-gaps =
+      let some = some-place b is in
+      let one : suc (places b - 1) ≡ places b = omega arith in
+      subst (λ n. 0 < ways count n) one (some-ways count (places b - 1))
+
+  pub at-first : IsAtGap b 0 0
+  at-first = record {
+    begins = λ low. sym (first-family bound count (some-place b is));
+    ends = λ none. let some = some-gaps in absurd (omega arith);
+  }
+
+  -- the family of a gap is inside, and the next one follows
+  pub at-inside : (gap start size : ℕ) → gap < ways count bound → size ≡ family_size b gap → IsAtGap b gap start
+      → start + size ≤ ways b.pebbles bound
+  at-inside gap start size low size_is at =
+      let here = at.begins low in
+      let end = end-below gap low in
+      omega arith
+
+  pub at-next : (gap start size : ℕ) → gap < ways count bound → size ≡ family_size b gap → IsAtGap b gap start
+      → IsAtGap b (gap + 1) (start + size)
+  at-next gap start size low size_is at =
+      let here = at.begins low in record {
+        begins = λ more.
+            let follows = next-family bound count (some-place b is) gap (omega arith) in
+            let next : suc gap ≡ gap + 1 = omega arith in
+            subst (λ g. start + size ≡ family_start b g) next (omega arith);
+        ends = λ last.
             let over = last-family bound count (some-place b is) gap (omega arith) in
-            absurd (omega arith)
-      ]
+            let whole = all in
+            omega arith;
+      }
 
   -- the places of a gap, as they are held
   pub held-class : (g : ℕ) (held : List ℕ) → g < ways count bound → held ≡ gap_class b g

@@ -12,13 +12,13 @@ use Rattle.std.proofs.lemmas.Slice.{drop-put_mid}
 use Rattle.board_text.specs.PlainBoard.{PlainBoard, IsBoard, places}
 use Rattle.classes.specs.Classes.{put}
 use Rattle.classes.specs.Numbers.{class_number, ways}
-use Rattle.classes.proofs.Cited.{ways-zero, ways-suc, first-family, last-family, next-family, least-some, least-within}
+use Rattle.classes.proofs.Cited.{least-some, least-within}
 use Rattle.classes.proofs.Cited.{place-below}
 use Rattle.graphs.specs.ClassGraph.{classes, gap_class}
 use Rattle.graphs.specs.Inside.Families.{family_start, family_size}
 use Rattle.graphs.specs.Stuck.{IsStuckBy, AreStuckZeroed, IsPartZeroed, AreZeroedWhere}
 use Rattle.graphs.proofs.ClassGraphs.{gap-is}
-use Rattle.graphs.proofs.FilledFamilies.{end-below}
+use Rattle.graphs.proofs.FilledFamilies.{IsAtGap, at-first, at-inside, at-next}
 use Rattle.graphs.proofs.StruckFamilies.{some-place, own-member, other-below, other-member, only-gaps}
 
 -- ---- words that are 0 where counts are
@@ -212,30 +212,18 @@ put-outside a k x xs ys low size (inr after) =
     ∙ ap (λ l. get_or l (x - (a + k)) 0) (drop-put_mid a k xs ys (a + k) (omega arith) (omega arith) size)
     ∙ get_or-drop (a + k) xs (x - (a + k)) 0 ∙ ap (λ i. get_or xs i 0) at
 
-some-ways : (count bound : ℕ) → 0 < ways count (suc bound)
-some-ways zero bound = omega (arith, ways-zero (suc bound))
-some-ways (suc count) bound = let one = some-ways count bound in omega (arith, one, ways-suc count bound)
-
 -- the first families are done, and where the next one begins, if one is left
 pub record AreFamiliesZeroed (b : PlainBoard) (counts : List ℕ) (gap start : ℕ) (old new : List ℕ) : Type 0 where
-  pub begins : gap < ways (b.pebbles - 1) (places b) → start ≡ family_start b gap
-  pub ends : gap ≡ ways (b.pebbles - 1) (places b) → start ≡ ways b.pebbles (places b)
+  pub at : IsAtGap b gap start
   pub done : AreStuckZeroed (classes b) counts start old new
 
 module _ (b : PlainBoard) (is : IsBoard b) (counts old : List ℕ) where
   abbrev gaps : ℕ
   gaps = ways (b.pebbles - 1) (places b)
 
-  some-gaps : 0 < gaps
-  some-gaps =
-      let some = some-place b is in
-      let one : suc (places b - 1) ≡ places b = omega arith in
-      subst (λ n. 0 < ways (b.pebbles - 1) n) one (some-ways (b.pebbles - 1) (places b - 1))
-
   pub families-none : AreFamiliesZeroed b counts 0 0 old old
   families-none = record {
-    begins = λ low. sym (first-family (places b) (b.pebbles - 1) (some-place b is));
-    ends = λ none. let some = some-gaps in absurd (omega arith);
+    at = at-first b is;
     done = record {
       same_length = refl;
       zeroed = λ x low stuck. absurd (omega arith);
@@ -243,25 +231,13 @@ module _ (b : PlainBoard) (is : IsBoard b) (counts old : List ℕ) where
     };
   }
 
-  all : ways (suc (b.pebbles - 1)) (places b) ≡ ways b.pebbles (places b)
-  all = ap (λ n. ways n (places b)) (let some = is.pebbles.0 in omega arith)
-
-  -- the family of a gap is inside
-  pub family-inside : (gap start size : ℕ) (now : List ℕ) → gap < gaps → size ≡ family_size b gap
-      → AreFamiliesZeroed b counts gap start old now → start + size ≤ ways b.pebbles (places b)
-  family-inside gap start size now low size_is z =
-      let here = z.begins low in
-      let end = end-below b is gap low in
-      omega arith
-
   pub families-more : (gap start size : ℕ) (now part : List ℕ) → gap < gaps → size ≡ family_size b gap
       → length old ≡ ways b.pebbles (places b)
       → AreFamiliesZeroed b counts gap start old now
       → IsPartZeroed (classes b) counts start (take (start + size - start) (drop start now)) part
       → AreFamiliesZeroed b counts (gap + 1) (start + size) old (put_mid start (start + size - start) now part)
   families-more gap start size now part low size_is long z one =
-      let here = z.begins low in
-      let inside = family-inside gap start size now low size_is z in
+      let inside = at-inside b is gap start size low size_is z.at in
       let same : length now ≡ length old = z.done.same_length in
       let k : ℕ = start + size - start in
       let k_is : k ≡ size = omega arith in
@@ -273,14 +249,7 @@ module _ (b : PlainBoard) (is : IsBoard b) (counts old : List ℕ) where
       let made : (v : ℕ) → v < size → get_or (put_mid start k now part) (start + v) 0 ≡ get_or part v 0 =
       λ v below. put-inside start k v now part (omega arith) (omega arith) in
       record {
-        begins = λ more.
-            let follows = next-family (places b) (b.pebbles - 1) (some-place b is) gap (omega arith) in
-            let next : suc gap ≡ gap + 1 = omega arith in
-            subst (λ g. start + size ≡ family_start b g) next (omega arith);
-        ends = λ last.
-            let over = last-family (places b) (b.pebbles - 1) (some-place b is) gap (omega arith) in
-            let whole = all in
-            omega arith;
+        at = at-next b is gap start size low size_is z.at;
         done = record {
           same_length = same_len_mid start k now part one.same_length ∙ same;
           zeroed = λ x below stuck. elim (cases_lt x start) [

@@ -45,11 +45,5 @@ solver_sync T g lent = view_sync (inside.the_row T g) _ _ _ _
     (recorded_sync (inside.the_field T g).row _ _ (inside.the_type T g).to_one
     (struct_sync (shape (inside.the_type T g)) (
       search (stage_sync, lent),
-      (
-        search (sendable, crosses, space_sync) depth 30,
-        (
-          search (sendable, crosses) depth 30,
-          (search (sendable, crosses) depth 30, (search sendable, tt)),
-        ),
-      ),
+      (search sendable, tt),
     )))

@@ -2,8 +2,7 @@
 
 ghost use Rattle.std.specs.Prelude.{◌≡◌, ◌≢◌, ◌↔◌, ◌<◌, ◌≤◌, ℕ, IsTrue, length, slice_index};
 ghost use Rattle.std.specs.Prelude.{vec_capacity};
-ghost use Rattle.board_text.specs.PlainBoard.{IsBoard, IsConfiguration, places};
-ghost use Rattle.gap_values.specs.Inside.Words.{round_of_word};
+ghost use Rattle.board_text.specs.PlainBoard.{IsBoard, places};
 ghost use Rattle.graphs.specs.declared.graph.Numbering.TheVariants.{Ordered};
 ghost use Rattle.positions.specs.Counts.{IsSmallest};
 ghost use Rattle.positions.specs.Gaps.{gaps, member_of, IsAnswer};
@@ -145,15 +144,6 @@ impl Values {
         self.words[self.space().member(gap, place) as usize] == OPEN
     }
 
-    /// The word of the value of the configuration `held`: the value, or `OPEN` for Forever.
-    fn word_of(&self, held: &[u16]) -> u32
-        requires { IsConfiguration self.now held.now }
-        ensures value { HasValue self.now held.now (round_of_word result) }
-        ensures few { result ≤ OPEN }
-    {
-        self.words[self.space().rank(held) as usize]
-    }
-
     /// The space of the board.
     pub fn space(&self) -> &Space
         ensures value { result.now ≡ self.now }
@@ -168,13 +158,14 @@ impl ValueTable for Values {
     ghost table_board = { λ values. values };
 
     fn value(&self, held: &[u16]) -> Value {
-        value_with(self.word_of(held))
+        self.of(self.space().rank(held))
     }
 
     fn word_after(&self, _board: &Board, gap: &[u16], label: u16) -> u32 {
+        let Values { graph, words, .. } = self;
         let mut class = ClassPlaces::of(gap);
         class.put(label);
-        self.word_of(class.as_slice())
+        words[graph.space().rank(class.as_slice()) as usize]
     }
 
     /// Nothing is known of the results of a gap before each is looked up.

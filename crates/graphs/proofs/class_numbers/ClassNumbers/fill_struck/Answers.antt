@@ -1,50 +1,49 @@
-use Rattle.std.proofs.Common.{◌<◌, ◌∙◌, ◌+◌, ◌-◌, min, ap, refl, sym, subst, arith, length}
+use Rattle.std.proofs.Common.{◌≡◌, ◌-◌, ◌<◌, ◌≤◌, ◌∙◌, ◌+◌, ap, refl, subst, arith, length}
 use Rattle.board_text.specs.PlainBoard.{PlainBoard, places}
-use Rattle.classes.specs.Families.{IsInFamily}
-use Rattle.graphs.specs.Numbered.{graph_by}
-use Rattle.graphs.specs.Inside.Families.{family_start, family_size}
-use Rattle.graphs.proofs.FilledFamilies.{next-of, next-after}
-use Rattle.graphs.proofs.StruckFamilies.{some-place}
+use Rattle.classes.specs.Numbers.{ways}
+use Rattle.graphs.specs.ClassGraph.{classes}
+use Rattle.graphs.specs.Inside.Families.{family_size, IsFilledTo}
+use Rattle.graphs.proofs.FilledFamilies.{at-first, at-inside, at-next}
 use Rattle.graphs.proofs.class_numbers.ClassNumbers.fill_struck.Goals as goal
+use Rattle.graphs.proofs.class_numbers.ClassNumbers.fill_struck.Goals.{After-family-family}
 
-pub member-start-requires-clause-gap : goal.member-start-requires-clause-gap
-unfolding graph_by
-member-start-requires-clause-gap c = c.family_of-gap.ensures.inside
+low : (c : After-family-family) → c.loop-gap.gap < ways (c.args.board.now.pebbles - 1) (places c.args.board.now)
+low c = subst (λ (b : PlainBoard). c.loop-gap.gap < ways (b.pebbles - 1) (places b))
+    (c.classes.ensures ∙ c.requires.board)
+    (omega (arith, c.loop-gap-test.true, c.gaps-gap-end.ensures.value))
 
-pub member-start-requires-clause-place : goal.member-start-requires-clause-place
-unfolding graph_by
-member-start-requires-clause-place c =
-    subst (λ (b : PlainBoard). 0 < places b) (sym c.requires.board) (some-place c.args.board.now c.requires.is_board)
+size : (c : After-family-family) → c.family-family.result.size ≡ family_size c.args.board.now c.loop-gap.gap
+size c = c.family-family.ensures.family.size_is ∙ ap (family_size c.args.board.now) c.family-family.ensures.gap
 
-pub loop-filled-init : goal.loop-filled-init
-unfolding graph_by
-loop-filled-init c =
-    let same = c.requires.board in
-    record {
-      size = refl;
-      most = omega arith;
-      filled = λ index none. absurd (omega arith);
-      next = λ some. next-of c.args.board.now c.requires.is_board c.family_of-gap.result c.member-start.result
-          c.args.first
-          (subst (λ (b : PlainBoard). IsInFamily (places b) (b.pebbles - 1) c.family_of-gap.result c.args.first) same
-          c.family_of-gap.ensures)
-          (c.member-start.ensures ∙ ap (λ (b : PlainBoard). family_start b c.family_of-gap.result) same);
-    }
+inside : (c : After-family-family)
+    → c.loop-gap.start + c.family-family.result.size ≤ ways c.args.board.now.pebbles (places c.args.board.now)
+inside c =
+    at-inside c.args.board.now c.requires.is_board c.loop-gap.gap c.loop-gap.start c.family-family.result.size (low c)
+    (size c) c.loop-gap.invariant.at
 
-pub loop-filled-preserved : goal.loop-filled-preserved
-loop-filled-preserved c =
-    let i = c.loop-filled.invariant in
-    let k = c.family-family.ensures in
-    let size = c.fill-filled.ensures.size in
-    let end = c.fill-filled.ensures.end in
-    record {
-      size = size ∙ i.size;
-      most = omega (arith, size, end);
-      filled = c.fill-filled.ensures.filled;
-      next = λ more. next-after c.args.board.now k.is_board c.loop-filled.gap c.loop-filled.start c.args.first
-          c.loop-filled.filled (length c.loop-filled.part) c.family-family.result.size c.fill-filled.result
-          (i.next c.loop-filled-test.true)
-          (k.family.size_is ∙ ap (family_size c.args.board.now) k.gap) (omega (arith, i.size, c.requires.inside))
-          (end ∙ ap (λ n. min (length c.loop-filled.part) (n + c.family-family.result.size - c.args.first)) k.start)
-          (omega (arith, size, more));
+pub loop-gap-init : goal.loop-gap-init
+loop-gap-init c = record {
+  at = at-first c.args.board.now c.requires.is_board;
+  size = refl;
+  filled = λ x none. absurd (omega arith);
+}
+
+pub fill-requires-clause-inside : goal.fill-requires-clause-inside
+fill-requires-clause-inside c =
+    let at = (goal.at.fill-requires-clause-inside c).After-family-family in
+    omega (arith, inside at, c.family-family.ensures.start, c.loop-gap.invariant.size, c.requires.size)
+
+pub overflow_add-start : goal.overflow_add-start
+overflow_add-start c =
+    let at = (goal.at.overflow_add-start c).After-family-family in
+    omega (arith, inside at, c.requires.few)
+
+pub loop-gap-preserved : goal.loop-gap-preserved
+loop-gap-preserved c =
+    let at = (goal.at.loop-gap-preserved c).After-family-family in record {
+      at = at-next c.args.board.now c.requires.is_board c.loop-gap.gap c.loop-gap.start c.family-family.result.size
+          (low at) (size at) c.loop-gap.invariant.at;
+      size = c.fill.ensures.size ∙ c.loop-gap.invariant.size;
+      filled = subst (λ n. IsFilledTo (classes c.args.board.now) n c.fill.new.struck)
+          (ap (λ n. n + c.family-family.result.size) c.family-family.ensures.start) c.fill.ensures.filled;
     }

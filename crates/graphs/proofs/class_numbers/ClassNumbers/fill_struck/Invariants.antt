@@ -1,16 +1,12 @@
-use Rattle.std.proofs.Common.{◌≡◌, ◌<◌, ◌≤◌, ◌-◌, length}
+use Rattle.std.proofs.Common.{◌≡◌, length}
 use Rattle.graphs.specs.ClassGraph.{classes}
 use Rattle.graphs.specs.Inside.Families.{IsFilledTo}
-use Rattle.graphs.proofs.FilledFamilies.{IsNext}
+use Rattle.graphs.proofs.FilledFamilies.{IsAtGap}
 use Rattle.graphs.proofs.class_numbers.ClassNumbers.fill_struck.Given as goal
 
-abbrev pub invariant-loop-filled : goal.invariant-loop-filled
-invariant-loop-filled l = record {
-  size : length l.part ≡ length l.initial.part;
-  most : l.filled ≤ length l.part;
-  filled : IsFilledTo (classes l.board) l.first l.filled l.part;
-  next : l.filled < length l.part → IsNext l.board l.gap l.start l.first l.filled;
+abbrev pub invariant-loop-gap : goal.invariant-loop-gap
+invariant-loop-gap l = record {
+  at : IsAtGap l.board l.gap l.start;
+  size : length l.struck ≡ length l.initial.struck;
+  filled : IsFilledTo (classes l.board) l.start l.struck;
 }
-
-abbrev pub decreases-loop-filled : goal.decreases-loop-filled
-decreases-loop-filled l = length l.part - l.filled

@@ -1,4 +1,5 @@
-use Rattle.std.proofs.Common.{◌≡◌, ◌<◌, ◌↔◌, ◌==◌, ◌∙◌, ℕ, List, IsTrue, ap, slice_index, sym, subst}
+use Rattle.std.proofs.lemmas.List.{get_or_read}
+use Rattle.std.proofs.Common.{arith, ◌≡◌, ◌<◌, ◌↔◌, ◌==◌, ◌∙◌, ℕ, List, IsTrue, ap, slice_index, sym, subst}
 use Rattle.board_text.specs.PlainBoard.{PlainBoard, IsConfiguration, places}
 use Rattle.positions.specs.Gaps.{gaps, member_of}
 use Rattle.positions.specs.Ranks.{configurations, rank_of}
@@ -27,7 +28,7 @@ member-requires-clause-place c =
 pub index-requires : goal.index-requires
 index-requires c =
     let at = (goal.at.index-requires c).After-member in
-    rank-inside _ _ _ _ c.self.invariant c.member.result (low at)
+    omega (arith, rank-inside _ _ _ _ c.self.invariant c.member.result (low at), c.self.inside.words.ok.0)
 
 pub returns : goal.returns
 returns c =
@@ -40,7 +41,11 @@ returns c =
     let rank : c.member.result ≡ rank_of board held =
     c.member.ensures.rank ∙ ap (λ (b : PlainBoard). rank_of b (member_of b c.args.gap c.args.place)) (own at) in
     let words : List ℕ = c.self.inside.words.items in
-    subst (λ (b : PlainBoard). IsTrue (slice_index words c.member.result == OPEN)
+    let word : c.index.result.now ≡ slice_index words (rank_of board held) =
+    get_or_read words c.member.result c.index.result.now
+    (rank-inside _ _ _ _ c.self.invariant c.member.result (low at)) c.index.ensures 0
+    ∙ ap (slice_index words) rank in
+    subst (λ (b : PlainBoard). IsTrue (c.index.result.now == OPEN)
     ↔ HasValue b (member_of b c.args.gap c.args.place) Forever) c.self.view_is
-    (told (slice_index words c.member.result) (slice_index words (rank_of board held)) _
-    (ap (slice_index words) rank) (held-forever _ _ _ _ c.self.invariant held is))
+    (told c.index.result.now (slice_index words (rank_of board held)) _ word
+    (held-forever _ _ _ _ c.self.invariant held is))

@@ -1,4 +1,4 @@
-use Rattle.std.proofs.Common.{◌<◌, ap, sym, subst, ◌∙◌}
+use Rattle.std.proofs.Common.{◌<◌, arith, ap, sym, subst, ◌∙◌}
 use Rattle.std.proofs.lemmas.List.{get_or_read}
 use Rattle.board_text.specs.PlainBoard.{PlainBoard}
 use Rattle.gap_values.specs.Inside.Words.{round_of_word}
@@ -10,7 +10,7 @@ use Rattle.solver.proofs.values.Values.of.Goals as goal
 pub index-requires : goal.index-requires
 index-requires c =
     let low : c.args.rank < configurations c.self.inside.graph.board = rw (← c.self.view_is) at c.requires in
-    rank-inside _ _ _ _ c.self.invariant c.args.rank low
+    omega (arith, rank-inside _ _ _ _ c.self.invariant c.args.rank low, c.self.inside.words.ok.0)
 
 pub returns : goal.returns
 returns c =

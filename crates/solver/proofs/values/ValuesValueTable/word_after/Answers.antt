@@ -1,10 +1,14 @@
-use Rattle.std.proofs.Common.{◌≡◌, ◌∙◌, length, sym, ap, subst, arith}
+use Rattle.std.proofs.Common.{◌≡◌, ◌<◌, ◌≤◌, ◌∙◌, ℕ, List, length, slice_index, sym, ap, subst, arith}
+use Rattle.std.proofs.lemmas.List.{get_or_read}
 use Rattle.board_text.specs.PlainBoard.{PlainBoard, IsBoard, IsConfiguration, places}
+use Rattle.positions.specs.Ranks.{configurations, rank_of}
 use Rattle.positions.specs.Value.{HasValue}
 use Rattle.classes.specs.ClassGaps.{member_with}
 use Rattle.classes.proofs.Cited.{length-class_of}
 use Rattle.gap_values.specs.Inside.Words.{round_of_word}
+use Rattle.gap_values.specs.declared.closing.TheConstants.{OPEN}
 use Rattle.gap_values.proofs.Cited.{class-configuration, result-class, result-is}
+use Rattle.solver.proofs.RankValues.{held-value, rank-few, rank-inside}
 use Rattle.solver.proofs.values.ValuesValueTable.word_after.Goals as goal
 use Rattle.solver.proofs.values.ValuesValueTable.word_after.Goals.{After-as_slice}
 
@@ -21,32 +25,49 @@ put-requires-clause-room c =
 
 module _ (c : After-as_slice) where
   abbrev b : PlainBoard
-  b = c.args._board.now
+  b = c.self.inside.graph.board
 
-  same : c.args.self.now ≡ b
-  same = c.requires.board
+  same : b ≡ c.args._board.now
+  same = c.self.view_is ∙ c.requires.board
 
   member : c.as_slice.result.now ≡ member_with c.args.gap.now c.args.label
-  member = result-class (places b) c.args.gap.now c.of-class.result c.put.new.self c.as_slice.result.now c.args.label
+  member = result-class (places c.args._board.now) c.args.gap.now c.of-class.result c.put.new.self
+      c.as_slice.result.now c.args.label
       c.requires.is_gap.falls c.of-class.ensures.class c.put.ensures c.as_slice.ensures.value
 
-  is : IsConfiguration b (member_with c.args.gap.now c.args.label)
+  is : IsConfiguration b c.as_slice.result.now
   is =
-      let is_board = subst IsBoard (c.self.view_is ∙ c.requires.board) c.self.invariant.is_board in
-      class-configuration b (member_with c.args.gap.now c.args.label)
-      (result-is b c.args.gap.now c.args.label is_board c.requires.is_gap c.requires.label)
+      let is_board = subst IsBoard same c.self.invariant.is_board in
+      subst (λ (board : PlainBoard). IsConfiguration board c.as_slice.result.now) (sym same)
+      (subst (IsConfiguration c.args._board.now) (sym member)
+      (class-configuration c.args._board.now (member_with c.args.gap.now c.args.label)
+      (result-is c.args._board.now c.args.gap.now c.args.label is_board c.requires.is_gap c.requires.label)))
 
-pub word_of-requires : goal.word_of-requires
-word_of-requires c =
-    let at = (goal.at.word_of-requires c).After-as_slice in
-    subst (λ board. IsConfiguration board c.as_slice.result.now) (sym (same at))
-    (subst (IsConfiguration (b at)) (sym (member at)) (is at))
+pub rank-requires : goal.rank-requires
+rank-requires c =
+    subst (λ (board : PlainBoard). IsConfiguration board c.as_slice.result.now) (sym c.space.ensures.value)
+    (is (goal.at.rank-requires c).After-as_slice)
+
+pub index-requires : goal.index-requires
+index-requires c =
+    let below = subst (λ (board : PlainBoard). c.rank.result < configurations board) c.space.ensures.value
+    c.rank.ensures.below in
+    omega (arith, rank-inside _ _ _ _ c.self.invariant c.rank.result below, c.self.inside.words.ok.0)
 
 pub returns : goal.returns
 returns c =
-    let at = (goal.at.returns c).After-as_slice in record {
-      few = c.word_of.ensures.few;
-      value = subst (λ held. HasValue (b at) held (round_of_word c.word_of.result)) (member at)
-          (subst (λ board. HasValue board c.as_slice.result.now (round_of_word c.word_of.result)) (same at)
-          c.word_of.ensures.value);
+    let at = (goal.at.returns c).After-as_slice in
+    let held : List ℕ = c.as_slice.result.now in
+    let below = subst (λ (board : PlainBoard). c.rank.result < configurations board) c.space.ensures.value
+    c.rank.ensures.below in
+    let rank : c.rank.result ≡ rank_of (b at) held =
+    c.rank.ensures.rank ∙ ap (λ (board : PlainBoard). rank_of board held) c.space.ensures.value in
+    let read = get_or_read c.self.inside.words.items c.rank.result c.index.result.now
+    (rank-inside _ _ _ _ c.self.invariant c.rank.result below) c.index.ensures 0 in record {
+      few = subst (λ n. n ≤ OPEN) (sym read) (rank-few _ _ _ _ c.self.invariant c.rank.result below);
+      value = subst (λ (l : List ℕ). HasValue c.args._board.now l (round_of_word c.index.result.now)) (member at)
+          (subst (λ (board : PlainBoard). HasValue board held (round_of_word c.index.result.now)) (same at)
+          (subst (HasValue (b at) held)
+          (ap round_of_word (sym (read ∙ ap (slice_index c.self.inside.words.items) rank)))
+          (held-value _ _ _ _ c.self.invariant held (is at))));
     }
