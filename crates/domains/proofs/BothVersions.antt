@@ -1,5 +1,5 @@
 -- A claim is made by a document of one version exactly if it is by one of the other.
-use Rattle.std.proofs.Common.{◌≡◌, ◌≤◌, ◌↔◌, subst}
+use Rattle.std.proofs.Common.{◌≡◌, ◌≤◌, ◌↔◌, subst, arith}
 use Rattle.board_text.specs.PlainBoard.{PlainBoard, IsConfiguration}
 use Rattle.positions.specs.Ranks.{configurations}
 use Rattle.positions.specs.declared.claim.Claim.{Claim}
@@ -19,7 +19,8 @@ pub both_versions : (board : PlainBoard) (claim : Claim) → IsConfiguration boa
     ↔ ((proof : PlainProof) × IsClassProof board proof
     × BreaksNoRule (class_positions board.labels) board proof × (proof.claim ≡ claim))
 both_versions board claim is few =
-    let by_class = claims_shown board claim is (few-of-small board few) in (
+    let less = few-of-small board few in
+    let by_class = claims_shown board claim is (omega (arith, less)) in (
       λ shown. (by_class (subst IsClaim shown.3 shown.1.claim)).0 (claims_of_documents board is few claim shown),
       λ shown.
           let small : IsClaim claim = subst IsClaim shown.3 shown.1.claim in

@@ -18,7 +18,7 @@ use Rattle.classes.specs.ClassGaps.{gap_at, member_with}
 use Rattle.gap_values.specs.BestOfGap.{HasWordAfter, IsBestOfGap, IsMostAfter}
 use Rattle.gap_values.specs.declared.value_table.Best.{Best}
 use Rattle.gap_values.specs.GapTables.{IsClosedBefore, IsGapTable}
-use Rattle.gap_values.specs.Inside.Words.{round_of_word}
+use Rattle.gap_values.specs.RoundWords.{round_of_word}
 use Rattle.gap_values.proofs.ClosedGaps.{tree-if-closed, class-configuration}
 use Rattle.gap_values.proofs.Words.{before-from, before-to, result-is}
 

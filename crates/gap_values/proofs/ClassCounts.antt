@@ -30,7 +30,8 @@ use Rattle.gap_values.specs.Inside.Counts.{word_at}
 use Rattle.gap_values.specs.Inside.Families.{IsFamilyOf}
 use Rattle.gap_values.specs.Sizes.{HasValueCount, AreValueCounts}
 use Rattle.gap_values.proofs.FamilyMembers.{edge-begins, edge-is, edge-within, member-class, member-with, some-lists}
-use Rattle.gap_values.specs.Inside.Words.{round_of_word, gap_table, least_word, AreGapWords, AreRounds}
+use Rattle.gap_values.specs.Inside.Words.{gap_table, least_word, AreGapWords, AreRounds}
+use Rattle.gap_values.specs.RoundWords.{round_of_word}
 use Rattle.gap_values.proofs.ClosedGaps.{first-closed, class-configuration, class-is, value-of-class}
 use Rattle.gap_values.proofs.TableNumbers.{gap-below}
 use Rattle.gap_values.specs.GapTables.{IsClosedBefore}

@@ -18,7 +18,8 @@ use Rattle.classes.proofs.Cited.{AreLike, is-below, labeller-like, legal-answers
 use Rattle.gap_values.specs.ClassValues.{AreClassValues}
 use Rattle.gap_values.specs.GapTables.{IsClosedBefore, HasClosedGap}
 use Rattle.gap_values.specs.Inside.ClassRounds.{IsRoundOf, member_word}
-use Rattle.gap_values.specs.Inside.Words.{AreGapWords, AreRounds, gap_table, round_of_word}
+use Rattle.gap_values.specs.Inside.Words.{AreGapWords, AreRounds, gap_table}
+use Rattle.gap_values.specs.RoundWords.{round_of_word}
 use Rattle.gap_values.proofs.ClosedGaps.{class-configuration, gap-is, member-like}
 use Rattle.gap_values.proofs.Words.{before-from, before-to, result-is}
 

@@ -14,7 +14,8 @@ use Rattle.gap_values.specs.GapTables.{IsClosedBefore}
 use Rattle.gap_values.specs.OpenGaps.{AreOpenCounts}
 use Rattle.gap_values.specs.Inside.OpenWords.{open_below}
 use Rattle.gap_values.specs.Inside.Sets.{ArePassed}
-use Rattle.gap_values.specs.Inside.Words.{gap_table, round_of_word, AreRounds}
+use Rattle.gap_values.specs.Inside.Words.{gap_table, AreRounds}
+use Rattle.gap_values.specs.RoundWords.{round_of_word}
 use Rattle.gap_values.proofs.RoundSteps.{IsAtRound, agree, changed, gap_count, gap_with, is-gap, last-round, new-words}
 use Rattle.gap_values.proofs.Words.{before-from, before-to, round-finite, round-none}
 

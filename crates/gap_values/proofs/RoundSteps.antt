@@ -15,7 +15,8 @@ use Rattle.board_text.proofs.Cited.{label_is_place}
 use Rattle.classes.proofs.Cited.{is-below, put-is, put-none, ways-zero, with-is, with-number}
 use Rattle.gap_values.specs.GapTables.{IsClosedBefore, ClosesBy}
 use Rattle.gap_values.specs.Inside.Sets.{TellClosed, IsShut, IsPassed, ArePassed, AreToldTo, open_count}
-use Rattle.gap_values.specs.Inside.Words.{round_of_word, gap_table, AreGapWords, AreRounds}
+use Rattle.gap_values.specs.Inside.Words.{gap_table, AreGapWords, AreRounds}
+use Rattle.gap_values.specs.RoundWords.{round_of_word}
 use Rattle.gap_values.proofs.ClosedParts.{shut-closes}
 use Rattle.gap_values.proofs.ClosingSteps.{open-falls, open-few}
 use Rattle.gap_values.proofs.TableNumbers.{gap-below}

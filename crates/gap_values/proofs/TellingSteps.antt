@@ -12,7 +12,7 @@ use Rattle.classes.specs.Classes.{IsClass, put}
 use Rattle.classes.specs.Numbers.{ways, class_number, class_with}
 use Rattle.classes.proofs.Cited.{is-below, put-is, with-number}
 use Rattle.gap_values.specs.GapTables.{IsClosedBefore}
-use Rattle.gap_values.specs.Inside.Words.{round_of_word}
+use Rattle.gap_values.specs.RoundWords.{round_of_word}
 use Rattle.gap_values.specs.Inside.Sets.{HasLabel, TellClosed, IsTold, IsGapToldTo, AreToldTo}
 use Rattle.gap_values.proofs.FamilyMembers.{put-back, IsPart, part-of}
 use Rattle.gap_values.proofs.TableNumbers.{remove-is}

@@ -15,7 +15,8 @@ use Rattle.gap_values.specs.GapTables.{HasClosedGap, IsClosedBefore}
 use Rattle.gap_values.specs.Inside.Counts.{class_word}
 use Rattle.gap_values.specs.Inside.Families.{IsFamilyOf}
 use Rattle.gap_values.specs.Inside.Sets.{HasLabel, IsInOthers, TellClosed}
-use Rattle.gap_values.specs.Inside.Words.{gap_table, round_of_word}
+use Rattle.gap_values.specs.Inside.Words.{gap_table}
+use Rattle.gap_values.specs.RoundWords.{round_of_word}
 use Rattle.gap_values.proofs.ClosedParts.{closed-parts}
 use Rattle.gap_values.proofs.FamilyMembers.{held-long, member-class, member-long, member-number, number-last-others}
 use Rattle.gap_values.proofs.FamilyMembers.{others-class, others-number}

@@ -11,7 +11,8 @@ use Rattle.classes.specs.ClassGaps.{gap_at, member_with}
 use Rattle.classes.specs.Numbers.{class_number}
 use Rattle.classes.proofs.Cited.{class_of-class, put-is}
 use Rattle.gap_values.specs.GapTables.{IsClosedBefore, HasClosedGap}
-use Rattle.gap_values.specs.Inside.Words.{round_of_word, gap_table, word_without, least_word}
+use Rattle.gap_values.specs.Inside.Words.{gap_table, word_without, least_word}
+use Rattle.gap_values.specs.RoundWords.{round_of_word}
 use Rattle.gap_values.proofs.TableNumbers.{falls-remove}
 
 -- ---- the round of a word

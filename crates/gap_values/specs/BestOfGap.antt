@@ -7,7 +7,7 @@ use Rattle.positions.specs.Gaps.{AnswersGap}
 use Rattle.classes.specs.ClassGaps.{member_with}
 use Rattle.gap_values.specs.declared.closing.TheConstants.{OPEN}
 use Rattle.gap_values.specs.declared.value_table.Best.{Best}
-use Rattle.gap_values.specs.Inside.Words.{round_of_word}
+use Rattle.gap_values.specs.RoundWords.{round_of_word}
 
 -- the label may answer, and the value of no other answer's result is greater: wherever its own is
 -- at most a number, theirs are

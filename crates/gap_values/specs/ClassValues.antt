@@ -5,7 +5,7 @@ use Rattle.positions.specs.Value.{HasValue}
 use Rattle.classes.specs.Numbers.{class_count, class_with}
 use Rattle.positions.specs.declared.space.TheConstants.{MAX_CONFIGURATIONS}
 use Rattle.gap_values.specs.declared.closing.TheConstants.{OPEN}
-use Rattle.gap_values.specs.Inside.Words.{round_of_word}
+use Rattle.gap_values.specs.RoundWords.{round_of_word}
 
 -- each class has at its number the word of its value: the value, or the greatest word for Forever
 pub record AreClassValues (board : PlainBoard) (words : List ℕ) : Type 0 where

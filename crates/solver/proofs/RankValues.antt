@@ -15,7 +15,7 @@ use Rattle.positions.specs.declared.space.TheConstants.{MAX_CONFIGURATIONS}
 use Rattle.positions.specs.declared.value.Value.TheVariants.{Finite, Forever}
 use Rattle.positions.proofs.Cited.{configuration_at_is, rank_below, configuration_at-rank_of, same_value, size_of}
 use Rattle.positions.proofs.Cited.{size_zero}
-use Rattle.gap_values.specs.Inside.Words.{round_of_word}
+use Rattle.gap_values.specs.RoundWords.{round_of_word}
 use Rattle.gap_values.proofs.Cited.{round-finite, round-none}
 use Rattle.graphs.specs.Answers.{AreAnswerBits}
 use Rattle.graphs.specs.Graph.{count_below}

@@ -7,7 +7,7 @@ use Rattle.positions.specs.declared.value.Value.TheVariants.{Finite}
 use Rattle.positions.specs.Value.{HasValue}
 use Rattle.positions.specs.Counts.{HasSize}
 use Rattle.positions.specs.declared.space.TheConstants.{MAX_CONFIGURATIONS}
-use Rattle.gap_values.specs.Inside.Words.{round_of_word}
+use Rattle.gap_values.specs.RoundWords.{round_of_word}
 use Rattle.graphs.specs.Numbered.{Numbered, graph_of, configuration_of}
 use Rattle.gap_values.specs.declared.closing.TheConstants.{OPEN}
 use Rattle.solver.specs.Solving.{Solving, AnswerLasts}

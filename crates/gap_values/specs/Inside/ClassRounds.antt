@@ -5,7 +5,7 @@ use Rattle.positions.specs.Gaps.{AnswersGap}
 use Rattle.classes.specs.ClassGaps.{member_with}
 use Rattle.classes.specs.Numbers.{class_number}
 use Rattle.gap_values.specs.GapTables.{IsClosedBefore}
-use Rattle.gap_values.specs.Inside.Words.{round_of_word}
+use Rattle.gap_values.specs.RoundWords.{round_of_word}
 
 -- the word of the gap's member with this place
 abbrev pub member_word : List ℕ → List ℕ → ℕ → ℕ

@@ -4,14 +4,10 @@ use Rattle.std.specs.Prelude.{slice_index}
 use Rattle.std.specs.List.{remove}
 use Rattle.board_text.specs.PlainBoard.{PlainBoard, places}
 use Rattle.positions.specs.declared.value.Value.{Value}
-use Rattle.positions.specs.declared.value.Value.TheVariants.{Finite, Forever}
 use Rattle.classes.specs.Numbers.{ways, class_number}
 use Rattle.gap_values.specs.GapTables.{IsGapTable}
+use Rattle.gap_values.specs.RoundWords.{round_of_word}
 use Rattle.gap_values.specs.declared.closing.TheConstants.{OPEN}
-
--- the round that a word stands for: the greatest word of 32 bits stands for none
-unfoldable pub round_of_word : ℕ → Value
-round_of_word word = if nat_lt word OPEN then Finite word else Forever
 
 -- the table of gaps that these words are
 abbrev pub gap_table : List ℕ → List ℕ → Value

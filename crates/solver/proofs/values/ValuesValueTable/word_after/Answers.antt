@@ -5,7 +5,7 @@ use Rattle.positions.specs.Ranks.{configurations, rank_of}
 use Rattle.positions.specs.Value.{HasValue}
 use Rattle.classes.specs.ClassGaps.{member_with}
 use Rattle.classes.proofs.Cited.{length-class_of}
-use Rattle.gap_values.specs.Inside.Words.{round_of_word}
+use Rattle.gap_values.specs.RoundWords.{round_of_word}
 use Rattle.gap_values.specs.declared.closing.TheConstants.{OPEN}
 use Rattle.gap_values.proofs.Cited.{class-configuration, result-class, result-is}
 use Rattle.solver.proofs.RankValues.{held-value, rank-few, rank-inside}
