@@ -3,7 +3,7 @@ use Rattle.std.proofs.Common.{◌≡◌, ◌<◌, ◌↔◌, ◌∙◌, ℕ, Lis
 use Rattle.board_text.specs.PlainBoard.{PlainBoard, IsBoard, IsConfiguration, places}
 use Rattle.positions.specs.Game.{Legal, moved}
 use Rattle.positions.specs.Gaps.{gap_of}
-use Rattle.positions.specs.Ranks.{configurations, rank_of, configuration_at}
+use Rattle.positions.specs.Ranks.{rank_of}
 use Rattle.positions.specs.Value.{HasValue}
 use Rattle.positions.specs.declared.value.Value.{Value}
 use Rattle.positions.proofs.Cited.{rank_below, rank_of-configuration_at, configuration_at-rank_of, configuration_at_is}

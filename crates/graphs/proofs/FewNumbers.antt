@@ -1,6 +1,6 @@
 -- The numbers of a graph and of the members of all its gaps fit 32 bits.
 use Rattle.std.proofs.Common.{◌*◌, ◌<◌, ◌≤◌, arith, mul-le-mul_left}
-use Rattle.board_text.specs.PlainBoard.{PlainBoard, IsBoard, places}
+use Rattle.board_text.specs.PlainBoard.{PlainBoard, IsBoard}
 use Rattle.board_text.proofs.Cited.{few_places}
 use Rattle.positions.specs.Ranks.{configurations}
 use Rattle.positions.specs.declared.space.TheConstants.{MAX_CONFIGURATIONS}

@@ -11,7 +11,7 @@ use Rattle.classes.specs.Classes.{put, Falls, IsClass}
 use Rattle.classes.specs.Numbers.{ways, class_number}
 use Rattle.positions.specs.Gaps.{AnswersGap}
 use Rattle.classes.specs.ClassGaps.{gap_at, index_in}
-use Rattle.classes.proofs.Places.{falls-more, index-put, put-none, put-past, put-here, others-put}
+use Rattle.classes.proofs.Places.{falls-more, index-put, others-put}
 use Rattle.classes.proofs.Ways.{ways-one}
 use Rattle.classes.proofs.Cited.{is-below, with-is, with-number, class_of-class, class_of-own, one-gap, place-cancel}
 use Rattle.classes.proofs.Cited.{place-below}

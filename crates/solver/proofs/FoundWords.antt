@@ -1,7 +1,6 @@
 -- The words of a solver that is done are those of the values of configurations.
-use Rattle.std.proofs.Common.{◌≡◌, ◌≢◌, ◌==◌, ℕ, ◌<◌, inl, inr, true, false, suc, refl, arith, sym, subst, length}
+use Rattle.std.proofs.Common.{◌≡◌, ◌≢◌, ℕ, ◌<◌, inl, inr, true, false, suc, refl, arith, sym, subst, length}
 use Rattle.std.proofs.Common.{slice_index}
-use Rattle.std.proofs.lemmas.Bool.Decides.{nat_tests}
 use Rattle.positions.specs.Value.{HasValue}
 use Rattle.gap_values.proofs.Cited.{round-finite, round-none}
 use Rattle.graphs.specs.Numbered.{Numbered, graph_of, configuration_of}

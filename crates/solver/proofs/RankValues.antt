@@ -1,5 +1,5 @@
 -- The values of configurations by their ranks, and the number of configurations of each.
-use Rattle.std.proofs.Common.{◌≡◌, ◌≢◌, ℕ, ◌+◌, ◌<◌, ◌≤◌, ◌==◌, ◌↔◌, IsTrue, inl, inr, false, true, cond, zero, suc, refl, arith, sym}
+use Rattle.std.proofs.Common.{◌≡◌, ◌≢◌, ℕ, ◌+◌, ◌<◌, ◌≤◌, ◌==◌, ◌↔◌, IsTrue, inl, inr, false, true, cond, suc, refl, arith, sym}
 use Rattle.std.proofs.Common.{ap, ◌∙◌, subst, List, [], ◌∷◌, Contains, length, slice_index}
 use Rattle.std.proofs.Common.{slice_set}
 use Rattle.std.proofs.Common.{length-set, get_or-set_same, get_or-set_other}
@@ -24,7 +24,7 @@ use Rattle.graphs.specs.Ordered.{ordered}
 use Rattle.graphs.specs.declared.graph.Numbering.TheVariants.{Ordered}
 use Rattle.graphs.proofs.Cited.{answer-in, answer-of, same_is, same_or_not, true_not_false}
 use Rattle.solver.specs.Inside.Tables.{is_open}
-use Rattle.solver.specs.Inside.Values.{AreWordCounts, AreZeros, AreSizes, AreRankValues}
+use Rattle.solver.specs.Inside.Values.{AreWordCounts, AreSizes, AreRankValues}
 use Rattle.solver.specs.LabelSets.{IsInSet}
 use Rattle.solver.specs.Sizes.{HasCount}
 use Rattle.solver.specs.Words.{AreValueWords}
@@ -193,8 +193,12 @@ module _ (board : PlainBoard) (words : List ℕ) (are : AreValueWords (numbered 
       → AreSizes board sizes forever
   sized bound sizes forever inside small wide counts forever_is = record {
     few = omega (arith, wide, small);
-    finite = λ v low. subst (HasCount board (Finite v)) (sym (counts v low)) (count-finite v (omega (arith, low, wide,
-        small)));
+    finite = λ v low. subst (HasCount board (Finite v)) (sym (counts v low)) (count-finite v (omega (
+      arith,
+      low,
+      wide,
+      small,
+    )));
     beyond = λ v high. beyond bound inside v (omega (arith, high, wide));
     unending = subst (HasCount board Forever) (sym forever_is) count-forever;
   }

@@ -1,4 +1,4 @@
-use Rattle.std.proofs.Common.{◌≡◌, ◌-◌, ◌<◌, ◌≤◌, ◌∙◌, ◌+◌, ap, refl, subst, arith, length}
+use Rattle.std.proofs.Common.{◌≡◌, ◌-◌, ◌<◌, ◌≤◌, ◌∙◌, ◌+◌, ap, refl, subst, arith}
 use Rattle.board_text.specs.PlainBoard.{PlainBoard, places}
 use Rattle.classes.specs.Numbers.{ways}
 use Rattle.graphs.specs.ClassGraph.{classes}

@@ -1,4 +1,4 @@
-use Rattle.std.proofs.Common.{◌≡◌, ◌≢◌, ◌-◌, ◌<◌, ◌≤◌, ◌∙◌, ℕ, true, List, length, slice_index, ap, sym, subst, arith}
+use Rattle.std.proofs.Common.{◌≢◌, ◌-◌, ◌<◌, ◌≤◌, ◌∙◌, ℕ, true, List, length, slice_index, ap, sym, subst, arith}
 use Rattle.board_text.specs.PlainBoard.{IsBoard}
 use Rattle.gap_values.specs.declared.closing.TheConstants.{OPEN}
 use Rattle.graphs.specs.Numbered.{Numbered}
@@ -47,8 +47,8 @@ new-requires-clause-inside g c =
     let parts = c.into_parts-graph.ensures in
     subst (λ (l : List ℕ). (x : ℕ) → x < length l → slice_index l x ≢ OPEN → slice_index l x
     < c.into_parts-graph.result.1) (sym parts.words) (λ x i valued.
-        let low = words-inside (s g at) ((s g at).value - 1) (state g at) x i valued in
-        omega (arith, low, parts.value, c.self.invariant.value_is))
+    let low = words-inside (s g at) ((s g at).value - 1) (state g at) x i valued in
+    omega (arith, low, parts.value, c.self.invariant.value_is))
 
 pub returns : goal.returns
 returns g c =

@@ -1,4 +1,4 @@
-use Rattle.std.proofs.Common.{◌≡◌, ◌∙◌, ◌-◌, ◌≤◌, ℕ, false, refl, sym, subst, arith}
+use Rattle.std.proofs.Common.{◌≡◌, ◌∙◌, ◌-◌, ◌≤◌, false, refl, sym, subst, arith}
 use Rattle.board_text.specs.PlainBoard.{IsBoard}
 use Rattle.graphs.specs.Numbered.{Numbered, graph_of}
 use Rattle.graphs.proofs.Cited.{some-configurations}

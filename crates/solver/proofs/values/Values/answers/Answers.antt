@@ -1,6 +1,5 @@
-use Rattle.std.proofs.Common.{◌≡◌, ◌<◌, ◌↔◌, ℕ, sym, subst}
+use Rattle.std.proofs.Common.{◌<◌, ◌↔◌, ℕ, sym, subst}
 use Rattle.board_text.specs.PlainBoard.{PlainBoard, IsBoard}
-use Rattle.graphs.specs.Numbered.{graph_of}
 use Rattle.graphs.proofs.Cited.{ordered-gaps}
 use Rattle.positions.specs.Gaps.{gaps, IsAnswer}
 use Rattle.solver.specs.LabelSets.{IsInSet}

@@ -1,4 +1,4 @@
-use Rattle.std.proofs.Common.{◌≡◌, ◌-◌, ◌<◌, ◌∙◌, ℕ, inl, inr, length, slice_index, sym, ap, subst, arith}
+use Rattle.std.proofs.Common.{◌-◌, ◌<◌, inl, inr, length, sym, subst, arith}
 use Rattle.std.proofs.lemmas.Bool.{cases_eq, cases_lt}
 use Rattle.std.proofs.lemmas.List.{get_or_read}
 use Rattle.board_text.specs.PlainBoard.{PlainBoard}
@@ -20,10 +20,10 @@ returns-then-index-gt0 c =
     0 in (
       subst (λ (b : PlainBoard). Occurs b (c.loop-value.value - 1)) c.self.view_is
           (some-occurs _ _ _ _ c.self.invariant (c.loop-value.value - 1) last (omega (
-        arith,
-        read,
-        c.if-index-gt0.true,
-      ))),
+            arith,
+            read,
+            c.if-index-gt0.true,
+          ))),
       λ other occurs. elim (cases_lt other c.loop-value.value) [
         | inl low ↦ omega (arith, low)
         | inr high ↦ absurd (c.loop-value.invariant other high occurs)

@@ -1,4 +1,4 @@
-use Rattle.std.proofs.Common.{◌≡◌, ◌≢◌, ◌^◌, ◌<◌, ◌≤◌, ◌∙◌, ℕ, List, false, length, drop, slice_index, ap, sym, subst, arith}
+use Rattle.std.proofs.Common.{◌≡◌, ◌<◌, ◌∙◌, ℕ, List, false, length, drop, slice_index, ap, sym, subst, arith}
 use Rattle.std.proofs.lemmas.List.{take_at}
 use Rattle.graphs.specs.Graph.{count_below}
 use Rattle.solver.specs.Inside.Tables.{is_open}
@@ -12,9 +12,9 @@ count_words-forever-requires-clause-inside c =
     c.deref_mut.result.now) (sym c.deref.ensures.value)
     (open-inside c.args.words.items (length c.deref_mut.result.now)
     (λ x i v.
-        let low = c.requires.inside x i v in
-        let wide = ap length c.deref_mut.ensures.value ∙ c.zeros-sizes.ensures.size in
-        omega (arith, low, wide)))
+    let low = c.requires.inside x i v in
+    let wide = ap length c.deref_mut.ensures.value ∙ c.zeros-sizes.ensures.size in
+    omega (arith, low, wide)))
 
 pub count_words-forever-requires-clause-few : goal.count_words-forever-requires-clause-few
 count_words-forever-requires-clause-few c =

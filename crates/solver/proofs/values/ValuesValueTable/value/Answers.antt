@@ -1,6 +1,6 @@
-use Rattle.std.proofs.Common.{◌≡◌, ℕ, List, ap, subst, sym, ◌∙◌}
-use Rattle.board_text.specs.PlainBoard.{PlainBoard, IsConfiguration}
-use Rattle.positions.specs.Ranks.{configurations, configuration_at, rank_of}
+use Rattle.std.proofs.Common.{ℕ, List, ap, subst, ◌∙◌}
+use Rattle.board_text.specs.PlainBoard.{PlainBoard}
+use Rattle.positions.specs.Ranks.{configuration_at, rank_of}
 use Rattle.positions.specs.Value.{HasValue}
 use Rattle.positions.proofs.Cited.{configuration_at-rank_of}
 use Rattle.solver.proofs.values.ValuesValueTable.value.Goals as goal
