@@ -1,7 +1,8 @@
 -- The lemmas that crates above cite, passed on from one place. Declares nothing.
 pub use Rattle.classes.proofs.CountedValues.{counted-values}
 pub use Rattle.classes.proofs.FamilyNumbers.{first-family, last-family, least-below, least-last, least-some}
-pub use Rattle.classes.proofs.FamilyNumbers.{least-within, next-family, number-last, number-of-least, put-least, some-ways}
+pub use Rattle.classes.proofs.FamilyNumbers.{least-within, next-family, number-last, number-of-least, put-least}
+pub use Rattle.classes.proofs.FamilyNumbers.{some-ways}
 pub use Rattle.classes.proofs.FamilyNumbers.{with-least}
 pub use Rattle.classes.proofs.FamilyWeights.{no-copies, weight-before, weight-last, weight-small}
 pub use Rattle.classes.proofs.GapNumbers.{AreGaps, IsGapMore, gap-more}

@@ -73,11 +73,13 @@ fn assert_same_report(
     let start = by_ranks.of(by_ranks.space().rank(board.start()));
     assert_same(rt, ("start", seed), by_gaps.value(board.start()), start);
     let sizes = sizes_of(alloc, by_gaps).expect(rt, "sizes");
-    let finite = by_ranks.greatest_finite().map_or(0, |greatest: u32| u64::from(greatest) + 1);
-    assert_same(rt, ("values", seed), sizes.finite.len() as u64, finite);
-    for (number, size) in sizes.finite.iter().enumerate() {
-        let count = by_ranks.count(Value::Finite(number as u32));
-        assert_same(rt, (number as u64, seed), *size, u64::from(count));
+    let greatest = by_ranks.greatest_finite();
+    let values = greatest.map_or(0, |number: u32| u64::from(number) + 1);
+    assert_same(rt, ("values", seed), sizes.finite.len() as u64, values);
+    for number in 0..=greatest.unwrap_or(0) {
+        let size = sizes.finite.get(number as usize).copied().unwrap_or(0);
+        let count = by_ranks.count(Value::Finite(number));
+        assert_same(rt, (number, seed), size, u64::from(count));
     }
     let forever = by_ranks.count(Value::Forever);
     assert_same(rt, ("forever", seed), sizes.forever, u64::from(forever));
@@ -92,7 +94,12 @@ fn assert_same_answers(rt: &impl Abort, alloc: Global, seed: u64) -> (bool, bool
     let by_gaps = gap_values_of(alloc, &board).expect(rt, "values by gaps");
     let space = by_ranks.space();
     let wanted = text_of(rt, alloc, space, document_of(alloc, &board, &by_ranks));
-    let found = text_of(rt, alloc, space, document_by_gaps(alloc, &board, space, &by_gaps));
+    let found = text_of(
+        rt,
+        alloc,
+        space,
+        document_by_gaps(alloc, &board, space, &by_gaps),
+    );
     assert_text(rt, ("document", seed), found.as_bytes(), wanted.as_bytes());
     let start = assert_same_report(rt, alloc, seed, &board, &by_ranks, &by_gaps);
     (board.version() == 2, start == Value::Forever)

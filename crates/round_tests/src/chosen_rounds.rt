@@ -25,8 +25,8 @@ use std::thread::Threads;
 /// The labels of the chain, on which four pebbles have 17,550 classes.
 const LABELS: u16 = 24;
 
-/// The classes that are filed at 0 to 3. At n are those whose greatest label is 23 - n, since a pebble
-/// beside it has to move above it: as many as there are ways to hold three labels up to that one.
+/// The classes that are filed at 0 to 3. At n are those whose greatest label is 23 - n, since a
+/// pebble beside it has to move above it: as many as there are ways to hold three labels up to it.
 const FILED: [u32; 4] = [2_600, 2_300, 2_024, 1_771];
 
 /// The rounds that strike at least `MIN_SHARED` classes, which are more than a tenth of all.
@@ -134,7 +134,11 @@ fn three_rounds_are_shared(rt: HostRuntime) {
     let wanted = values_of(rt.alloc(), &board).expect(&rt, "values");
     for workers in 1..5 {
         let (found, passes) = counted_at_last(&rt, rt.alloc(), &board, workers);
-        let times = if workers == 1 { 0 } else { SHARED_ROUNDS * u64::from(workers) };
+        let times = if workers == 1 {
+            0
+        } else {
+            SHARED_ROUNDS * u64::from(workers)
+        };
         assert_same(&rt, workers, passes.passes.load(SeqCst), times);
         assert_values(&rt, &board, &found, &wanted);
     }

@@ -83,9 +83,9 @@ pub fn solve_values<G: Gate, R: Threads + Wait + Sync>(
 /// The values of `board`, which has few classes, found in rounds over classes of configurations:
 /// all that exchanged pebbles give are one.
 ///
-/// A round that strikes those of at least `MIN_SHARED` classes, and of a tenth of all, is shared
-/// by all workers, as each round of `solve_values` is, and a smaller one by none. Of this the clauses say
-/// that `Worker` is answered of no board of fewer classes. The values are those of the board,
+/// A round that strikes those of at least `MIN_SHARED` classes, and of a tenth of all, is shared by
+/// all workers, as each round of `solve_values` is, and a smaller one by none. Of this the clauses
+/// say that `Worker` is answered of no board of fewer classes. The values are those of the board,
 /// whatever the number of workers, the gate and the schedule are.
 pub fn solve_classes<G: Gate, R: Threads + Wait + Sync>(
     rt: &R,

@@ -3,6 +3,4 @@
 
 mod solved;
 
-pub use solved::{
-    class_solver_of, gap_values_of, solver_of, value, values_of, values_over,
-};
+pub use solved::{class_solver_of, gap_values_of, solver_of, value, values_of, values_over};

@@ -126,7 +126,8 @@ module _ (a : PlainGraph) (words : List ℕ) (are : AreFirstWords a words) where
   }
 
 pub all-listed : (s : PlainStage) (rank : ℕ) (now : PlainStage) → IsUnlisted s
-    → (graph_of s.game).configurations ≤ MAX_CONFIGURATIONS → rank ≡ (graph_of s.game).configurations → IsListing s rank now
+    → (graph_of s.game).configurations ≤ MAX_CONFIGURATIONS → rank ≡ (graph_of s.game).configurations
+    → IsListing s rank now
     → IsOpened now
 all-listed s rank now are few all l = record {
   value_is = l.value_is;

@@ -98,7 +98,8 @@ filed-few s v x f = elim (cases_lt 0 (times x (filed_at s v))) [
 
 -- ---- the start and the end of a round
 
-module _ (s : PlainStage) (is : IsGraph (graph_of s.game)) (few : (graph_of s.game).configurations ≤ MAX_CONFIGURATIONS) where
+module _ (s : PlainStage) (is : IsGraph (graph_of s.game))
+    (few : (graph_of s.game).configurations ≤ MAX_CONFIGURATIONS) where
   abbrev a : PlainGraph
   a = (graph_of s.game)
 

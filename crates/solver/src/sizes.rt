@@ -1,6 +1,7 @@
 //! How many configurations have each value.
 
-ghost use Rattle.std.specs.Prelude.{◌≡◌, ◌^◌, ◌<◌, ◌≤◌, ℕ, false, length, slice_index, vec_capacity};
+ghost use Rattle.std.specs.Prelude.{◌≡◌, ◌^◌, ◌<◌, ◌≤◌, ℕ, false, length, slice_index};
+ghost use Rattle.std.specs.Prelude.{vec_capacity};
 ghost use Rattle.graphs.specs.Graph.{count_below};
 ghost use Rattle.solver.specs.Inside.Tables.{is_open};
 ghost use Rattle.solver.specs.Inside.Values.{AreWordCounts, AreZeros};

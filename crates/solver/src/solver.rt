@@ -74,7 +74,7 @@ impl<S: ListStore + Drop> Solver<S> {
         }
     }
 
-    /// A solver of `board`, which has at most `MAX_CONFIGURATIONS` configurations, whose numbers are
+    /// A solver of `board`, which has at most `MAX_CONFIGURATIONS` configurations. Its numbers are
     /// those of classes of configurations, whichever pebble holds which label. It has filed the
     /// classes of value 0, in ascending order.
     pub fn of_classes(alloc: Global, board: &Board) -> Result<Solver<S>, Memory>
