@@ -3,7 +3,7 @@
 The promises of a crate are its definitions (specs/), and of its code the clauses and signatures of its functions, its types with their
 fields, models and invariants, and its constants: all but comments, attributes, the bodies of functions, and imports that the rest doesn't
 use. A definition or a clause may name definitions, types and constants of crates below, so those are in the checksum too, with all that
-they name in turn, and no others. Of a type below that has a model only the kind of its values is: the form in which a crate keeps them is
+they name in turn, and no others: each name is one of the crate that its import says, or of the crate itself. Of a type below that has a model only the kind of its values is: the form in which a crate keeps them is
 its own. Nor are the clauses of a function below: no definition and no clause can name them, so that what is promised here is the same
 whatever they say.
 
@@ -106,15 +106,18 @@ def imported(found):
 
 
 def named(whole):
-    """The names that stand for something in an import's path: its last, and of a type of the code that of the type too."""
+    """The names that stand for something in an import's path: its last, and of a type of the code that of the type too. Each comes after
+    the crate that the path begins with, or None for the crate itself."""
     parts = NAME.findall(whole)
-    return parts if 'declared' in parts else parts[-1:]
+    crate = parts[1] if parts[0] == 'Rattle' and len(parts) > 2 else parts[0]
+    crate = None if crate in ('crate', 'self', 'super') or len(parts) == 1 else crate
+    return [(crate, part) for part in (parts if 'declared' in parts else parts[-1:])]
 
 
 @dataclass(frozen=True)
 class Told:
     """A text with one space between words, after the imports of definitions that it uses, in order; and the names in it that stand for
-    something outside it."""
+    something outside it, each after its crate, or None for its own."""
     text: str
     names: frozenset
 
@@ -125,7 +128,7 @@ def told(text, beside=()):
     words = set(WORD.findall(rest)) | set(NAME.findall(rest))
     used = [(found, whole) for found in USE.finditer(text) for name, whole in imported(found) if name in words]
     ghost = sorted({whole for found, whole in used if found[1] or found[3]})
-    names = {part for _, whole in used for part in named(whole)}.union(words.intersection(beside))
+    names = {part for _, whole in used for part in named(whole)}.union((None, name) for name in words.intersection(beside))
     return Told(' '.join([*ghost, *rest.split()]), frozenset(names))
 
 
@@ -211,6 +214,7 @@ class Promises:
         self.sum_of = lru_cache(maxsize=None)(self.sum_of)
         self.named_of = lru_cache(maxsize=None)(self.named_of)
         self.calls_of = lru_cache(maxsize=None)(self.calls_of)
+        self.passed_on = lru_cache(maxsize=None)(self.passed_on)
         self.below = lru_cache(maxsize=None)(self.below)
 
     def own(self, crate, path):
@@ -229,6 +233,11 @@ class Promises:
                     found.setdefault(name, []).append(seen)
         return found
 
+    def passed_on(self, crate):
+        """The names of other crates that a crate passes on."""
+        return {part for text in self.files(crate).values() for found in USE.finditer(text) if 'pub use' in found[0]
+                for _, whole in imported(found) for other, part in named(whole) if other is not None}
+
     def calls_of(self, crate):
         """The functions of a crate: each its file, its name, and its signature and clauses."""
         return [(path, name, seen) for path, text in sorted(self.files(crate).items()) if path.endswith('.rt')
@@ -241,12 +250,14 @@ class Promises:
     def reached(self, texts, crates, itself=None):
         """The definitions, types and constants of these crates that texts name, with all that those name in turn. The texts are those of
         the crate itself, if it is one of these."""
-        found, left = {}, set().union(*(told.names for told in texts))
+        found, left = {}, {(crate or itself, name) for told in texts for crate, name in told.names}
         while left:
-            name = left.pop()
-            found[name] = [seen for crate in sorted(crates) for seen in self.named_of(crate, crate == itself).get(name, ())]
-            left.update(*(seen.names.difference(found) for seen in found[name]))
-        return sorted((name, [seen.text for seen in told]) for name, told in found.items() if told)
+            crate, name = left.pop()
+            # What a crate passes on stands in one below it.
+            homes = sorted(crates) if crate in crates and name in self.passed_on(crate) else {crate}.intersection(crates)
+            found[crate, name] = [(home, it) for home in homes for it in self.named_of(home, home == itself).get(name, ())]
+            left.update({(other or home, its) for home, it in found[crate, name] for other, its in it.names}.difference(found))
+        return sorted({(home, name, it.text) for (_, name), those in found.items() for home, it in those})
 
     def sum_of(self, crate):
         """The checksum of what the crate promises. None if the tree has no such crate."""
@@ -272,7 +283,7 @@ class Promises:
         """The source files of a crate whose promises name, perhaps through others, what a file of definitions declares."""
         declared = set(DECLARED.findall(COMMENT.sub('', self.files(crate)[path])))
         sources = [self.own(crate, other) for other in sorted(self.files(crate)) if other.endswith('.rt')]
-        return [source for source in sources if declared.intersection(dict(self.reached([source], {crate}, crate)))]
+        return [source for source in sources if declared.intersection(name for _, name, _ in self.reached([source], {crate}, crate))]
 
 
 # ---- trees
