@@ -5,6 +5,7 @@ pub mod NumberedPlaces
 pub mod Placings
 pub mod PlacesAt
 pub mod ArrangedAgain
+pub mod MovedPlaces
 pub mod NamedPlaces
 pub mod AskedPlaces
 pub mod RowWords
