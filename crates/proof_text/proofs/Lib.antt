@@ -1,6 +1,7 @@
 pub mod ArrangedPlaces
 pub mod RisingPlaces
 pub mod OrderNumbers
+pub mod RisingNumbers
 pub mod NumberedPlaces
 pub mod Placings
 pub mod PlacesAt
