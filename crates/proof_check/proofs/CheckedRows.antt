@@ -1,14 +1,12 @@
 -- The rows of a document by classes, ready to be checked, and the row that is found.
-use Rattle.std.proofs.Common.{◌≡◌, ◌⊎◌, ℕ, zero, suc, ◌<◌, List, [], ◌∷◌, AllPairs, map, take, set, get_or}
+use Rattle.std.proofs.Common.{◌≡◌, ◌⊎◌, ℕ, suc, ◌<◌, List, AllPairs, map, take, get_or}
 use Rattle.std.proofs.Common.{Option, Some, None, MatchOption, refl, sym, ap, ◌∙◌, subst, arith, inl, inr}
 use Rattle.std.specs.List.{All}
 use Rattle.std.proofs.lemmas.List.{length-map, get_or-map, get_or-take}
 use Rattle.board_text.specs.PlainBoard.{PlainBoard, IsConfiguration}
-use Rattle.positions.specs.Game.{moved}
 use Rattle.positions.specs.declared.claim.Claim.TheVariants.{Exactly, AtMost}
 use Rattle.positions.specs.declared.side.Side.TheVariants.{Adversary}
-use Rattle.positions.proofs.Configurations.{moved_is_configuration}
-use Rattle.proof_text.specs.Arranged.{IsClassBefore}
+use Rattle.proof_text.specs.Arranged.{IsClassBefore, arranged}
 use Rattle.proof_text.specs.ClassProof.{IsClassRequestRow, class_answer_row, class_request_row}
 use Rattle.proof_text.specs.Documents.{IsClassDocument}
 use Rattle.proof_text.specs.Proof.{PlainProof, IsAnswerRow}
@@ -80,6 +78,9 @@ module _ (board : PlainBoard) (proof : ClassProof) (is : IsClassDocument board p
       record {
         ready = ready;
         at = shown.at;
+        in_order =
+            of_shown (class_answer_row board) (λ x. arranged board.labels x.at ≡ x.at) proof.labeller.items
+            is.is_proof.labeller.in_order k d low;
         gives = λ pebble below.
             let label : get_or (take board.pebbles row.take) pebble 0 < board.labels =
             shown.answers.1 pebble 0 (omega (arith, shown.answers.0, below)) in
@@ -92,7 +93,14 @@ module _ (board : PlainBoard) (proof : ClassProof) (is : IsClassDocument board p
       let shown : IsClassRequestRow board (class_request_row board (get_or proof.adversary.items k d)) =
       of_shown (class_request_row board) (IsClassRequestRow board) proof.adversary.items
       is.is_proof.adversary.each k d low in
-      record { ready = ready; at = shown.at; asked = shown.request }
+      record {
+        ready = ready;
+        at = shown.at;
+        in_order =
+            of_shown (class_request_row board) (λ x. arranged board.labels x.at ≡ x.at) proof.adversary.items
+            is.is_proof.adversary.in_order k d low;
+        asked = shown.request;
+      }
 
 -- ---- the row that is found, as it is shown
 
@@ -111,30 +119,6 @@ module _ {R X : Type 0} (board : PlainBoard) (f : R → X) (at : X → List ℕ)
         let other = Contains-map_cases f rows x among in
         sym other.2 ∙ ap f (is.only other.0 other.1 (sym (shows other.0) ∙ ap at other.2 ∙ same));
   }
-
--- ---- results
-
--- the places after a move of a pebble of the board
-pub take_set : (count index label : ℕ) (places : List ℕ) → index < count
-    → take count (set places index label) ≡ moved (take count places) index label
-take_set zero index label places low = absurd (omega arith)
-take_set (suc count) zero label [] low = refl
-take_set (suc count) (suc index) label [] low = refl
-take_set (suc count) zero label (place ∷ places) low = refl
-take_set (suc count) (suc index) label (place ∷ places) low =
-    ap (λ l. place ∷ l) (take_set count index label places (omega arith))
-
-pub result_is : (board : PlainBoard) (places : List ℕ) (pebble label : ℕ)
-    → IsConfiguration board (take board.pebbles places) → pebble < board.pebbles → label < board.labels
-    → IsConfiguration board (take board.pebbles (set places pebble label))
-result_is board places pebble label is low is_label =
-    subst (IsConfiguration board) (sym (take_set board.pebbles pebble label places low))
-    (moved_is_configuration board (take board.pebbles places) pebble label is_label is)
-
--- the places after a move stand for the result of the move
-pub moved_result : (normal : List ℕ → List ℕ) (count pebble label : ℕ) (places : List ℕ) → pebble < count
-    → normal (take count (set places pebble label)) ≡ normal (moved (take count places) pebble label)
-moved_result normal count pebble label places low = ap normal (take_set count pebble label places low)
 
 -- the start's number, for a claim that bounds the value from above
 pub bound_meant : (board : PlainBoard) (group : List Images) (proof : PlainProof) (number : ℕ)

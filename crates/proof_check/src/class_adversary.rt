@@ -1,6 +1,6 @@
 //! The adversary's rows of a document with arranged places, checked.
 
-ghost use Rattle.std.specs.Prelude.{◌≡◌, ◌<◌, suc, MatchOption, Contains};
+ghost use Rattle.std.specs.Prelude.{◌≡◌, ◌<◌, ℕ, List, suc, MatchOption, Contains};
 ghost use Rattle.board_text.specs.PlainBoard.{IsConfiguration};
 ghost use Rattle.positions.specs.Game.{Legal};
 ghost use Rattle.proof_text.specs.Positions as positions_of;
@@ -102,9 +102,10 @@ fn label_fault(
     };
     let large = ClassFault::TooLarge { at, label };
     let pebbles = checker.board.pebbles() as usize;
-    let mut result = row.at;
-    result[pebble as usize] = label;
-    number_fault(checker, &result[..pebbles], row.left - 1, missing, large)
+    let result = checker
+        .alike
+        .order_after(checker.board, &row.at[..pebbles], pebble, label);
+    number_fault(checker, result, row.left - 1, missing, large)
 }
 
 /// The fault of the number at the start in the adversary's rows, if it has one. Only a
@@ -127,36 +128,34 @@ pub(crate) fn bound_fault(checker: &ClassChecker<'_>) -> Option<ClassFault>
     let side = Side::Adversary;
     let missing = ClassFault::StartMissing { side };
     let large = ClassFault::StartNumber { side };
-    number_fault(checker, checker.board.start(), most, missing, large)
+    let start = checker.alike.order(checker.board, checker.board.start());
+    number_fault(checker, start, most, missing, large)
 }
 
-/// The fault if the adversary's rows have no number up to `most` at the row for `places`:
-/// `missing` if no row is for them, `large` if its row has a larger number.
+/// The fault if no row of the adversary that has this `number` in the order of documents has at
+/// most `most` answers left: `missing` if none has the number, `large` if its row has more.
 fn number_fault(
     checker: &ClassChecker<'_>,
-    places: &[u16],
+    number: u64,
     most: u32,
     missing: ClassFault,
     large: ClassFault,
 ) -> Option<ClassFault>
     requires ready { IsClassReady checker.now.board.now checker.now.proof.now
         checker.now.numbers.now checker.now.alike.now }
-    requires places { IsConfiguration checker.now.board.now places.now }
-    ensures { MatchOption result
+    ensures { (places : List ℕ) → IsConfiguration checker.now.board.now places
+        → number ≡ order_number checker.now.board.now.labels places
+        → MatchOption result
         (IsListedBelow (class_request_rows checker.now.board.now
-        checker.now.proof.now.adversary.items)
-        (least_by checker.now.board.now.labels checker.now.alike.now.group places.now) (suc most))
+        checker.now.proof.now.adversary.items) places (suc most))
         (IsUnservedBelow (class_request_rows checker.now.board.now
-        checker.now.proof.now.adversary.items)
-        (least_by checker.now.board.now.labels checker.now.alike.now.group places.now) (suc most)
-        missing large) }
+        checker.now.proof.now.adversary.items) places (suc most) missing large) }
 {
     let Some(row) = find(
         checker.board,
-        checker.alike,
         &checker.proof.adversary,
         &checker.numbers.adversary,
-        places,
+        number,
     ) else {
         return Some(missing);
     };

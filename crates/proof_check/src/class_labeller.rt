@@ -1,6 +1,6 @@
 //! The labeller's rows of a document with arranged places, checked.
 
-ghost use Rattle.std.specs.Prelude.{◌≡◌, ◌<◌, MatchOption};
+ghost use Rattle.std.specs.Prelude.{◌≡◌, ◌<◌, ℕ, List, MatchOption};
 ghost use Rattle.board_text.specs.PlainBoard.{IsConfiguration};
 ghost use Rattle.proof_text.specs.Positions.{normal_positions};
 ghost use Rattle.proof_text.specs.Rules as rules;
@@ -81,15 +81,10 @@ fn answer_fault(
         turn: pebble as u16,
     };
     let short = ClassFault::TooSmall { at, pebble };
-    let mut result = row.at;
-    result[pebble as usize] = label;
-    turns_fault(
-        checker,
-        &result[..pebbles],
-        after_one(row.turns),
-        missing,
-        short,
-    )
+    let result = checker
+        .alike
+        .order_after(board, &row.at[..pebbles], pebble, label);
+    turns_fault(checker, result, after_one(row.turns), missing, short)
 }
 
 /// The fault of the number at the start in the labeller's rows, if it has one.
@@ -107,44 +102,43 @@ pub(crate) fn start_fault(checker: &ClassChecker<'_>) -> Option<ClassFault>
     let side = Side::Labeller;
     let missing = ClassFault::StartMissing { side };
     let short = ClassFault::StartNumber { side };
+    let start = checker.alike.order(checker.board, checker.board.start());
     turns_fault(
         checker,
-        checker.board.start(),
+        start,
         wanted_of(checker.proof.claim),
         missing,
         short,
     )
 }
 
-/// The fault if the labeller's rows don't serve the `wanted` turns at the row for `places`:
-/// `missing` if no row is for them, `short` if its row has too few turns.
+/// The fault if the labeller's rows don't serve the `wanted` turns at the row of this `number` in
+/// the order of documents: `missing` if there is none, `short` if it has too few turns.
 fn turns_fault(
     checker: &ClassChecker<'_>,
-    places: &[u16],
+    number: u64,
     wanted: Turns,
     missing: ClassFault,
     short: ClassFault,
 ) -> Option<ClassFault>
     requires ready { IsClassReady checker.now.board.now checker.now.proof.now
         checker.now.numbers.now checker.now.alike.now }
-    requires places { IsConfiguration checker.now.board.now places.now }
-    ensures { MatchOption result
+    ensures { (places : List ℕ) → IsConfiguration checker.now.board.now places
+        → number ≡ order_number checker.now.board.now.labels places
+        → MatchOption result
         (Serves (class_answer_rows checker.now.board.now checker.now.proof.now.labeller.items)
-        (least_by checker.now.board.now.labels checker.now.alike.now.group places.now) wanted)
+        places wanted)
         (IsUnservedFor (class_answer_rows checker.now.board.now
-        checker.now.proof.now.labeller.items)
-        (least_by checker.now.board.now.labels checker.now.alike.now.group places.now) wanted
-        missing short) }
+        checker.now.proof.now.labeller.items) places wanted missing short) }
 {
     if wanted == Turns::Count(0) {
         return None;
     }
     let Some(row) = find(
         checker.board,
-        checker.alike,
         &checker.proof.labeller,
         &checker.numbers.labeller,
-        places,
+        number,
     ) else {
         return Some(missing);
     };

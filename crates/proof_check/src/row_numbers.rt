@@ -1,18 +1,16 @@
 //! The rows of a document by the numbers of their arranged places.
 
-ghost use Rattle.std.specs.Prelude.{◌≡◌, IfOk, MatchOption};
+ghost use Rattle.std.specs.Prelude.{◌≡◌, ℕ, List, IfOk, MatchOption};
 ghost use Rattle.std.specs.List.{All};
 ghost use Rattle.board_text.specs.PlainBoard.{IsBoard, IsConfiguration};
 ghost use Rattle.proof_text.specs.Arranged.{order_number};
 ghost use Rattle.proof_text.specs.Documents.{IsClassDocument};
-ghost use Rattle.symmetries.specs.Elements.{least_by};
 ghost use Rattle.proof_check.specs.ClassNumbers.{AreNumbersOfRows, class_numbers, places_of};
 ghost use Rattle.proof_check.specs.Inside.RowSearch.{AreClassesInOrder, HasNoClass, IsTheRow};
 
 use board_text::{Board, Memory};
 use proof_text::{ClassProof, ClassRow, places_order};
 use std::alloc::Global;
-use symmetries::Alike;
 
 /// The numbers of the classes of a document's rows in the order of documents, row by row. They are
 /// made once and halved: halving rows, place by place, took two thirds of a check.
@@ -63,25 +61,22 @@ pub(crate) fn row_number<R: ClassRow>(board: &Board, row: &R) -> u64
     places_order(board, row_places(board, row))
 }
 
-/// The row at the least of the places that are `alike` to `places`, if there is one among `rows`,
+/// The row whose class has this `number` in the order of documents, if there is one among `rows`,
 /// which have these `numbers`.
 pub(crate) fn find<'r, R: ClassRow>(
     board: &Board,
-    alike: &Alike,
     rows: &'r [R],
     numbers: &[u64],
-    places: &[u16],
+    number: u64,
 ) -> Option<&'r R>
     requires rows { AreClassesInOrder board.now R.at rows.now }
     requires numbers { numbers.now ≡ class_numbers board.now R.at rows.now }
-    requires alike { alike.now.labels ≡ board.now.labels }
-    requires places { IsConfiguration board.now places.now }
-    ensures { MatchOption result
-        (HasNoClass board.now R.at rows.now (least_by board.now.labels alike.now.group places.now))
-        (λ row. IsTheRow board.now R.at rows.now
-        (least_by board.now.labels alike.now.group places.now) row.now) }
+    ensures { (places : List ℕ) → IsConfiguration board.now places
+        → number ≡ order_number board.now.labels places
+        → MatchOption result (HasNoClass board.now R.at rows.now places)
+        (λ row. IsTheRow board.now R.at rows.now places row.now) }
 {
-    match numbers.binary_search(&alike.order(board, places)) {
+    match numbers.binary_search(&number) {
         Ok(index) => Some(&rows[index]),
         Err(_) => None,
     }

@@ -1,10 +1,12 @@
 pub mod ArrangedPlaces
 pub mod RisingPlaces
 pub mod OrderNumbers
+pub mod RisingNumbers
 pub mod NumberedPlaces
 pub mod Placings
 pub mod PlacesAt
 pub mod ArrangedAgain
+pub mod MovedPlaces
 pub mod NamedPlaces
 pub mod AskedPlaces
 pub mod RowWords

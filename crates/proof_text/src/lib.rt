@@ -31,7 +31,7 @@ pub use laws::{
     one_symmetry_document, one_symmetry_text_fault, symmetries_have_no_fault,
     symmetry_documents_have_no_fault,
 };
-pub use numbers::{arranged_order, class_order, places_at, places_order};
+pub use numbers::{arranged_order, class_order, moved_order, places_at, places_order};
 pub use parsing::{parse, parse_classes, parse_symmetric};
 pub use positions::{Claim, Turns};
 pub use printing::{

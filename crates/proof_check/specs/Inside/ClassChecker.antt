@@ -2,6 +2,7 @@
 use Rattle.std.specs.Prelude.{◌≡◌, ℕ, ◌<◌, List, slice_index}
 use Rattle.std.specs.List.{Contains}
 use Rattle.board_text.specs.PlainBoard.{PlainBoard, IsConfiguration}
+use Rattle.proof_text.specs.Arranged.{arranged}
 use Rattle.proof_text.specs.ClassProof.{class_answer_row, class_request_row}
 use Rattle.proof_text.specs.Documents.{IsClassDocument}
 use Rattle.proof_text.specs.declared.class_proof.LabellerClassRow.{LabellerClassRow}
@@ -33,6 +34,8 @@ pub record IsClassAnswering (board : PlainBoard) (proof : ClassProof) (numbers :
     (row : LabellerClassRow) : Type 0 where
   pub ready : IsClassReady board proof numbers alike
   pub at : IsConfiguration board (class_answer_row board row).at
+  pub in_order : arranged board.labels (class_answer_row board row).at
+      ≡ (class_answer_row board row).at
   pub gives : (pebble : ℕ) → pebble < board.pebbles → slice_index row.take pebble < board.labels
 
 -- an adversary's row of a document is ready to be checked
@@ -41,4 +44,6 @@ pub record IsClassRequesting (board : PlainBoard) (proof : ClassProof) (numbers 
     (row : AdversaryClassRow) : Type 0 where
   pub ready : IsClassReady board proof numbers alike
   pub at : IsConfiguration board (class_request_row board row).at
+  pub in_order : arranged board.labels (class_request_row board row).at
+      ≡ (class_request_row board row).at
   pub asked : Contains (class_request_row board row).at row.ask

@@ -6,15 +6,14 @@ use Rattle.proof_text.specs.ClassProof.{class_request_row, class_request_rows}
 use Rattle.proof_text.specs.Positions.{asked_pebble}
 use Rattle.symmetries.specs.Elements.{least_by}
 use Rattle.proof_check.specs.declared.class_fault.ClassFault.TheVariants as faults
-use Rattle.proof_check.proofs.CheckedRows.{result_is, moved_result}
 use Rattle.proof_check.proofs.RowTests.{match_then}
 use Rattle.proof_check.proofs.class_adversary.label_fault.Goals as goal
 
-pub number_fault-requires-clause-places : goal.number_fault-requires-clause-places
-number_fault-requires-clause-places c =
-    rw c.pebbles-pebbles.ensures.value
-    (result_is c.args.checker.now.board.now c.args.row.now.at c.args.pebble c.args.label c.requires.row.at
-    c.requires.is_pebble c.requires.legal.is_label)
+pub order_after-result-requires-clause-places : goal.order_after-result-requires-clause-places
+order_after-result-requires-clause-places c = rw c.pebbles-pebbles.ensures.value c.requires.row.at
+
+pub order_after-result-requires-clause-arranged : goal.order_after-result-requires-clause-arranged
+order_after-result-requires-clause-arranged c = rw c.pebbles-pebbles.ensures.value c.requires.row.in_order
 
 pub returns-then-row-eq0 : goal.returns-then-row-eq0
 returns-then-row-eq0 c = inl (c.if-row-eq0.true, ap (λ at. faults.NotStuck at c.args.label) c.requires.at)
@@ -27,8 +26,8 @@ returns c =
     let row : RequestRow = class_request_row board c.args.row.now in
     let pebble = c.args.pebble in
     let label = c.args.label in
-    let result =
-    moved_result (least_by board.labels group) board.pebbles pebble label c.args.row.now.at c.requires.is_pebble in
+    let after = rw c.pebbles-pebbles.ensures.value at c.order_after-result.ensures in
+    let wanted = least_by board.labels group (moved row.at pebble label) in
     let some : 0 < row.left = omega (arith, c.if-row-eq0.false) in
     let one : suc (row.left - 1) ≡ row.left = omega (arith, some) in
     let asked : least_by board.labels group (moved row.at pebble label)
@@ -38,4 +37,4 @@ returns c =
     (λ listed _. subst (λ l. IsListedBelow rows l row.left) asked
     (subst (IsListedBelow rows (least_by board.labels group (moved row.at pebble label))) one listed))
     (λ fault wrong. inr (some, rw (one, c.requires.at, asked) at wrong))
-    (rw (c.pebbles-pebbles.ensures.value, result) at c.number_fault.ensures)
+    (c.number_fault.ensures wanted after.configuration after.number)
