@@ -172,22 +172,23 @@ def own_names(text):
     return {found['name'] for found in NOT_PUBLIC.finditer(TOKEN.sub(lambda found: '' if found['comment'] else found[0], text))}
 
 
-def types(text, own=frozenset()):
+def types(text, own, declared):
     """The name of each type, trait or constant of a source text, and what crates above see of it: nothing of what is the crate's own, nor
-    of how a type has a trait that is."""
+    of how a type has a trait that is. How a type has a trait is found by the type's name, or by the trait's if another crate declares the
+    type."""
     text = EMPTY.sub('', promised(text, False))
     found = list(items(USE_OF_FILE.sub('', text)))
     modelled = {made[1] for made in map(implementing, found) if made and made[0] == 'Model'}
     beside = TYPE_NAME.findall(text)
     for item in found:
-        made, declared = implementing(item), TYPE.search(item)
-        if (made[0] if made else declared and declared[1]) in own:
+        made, named_here = implementing(item), TYPE.search(item)
+        if (made[0] if made else named_here and named_here[1]) in own:
             continue
         if made:
             seen = imports(item) + ' '.join(MODEL.findall(item)) if made[0] == 'Model' else item
-            yield [made[1]], told(imports(text) + seen, beside)
-        elif declared:
-            yield [declared[1]], told(imports(text) + (declared[0] if declared[1] in modelled else item), beside)
+            yield [made[1] if made[1] in declared or made[0] is None else made[0]], told(imports(text) + seen, beside)
+        elif named_here:
+            yield [named_here[1]], told(imports(text) + (named_here[0] if named_here[1] in modelled else item), beside)
 
 
 def functions(text):
@@ -227,8 +228,9 @@ class Promises:
         found, files = {}, sorted(self.files(crate).items())
         defined = set().union(*(NAME.findall(COMMENT.sub('', text)) for path, text in files if not path.endswith('.rt')))
         own = frozenset() if inside else frozenset().union(*(own_names(text) for path, text in files if path.endswith('.rt'))) - defined
+        declared = set().union(*(TYPE_NAME.findall(promised(text, False)) for path, text in files if path.endswith('.rt')))
         for path, text in files:
-            for names, seen in types(text, own) if path.endswith('.rt') else definitions(text):
+            for names, seen in types(text, own, declared) if path.endswith('.rt') else definitions(text):
                 for name in names:
                     found.setdefault(name, []).append(seen)
         return found
@@ -236,7 +238,7 @@ class Promises:
     def passed_on(self, crate):
         """The names of other crates that a crate passes on."""
         return {part for text in self.files(crate).values() for found in USE.finditer(text) if 'pub use' in found[0]
-                for _, whole in imported(found) for other, part in named(whole) if other is not None}
+                for _, whole in imported(found) for other, part in named(whole) if other in self.crates and other != crate}
 
     def calls_of(self, crate):
         """The functions of a crate: each its file, its name, and its signature and clauses."""
@@ -250,13 +252,14 @@ class Promises:
     def reached(self, texts, crates, itself=None):
         """The definitions, types and constants of these crates that texts name, with all that those name in turn. The texts are those of
         the crate itself, if it is one of these."""
-        found, left = {}, {(crate or itself, name) for told in texts for crate, name in told.names}
+        found, left = {}, {(crate if crate in self.crates else itself, name) for told in texts for crate, name in told.names}
         while left:
             crate, name = left.pop()
             # What a crate passes on stands in one below it.
             homes = sorted(crates) if crate in crates and name in self.passed_on(crate) else {crate}.intersection(crates)
             found[crate, name] = [(home, it) for home in homes for it in self.named_of(home, home == itself).get(name, ())]
-            left.update({(other or home, its) for home, it in found[crate, name] for other, its in it.names}.difference(found))
+            left.update({(other if other in self.crates else home, its)
+                         for home, it in found[crate, name] for other, its in it.names}.difference(found))
         return sorted({(home, name, it.text) for (_, name), those in found.items() for home, it in those})
 
     def sum_of(self, crate):

@@ -22,45 +22,51 @@ use std::sync::atomic::AtomicU64;
 use std::sync::atomic::Ordering::SeqCst;
 use std::thread::Threads;
 
-/// The labels of the chain, on which four pebbles have 17,550 classes.
-const LABELS: u16 = 24;
+/// The labels of the board of two layers, and of its upper one.
+const LABELS: u16 = 101;
 
-/// The classes that are filed at 0 to 3. At n are those whose greatest label is 23 - n, since a
-/// pebble beside it has to move above it: as many as there are ways to hold three labels up to it.
-const FILED: [u32; 4] = [2_600, 2_300, 2_024, 1_771];
+const UPPER: u16 = 50;
 
-/// The rounds that strike at least `MIN_SHARED` classes, which are more than a tenth of all.
-const SHARED_ROUNDS: u64 = 3;
-
-/// A gate that counts how often workers pass.
+/// A gate that counts how often workers pass in the first round, and in all later ones.
 #[derive(Drop)]
 struct Passes {
-    passes: AtomicU64,
+    first: AtomicU64,
+    later: AtomicU64,
+}
+
+impl Passes {
+    fn none() -> Passes {
+        Passes {
+            first: AtomicU64::new(0),
+            later: AtomicU64::new(0),
+        }
+    }
 }
 
 impl Gate for Passes {
-    fn pass(&self, _worker: u32, _round: u32, _seat: &RoundSeat) {
-        self.passes.fetch_add(1, SeqCst);
+    fn pass(&self, _worker: u32, round: u32, _seat: &RoundSeat) {
+        let passes = if round == 0 { &self.first } else { &self.later };
+        passes.fetch_add(1, SeqCst);
     }
 
     fn leave(&self, _worker: u32, _round: u32, _seat: &RoundSeat) {}
 }
 
-/// The pairs of the chain: each label dominates all smaller ones.
-fn chain_pairs(alloc: Global) -> Result<Vec<(u16, u16)>, AllocError> {
+/// The pairs of a board of two layers: each label of the upper one dominates each of the lower one.
+fn layered_pairs(alloc: Global) -> Result<Vec<(u16, u16)>, AllocError> {
     let mut pairs = Vec::new(alloc);
-    for upper in 0..LABELS {
-        for lower in 0..upper {
+    for upper in 0..UPPER {
+        for lower in UPPER..LABELS {
             pairs.push((upper, lower))?;
         }
     }
     Ok(pairs)
 }
 
-/// The chain with four pebbles.
-fn chain(alloc: Global) -> Option<Board> {
-    let pairs = chain_pairs(alloc).or_else(|_| chain_pairs(alloc)).ok()?;
-    build_board(alloc, LABELS, 4, &[0, 0, 0, 0], &pairs).ok()
+/// The board of two layers and three pebbles.
+fn layered(alloc: Global) -> Option<Board> {
+    let pairs = layered_pairs(alloc).or_else(|_| layered_pairs(alloc)).ok()?;
+    build_board(alloc, LABELS, 3, &[0, 0, 0], &pairs).ok()
 }
 
 /// The values that this number of workers find by classes, and the gate that counted them.
@@ -76,9 +82,7 @@ fn counted(
     if !is_small(board) {
         return Err(SolveFault::TooLarge);
     }
-    let passes = Passes {
-        passes: AtomicU64::new(0),
-    };
+    let passes = Passes::none();
     let values = solve_classes(rt, alloc, board, workers, &passes)?;
     Ok((values, passes))
 }
@@ -97,17 +101,14 @@ fn assert_values(rt: &impl Abort, board: &Board, found: &GapValues, wanted: &Val
     }
 }
 
-/// Asserts how many classes are filed at the first values.
-fn assert_filed(rt: &impl Abort, alloc: Global, board: &Board) {
+/// Asserts that the round which strikes the classes filed at 0 has enough of them to be shared, and
+/// the only later one too few.
+fn assert_on_both_sides(rt: &impl Abort, alloc: Global, board: &Board) {
     let mut solver = class_solver_of::<PlainLists>(alloc, board).expect(rt, "a solver");
-    for (value, filed) in FILED.iter().enumerate() {
-        let number = value as u64;
-        assert_same(rt, number, solver.last_filed(), *filed);
-        let is_shared = solver.last_filed() >= MIN_SHARED;
-        assert_same(rt, number, is_shared, number < SHARED_ROUNDS);
-        let next = matches!(solver.round(), Progress::Filed(_));
-        assert_same(rt, number, next, true);
-    }
+    assert_same(rt, "at 0", solver.last_filed() >= MIN_SHARED, true);
+    let filed = matches!(solver.round(), Progress::Filed(_));
+    assert_same(rt, "at 1", filed && solver.last_filed() < MIN_SHARED, true);
+    assert_same(rt, "at 2", solver.round(), Progress::Done);
 }
 
 /// What `counted` finds, asked for once more if memory was refused.
@@ -128,18 +129,15 @@ fn counted_at_last(
 }
 
 #[test]
-fn three_rounds_are_shared(rt: HostRuntime) {
-    let board = chain(rt.alloc()).expect(&rt, "a board");
-    assert_filed(&rt, rt.alloc(), &board);
+fn one_round_of_two_is_shared(rt: HostRuntime) {
+    let board = layered(rt.alloc()).expect(&rt, "a board");
+    assert_on_both_sides(&rt, rt.alloc(), &board);
     let wanted = values_of(rt.alloc(), &board).expect(&rt, "values");
     for workers in 1..5 {
         let (found, passes) = counted_at_last(&rt, rt.alloc(), &board, workers);
-        let times = if workers == 1 {
-            0
-        } else {
-            SHARED_ROUNDS * u64::from(workers)
-        };
-        assert_same(&rt, workers, passes.passes.load(SeqCst), times);
+        let times = if workers == 1 { 0 } else { u64::from(workers) };
+        assert_same(&rt, workers, passes.first.load(SeqCst), times);
+        assert_same(&rt, workers, passes.later.load(SeqCst), 0);
         assert_values(&rt, &board, &found, &wanted);
     }
 }

@@ -17,5 +17,5 @@ of_classes-requires-in-Ok g c =
 pub returns-in_err-run_rounds-clause-enough : goal.returns-in_err-run_rounds-clause-enough
 returns-in_err-run_rounds-clause-enough g c = λ refused.
     each-class c.args.board.now _
-    (subst (λ game. 2000 ≤ (graph_of game).configurations) c.in_ok-solver.ensures.0
+    (subst (λ game. 131072 ≤ (graph_of game).configurations) c.in_ok-solver.ensures.0
     (omega (arith, c.least_shared-least.ensures, c.in_err-run_rounds.ensures.shared)))
