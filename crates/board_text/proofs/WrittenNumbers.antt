@@ -1,5 +1,5 @@
 -- The digits of numbers, one by one.
-use Rattle.std.proofs.Common.{◌≡◌, ℕ, ◌+◌, ◌/◌, ◌%◌, ◌^◌, ◌<◌, ◌≤◌, ◌⊎◌, inl, inr, append_assoc, Result, Ok, Err, OnOk}
+use Rattle.std.proofs.Common.{◌≡◌, ℕ, ◌+◌, ◌*◌, ◌/◌, ◌%◌, ◌^◌, ◌<◌, ◌≤◌, ◌⊎◌, inl, inr, append_assoc, Result, Ok, Err, OnOk}
 use Rattle.std.proofs.Common.{List, [], ◌∷◌, ◌++◌, map, get_or, sym, ap, refl, ◌∙◌, arith}
 use Rattle.std.specs.Fmt.{decimal, digits}
 use Rattle.std.specs.List.{range_with_len}
@@ -28,6 +28,24 @@ decimal_one n small =
     sym (get_or-map-range_with_len decimal 0 10 n n [] (omega (arith, small)) (omega arith))
     ∙ ap (λ (texts : List (List ℕ)). get_or texts n []) first_digits
     ∙ get_or-map-range_with_len (λ n. (48 + n) ∷ []) 0 10 n n [] (omega (arith, small)) (omega arith)
+
+-- a number of two digits is these
+pub decimal_two : (tens ones : ℕ) → 0 < tens → tens < 10 → ones < 10
+    → decimal (10 * tens + ones) ≡ (48 + tens) ∷ (48 + ones) ∷ []
+decimal_two tens ones some small last =
+    let tenth : (10 * tens + ones) / 10 ≡ tens = omega (arith, last) in
+    let rest : (10 * tens + ones) % 10 ≡ ones = omega (arith, last) in
+    decimal_more (10 * tens + ones) (omega (arith, some)) (omega (arith, small, last))
+    ∙ rw (tenth, rest) (ap (λ (ds : List ℕ). ds ++ (48 + ones) ∷ []) (decimal_one tens small))
+
+-- and one of three digits these
+pub decimal_three : (tens ones : ℕ) → 10 ≤ tens → tens < 100 → ones < 10
+    → decimal (10 * tens + ones) ≡ decimal tens ++ (48 + ones) ∷ []
+decimal_three tens ones some small last =
+    let tenth : (10 * tens + ones) / 10 ≡ tens = omega (arith, last) in
+    let rest : (10 * tens + ones) % 10 ≡ ones = omega (arith, last) in
+    decimal_more (10 * tens + ones) (omega (arith, some)) (omega (arith, small, last))
+    ∙ rw (tenth, rest) refl
 
 -- a space and the digits of a number below 1000, pushed one by one
 pub digits_pushed : (n : ℕ) (text spaced hundreds tens whole : List ℕ) → n < 1000 → spaced ≡ text ++ 32 ∷ []

@@ -134,6 +134,10 @@ impl<'a> LineReader<'a> {
     pub fn numeral(&mut self) -> Option<Numeral>
         ensures { TakesNumeral result self.old self.new }
     {
+        if let Some((n, rest)) = short_number(self.rest) {
+            self.rest = rest;
+            return Some(Numeral::Number(n));
+        }
         let digits = self.digits();
         if digits.is_empty() {
             return None;
@@ -229,6 +233,40 @@ impl<'a> LineReader<'a> {
             *number = self.number(0, u32::from(bound) - 1)? as u16;
         }
         Some(())
+    }
+}
+
+/// The number of at most three digits that `bytes` begin with, and the bytes after it.
+/// `None`: there is no digit, a fourth one follows, or a zero leads.
+fn short_number(bytes: &[u8]) -> Option<(u32, &[u8])>
+    ensures { MatchOption result (Unit {0}) (λ found. (found.0 < 1000)
+        × (bytes.now ≡ decimal found.0 ++ found.1.now) × NoDigit found.1.now) }
+{
+    let (first, after_first) = split_digit(bytes)?;
+    let Some((second, after_second)) = split_digit(after_first) else {
+        return Some((first, after_first));
+    };
+    if first == 0 {
+        return None;
+    }
+    let tens = 10 * first + second;
+    let Some((third, after_third)) = split_digit(after_second) else {
+        return Some((tens, after_second));
+    };
+    if split_digit(after_third).is_some() {
+        return None;
+    }
+    Some((10 * tens + third, after_third))
+}
+
+/// The digit that `bytes` begin with, and the bytes after it.
+fn split_digit(bytes: &[u8]) -> Option<(u32, &[u8])>
+    ensures { MatchOption result (NoDigit bytes.now)
+        (λ found. (found.0 < 10) × (bytes.now ≡ (48 + found.0) ∷ found.1.now)) }
+{
+    match bytes.split_first() {
+        Some((byte, rest)) if byte.is_ascii_digit() => Some((u32::from(*byte - b'0'), rest)),
+        _ => None,
     }
 }
 
