@@ -106,7 +106,16 @@ impl<'a> LineReader<'a> {
             (λ _. self.old ≡ text.now ++ self.new) }
         ensures none { MatchOption result (self.new ≡ self.old) (λ _. Unit {0}) }
     {
-        self.rest = self.rest.strip_prefix(text)?;
+        // The texts are short: byte by byte is quicker than a comparison of slices.
+        let mut rest = self.rest;
+        for byte in text {
+            let (first, after) = rest.split_first()?;
+            if first != byte {
+                return None;
+            }
+            rest = after;
+        }
+        self.rest = rest;
         Some(())
     }
 

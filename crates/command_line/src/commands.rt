@@ -56,8 +56,9 @@ const _: () = prove!(MAX_CHAINS == 68_719_476_736);
 /// The help of `solve`.
 const ABOUT_SOLVING: &str =
     "Writes the strategy document of the board, which `check` accepts. It is the\n\
-    same for every number of workers. With --large it is the document by classes,\n\
-    whose rows say nothing of which pebble holds which label.\n\n\
+    same for every number of workers, of which several gain time on large boards\n\
+    alone. With --large it is the document by classes, whose rows say nothing of\n\
+    which pebble holds which label.\n\n\
     With --symmetries its rows are for all configurations that the maps in FILE\n\
     take to one another, which are solved as one: then --large takes any number of\n\
     gaps.\n\n\
@@ -80,9 +81,9 @@ const ABOUT_SOLVING: &str =
 
 /// The help of `report`.
 const ABOUT_REPORTING: &str =
-    "The report is the same for every number of workers. With --symmetries what the\n\
-    maps in FILE take to one another is solved as one: then --large takes any number\n\
-    of gaps.\n\n\
+    "The report is the same for every number of workers, of which several gain time\n\
+    on large boards alone. With --symmetries what the maps in FILE take to one\n\
+    another is solved as one: then --large takes any number of gaps.\n\n\
     Common faults:\n  \
     board fault line 1 Version  neither `board 1` nor `board 2`: Windows line ends\n  \
     board fault line 4 Start    each pebble's label, below V, or `-` in `board 2`\n  \
@@ -96,9 +97,9 @@ const ABOUT_REPORTING: &str =
 const ABOUT_STARTS: &str =
     "A line for each label has the value with all pebbles on it, and in a `board 2`\n\
     one more the value with none on a label. If any start lasts for ever, one of\n\
-    these does. The text is the same for every number of workers. With --symmetries\n\
-    what the maps in FILE take to one another is solved as one: then --large takes\n\
-    any number of gaps.\n\n\
+    these does. The text is the same for every number of workers, of which several\n\
+    gain time on large boards alone. With --symmetries what the maps in FILE take to\n\
+    one another is solved as one: then --large takes any number of gaps.\n\n\
     Common faults:\n  \
     board fault line 1 Version  neither `board 1` nor `board 2`: Windows line ends\n  \
     board fault line 4 Start    each pebble's label, below V, or `-` in `board 2`\n  \

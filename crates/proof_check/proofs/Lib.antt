@@ -3,6 +3,7 @@ pub mod RankSearch
 pub mod FoundRows
 pub mod RowTests
 pub mod AdversarySteps
+pub mod GapBounds
 pub mod FirstRows
 pub mod LabellerTables
 pub mod AdversaryTables

@@ -26,6 +26,8 @@ use Rattle.proof_text.specs.Positions.{Positions, configuration_positions, norma
 use Rattle.proof_check.specs.PositionTables.{AnswersOver, ShowsOver, StopsOver}
 use Rattle.proof_text.specs.Rules.{BreaksNoRule, Serves, wanted_of, StartIsBelow, IsListedBelow}
 use Rattle.proof_check.specs.Inside.Checker.{AreReady, IsAnswering, AreAnswering, IsRequesting, AreRequesting}
+use Rattle.proof_check.specs.Inside.Checker.{IsChecker}
+use Rattle.proof_check.specs.Inside.GapBounds.{AreBounds}
 use Rattle.proof_check.proofs.FirstRows.{AreApart}
 use Rattle.proof_check.proofs.LabellerTables as answering
 use Rattle.proof_check.proofs.PlainTables.{shows_plainly}
@@ -185,3 +187,18 @@ module _ (board : PlainBoard) (is_board : IsBoard board) where
       (λ r. refl)
       (λ r is. record { is_board = is_board; is_rank = rank_small board r.at is_board is.at; is_pebble = is.request })
       (λ r is. is.is_rank) are.few are.each are.ascending
+
+
+  -- the space, the rows of a document and bounds of gaps make a checker
+  pub checker_of : (claim : Claim) (space : PlainBoard) (labeller : List LabellerRow) (adversary : List AdversaryRow)
+      (bounds : List ℕ) → space ≡ board
+      → AreRows (answers_by_configurations board claim) (answer_rows board labeller)
+      → AreRows (requests_by_configurations board claim) (request_rows board adversary)
+      → AreBounds board (request_rows board adversary) bounds
+      → IsChecker board space labeller adversary bounds
+  checker_of claim space labeller adversary bounds same answers requests are = record {
+    same_board = same;
+    answering = are_answering claim labeller answers;
+    requesting = are_requesting claim adversary requests;
+    bounded = are;
+  }

@@ -2,5 +2,6 @@
 pub mod Checker
 pub mod ClassChecker
 pub mod FoundRow
+pub mod GapBounds
 pub mod RowIndex
 pub mod RowSearch

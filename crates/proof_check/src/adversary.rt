@@ -28,6 +28,9 @@ impl<'a> CheckedRow<Checker<'a>, CheckFault> for AdversaryRow {
 
     /// The fault of the row's first faulty label, if it has one.
     fn fault(&self, checker: &Checker<'a>) -> Option<CheckFault> {
+        if checker.is_bounded(self) {
+            return None;
+        }
         let moves = checker.moves(self.at);
         let mut answers = moves.answers(self.ask).walk();
         let results = moves.results(self.ask);

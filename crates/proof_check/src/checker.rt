@@ -7,6 +7,7 @@ ghost use Rattle.positions.specs.Ranks.{configurations, rank_of};
 ghost use Rattle.proof_text.specs.Documents.{IsDocument};
 ghost use Rattle.proof_text.specs.Proof.{plain_proof, answer_rows, request_rows};
 ghost use Rattle.proof_check.specs.Inside.Checker.{AreAnswering, AreRequesting};
+ghost use Rattle.proof_check.specs.Inside.GapBounds.{AreBounds};
 
 use crate::row_index::RowIndex;
 use board_text::Board;
@@ -25,6 +26,9 @@ pub(crate) struct Checker<'a> {
     claim: Claim,
     labeller: RowIndex<'a, LabellerRow>,
     adversary: RowIndex<'a, AdversaryRow>,
+    /// For each gap that a row of the adversary asks, a number above those of the rows of all
+    /// results.
+    bounds: Vec<u32>,
 }
 
 impl<'a> Model for Checker<'a> {
@@ -34,7 +38,7 @@ impl<'a> Model for Checker<'a> {
 
     ghost view = { λ c. checked_document c.board.now c.claim c.labeller c.adversary };
 
-    ghost invariant = { λ c. IsChecker c.board.now c.space c.labeller c.adversary };
+    ghost invariant = { λ c. IsChecker c.board.now c.space c.labeller c.adversary c.bounds.items };
 }
 
 impl<'a> Checker<'a> {
@@ -51,13 +55,16 @@ impl<'a> Checker<'a> {
     {
         let space = Space::new(board);
         let size = space.configurations();
-        Ok(Checker {
+        let mut checker = Checker {
             board,
             space,
             claim: proof.claim,
             labeller: RowIndex::new(alloc, size, &proof.labeller)?,
             adversary: RowIndex::new(alloc, size, &proof.adversary)?,
-        })
+            bounds: Vec::new(alloc),
+        };
+        checker.bounds = checker.bounds_of_rows(alloc)?;
+        Ok(checker)
     }
 
     /// The document's claim.
@@ -88,6 +95,20 @@ impl<'a> Checker<'a> {
         ensures { result ≡ position_at self.now.board rank }
     {
         self.space.moves(self.board, rank)
+    }
+
+    /// The configurations and gaps of the board.
+    pub(crate) fn space(&self) -> &Space
+        ensures { result.now ≡ self.now.board }
+    {
+        &self.space
+    }
+
+    /// The bounds of gaps. `NO_BOUND` is none.
+    pub(crate) fn bounds(&self) -> &[u32]
+        ensures { AreBounds self.now.board self.now.proof.adversary result.now }
+    {
+        &self.bounds
     }
 
     /// The labeller's rows.

@@ -13,6 +13,7 @@ mod class_labeller;
 mod class_laws;
 mod class_writing;
 mod fault;
+mod gap_bounds;
 mod labeller;
 mod laws;
 mod least_rows;

@@ -7,6 +7,7 @@ use Rattle.positions.specs.declared.claim.Claim.{Claim}
 use Rattle.proof_text.specs.declared.proof.LabellerRow.{LabellerRow}
 use Rattle.proof_text.specs.declared.proof.AdversaryRow.{AdversaryRow}
 use Rattle.proof_text.specs.Proof.{PlainProof, answer_rows, request_rows}
+use Rattle.proof_check.specs.Inside.GapBounds.{AreBounds}
 use Rattle.proof_check.specs.Inside.RowIndex.{AreRanked}
 
 -- a board, and a document for it
@@ -55,12 +56,13 @@ AreAnswering board rows = AreReady board (IsAnswering board) (λ row. row.at) ro
 abbrev pub AreRequesting : PlainBoard → List AdversaryRow → Type 0
 AreRequesting board rows = AreReady board (IsRequesting board) (λ row. row.at) rows
 
--- the space is the board's, and the rows of both sides are ready to be checked
+-- the space is the board's, the rows of both sides are ready to be checked, and gaps have bounds
 pub record IsChecker (board space : PlainBoard) (labeller : List LabellerRow)
-    (adversary : List AdversaryRow) : Type 0 where
+    (adversary : List AdversaryRow) (bounds : List ℕ) : Type 0 where
   pub same_board : space ≡ board
   pub answering : AreAnswering board labeller
   pub requesting : AreRequesting board adversary
+  pub bounded : AreBounds board (request_rows board adversary) bounds
 
 -- P holds of the configuration of the rank
 abbrev pub HoldsAtRank : PlainBoard → ℕ → (List ℕ → Type 0) → Type 0
