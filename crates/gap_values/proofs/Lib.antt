@@ -13,6 +13,7 @@ mod RoundSteps
 mod ClassRounds
 mod OpenCounts
 pub mod BestAnswers
+mod LeadingBelow
 mod Weighing
 mod ClassCounts
 mod UnclosedLabels

@@ -2,6 +2,7 @@
 use Rattle.std.specs.Prelude.{ℕ, ◌<◌, ◌≤◌, List, Option, None, Some}
 use Rattle.board_text.specs.PlainBoard.{PlainBoard}
 use Rattle.positions.specs.Counts.{IsSmallest}
+use Rattle.positions.specs.declared.value.Value.TheVariants.{Finite}
 use Rattle.positions.specs.Value.{HasValue, HasValueAtMost}
 use Rattle.positions.specs.Gaps.{AnswersGap}
 use Rattle.classes.specs.ClassGaps.{member_with}
@@ -34,3 +35,8 @@ abbrev pub IsMostAfter : PlainBoard → List ℕ → ℕ → Type 0
 IsMostAfter board gap word = (word ≤ OPEN)
     × ((label : ℕ) → AnswersGap board gap label → word < OPEN
     → HasValueAtMost board (member_with gap label) word)
+
+-- the result of each answer of the gap has a value below the number
+abbrev pub LeadBelow : PlainBoard → List ℕ → ℕ → Type 0
+LeadBelow board gap number = (label : ℕ) → AnswersGap board gap label
+    → (depth : ℕ) × (depth < number) × HasValue board (member_with gap label) (Finite depth)

@@ -15,10 +15,11 @@ use Rattle.positions.proofs.Cited.{moved_is_configuration, same_value, some_valu
 use Rattle.classes.specs.Classes.{IsClass, put, class_of}
 use Rattle.classes.specs.ClassGaps.{gap_at, member_with}
 use Rattle.classes.proofs.Cited.{falls-more, legal-answers, value-of-class, put-is}
-use Rattle.gap_values.specs.BestOfGap.{HasGreatestMember, IsBestOfGap}
+use Rattle.gap_values.specs.BestOfGap.{HasGreatestMember, IsBestOfGap, LeadBelow}
 use Rattle.gap_values.proofs.Cited.{class-configuration, gap-is, member-like}
 use Rattle.gap_values.specs.declared.value_table.Best.{Best}
-use Rattle.strategies.specs.Best.{IsLess, HasGreatestResult, IsBestAnswer, IsBestFor}
+use Rattle.strategies.specs.Best.{IsLess, HasGreatestResult, IsBestAnswer, IsBestFor, LowersValue}
+use Rattle.strategies.proofs.ValueOrder.{less_than_finite}
 
 module _ (board : PlainBoard) (held : List ℕ) (is : IsConfiguration board held) (pebble : ℕ)
     (inside : pebble < board.pebbles) where
@@ -122,6 +123,29 @@ module _ (board : PlainBoard) (held : List ℕ) (is : IsConfiguration board held
   best-of-request None none = none-legal none
   best-of-request (Some best) is =
       (best-result best.label is.0, (there best.label is.0.0.answers.is_label best.value).1 is.1)
+
+  -- a request lowers a finite value exactly if all answers of its gap lead below it
+  pub lowers-of-gap : (number : ℕ) → HasValue board held (Finite number) → LeadBelow board gap number
+      → LowersValue board held pebble
+  lowers-of-gap number has below = record {
+    is_pebble = inside;
+    lowers = λ label may.
+        let few = below label ((legal label).0 may) in
+        record {
+          smaller = Finite few.0;
+          greater = Finite number;
+          of_first = (there label may.is_label (Finite few.0)).1 few.2;
+          of_second = has;
+          less = few.1;
+        };
+  }
+
+  pub gap-of-lowers : (number : ℕ) → HasValue board held (Finite number) → LowersValue board held pebble
+      → LeadBelow board gap number
+  gap-of-lowers number has lowers label answers =
+      let may = (legal label).1 answers in
+      let few = less_than_finite board number (moved held pebble label) held has (lowers.lowers label may) in
+      (few.0, few.1, (there label may.is_label (Finite few.0)).0 few.2)
 
 -- one best answer for all requests in a gap
 pub same-best : (board : PlainBoard) (one other : List ℕ) (pebble asked : ℕ) (best : Option Best)

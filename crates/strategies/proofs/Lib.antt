@@ -61,6 +61,8 @@ pub mod AddedNumbers
 pub mod Spread
 pub mod AlikeRequests
 pub mod ClassGaps
+mod KeptAnswers
+mod OthersFirst
 pub mod RankGaps
 pub mod Expanded
 pub mod AddedAnswers

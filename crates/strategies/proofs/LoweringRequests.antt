@@ -10,6 +10,7 @@ use Rattle.positions.specs.Value.{HasValue}
 use Rattle.positions.proofs.Cited.{some_value, same_value}
 use Rattle.gap_values.specs.declared.value_table.Best.{Best}
 use Rattle.strategies.specs.Best.{IsLess, HasSmallerValue, HasNoGreaterValue, LowersValue, IsBestFor}
+use Rattle.strategies.specs.Best.{IsBestRequestIfAny}
 use Rattle.strategies.specs.Inside.MovesAt.{LeadsBelow}
 use Rattle.strategies.proofs.ValueOrder.{cases_value, IsLess-trans}
 use Rattle.strategies.proofs.BestRequests.{first_is_smallest, best_request, not_lowered}
@@ -70,26 +71,20 @@ unlowered_lasts board configuration is none = let value = some_value board confi
 abbrev pub NoneLowersBelow : PlainBoard → List ℕ → ℕ → Type 0
 NoneLowersBelow board configuration bound = (other : ℕ) → other < bound → LowersValue board configuration other → ⊥
 
-pub lowers_first : (board : PlainBoard) (configuration : List ℕ) (pebble : ℕ) (value : Value) (best : Option Best)
-    → HasValue board configuration value
-    → NoneLowersBelow board configuration pebble → IsBestFor board configuration pebble best → pebble < board.pebbles
-    → LeadsBelow best value
+pub lowers_first : (board : PlainBoard) (configuration : List ℕ) (pebble : ℕ)
+    → NoneLowersBelow board configuration pebble → LowersValue board configuration pebble
     → IsSmallest (LowersValue board configuration) (Some pebble)
-lowers_first board configuration pebble value best has none is is_pebble below = (
-  lowers_from board configuration pebble value has best is is_pebble below,
-  first_is_smallest (LowersValue board configuration) pebble none,
-)
+lowers_first board configuration pebble none lowers =
+    (lowers, first_is_smallest (LowersValue board configuration) pebble none)
 
-pub none_lowers : (board : PlainBoard) (configuration : List ℕ) (pebble : ℕ) (value : Value) (best : Option Best)
-    → HasValue board configuration value
-    → NoneLowersBelow board configuration pebble → IsBestFor board configuration pebble best → ¬ LeadsBelow best value
+pub none_lowers : (board : PlainBoard) (configuration : List ℕ) (pebble : ℕ)
+    → NoneLowersBelow board configuration pebble → ¬ LowersValue board configuration pebble
     → NoneLowersBelow board configuration (pebble + 1)
-none_lowers board configuration pebble value best has none is not other before lowering = elim (cases_lt other pebble) [
+none_lowers board configuration pebble none not other before lowering = elim (cases_lt other pebble) [
   | inl early ↦ none other early lowering
   | inr late ↦
       let same : other ≡ pebble = omega arith in
-      not (leads_from board configuration pebble value has best is
-      (subst (LowersValue board configuration) same lowering))
+      not (subst (LowersValue board configuration) same lowering)
 ]
 
 pub request_none : (board : PlainBoard) (configuration : List ℕ) (pebble : ℕ) → IsConfiguration board configuration
@@ -105,3 +100,11 @@ no_request board configuration bound is all none = (
   λ _. unlowered_lasts board configuration is (λ pebble below lowering. none pebble (omega arith) lowering),
   λ forever. refl,
 )
+
+-- no request lowers a value that lasts forever
+pub forever_lowers_none : (board : PlainBoard) (configuration : List ℕ) → IsConfiguration board configuration
+    → HasValue board configuration Forever → IsBestRequestIfAny board configuration None
+forever_lowers_none board configuration is forever = record {
+  best = λ other lowering. not_lowered board configuration other is forever lowering;
+  none = (λ _. forever, λ _. refl);
+}

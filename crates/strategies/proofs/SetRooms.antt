@@ -1,20 +1,19 @@
 -- Sets have room for all numbers of positions, and of gaps.
-use Rattle.std.proofs.Common.{◌≡◌, ℕ, ◌+◌, ◌^◌, ◌<◌, ◌≤◌, List, Some, arith}
+use Rattle.std.proofs.Common.{◌≡◌, ℕ, ◌+◌, ◌^◌, ◌<◌, ◌≤◌, ◌∷◌, Some, arith}
+use Rattle.std.specs.List.{remove}
 use Rattle.std.proofs.Math.ListN.{length-replicate, replicate}
 use Rattle.std.proofs.Common.{false, length}
 use Rattle.std.proofs.Math.Nat.{pow-le-pow_left, pow-le-pow_right}
-use Rattle.board_text.specs.PlainBoard.{PlainBoard, IsBoard, IsConfiguration}
-use Rattle.positions.specs.Game.{moved}
+use Rattle.board_text.specs.PlainBoard.{PlainBoard, IsBoard}
 use Rattle.positions.specs.Gaps.{gaps}
 use Rattle.positions.specs.Ranks.{configurations}
-use Rattle.positions.proofs.Cited.{gap_below, moved_is_configuration}
-use Rattle.proof_text.specs.Arranged.{arranged}
+use Rattle.positions.proofs.Cited.{gap_below}
 use Rattle.symmetries.specs.AlikeTables.{AlikeBy}
 use Rattle.strategies.specs.Inside.NumberedPositions.{HasRoomForEach, over_by, over_ranks}
 use Rattle.strategies.specs.Inside.ReachedLists.{none_listed, room_of_list}
 use Rattle.strategies.specs.Inside.ReachedMarks.{none_reached, room_of_marks}
-use Rattle.strategies.proofs.ClassNumbers.{last_number, number-ends, number-of}
-use Rattle.strategies.proofs.NormalForms.{arranged_form}
+use Rattle.strategies.proofs.ClassNumbers.{last_number, number-ends, numbers-end}
+use Rattle.strategies.proofs.ClassGaps.{others_are}
 
 -- by marks
 pub marks_have_room : (board : PlainBoard) (size many : ℕ) → size ≡ configurations board → many ≡ gaps board
@@ -48,10 +47,6 @@ lists_have_room board alike most is_board = record {
       let low : number < last_number board = number-ends board number is in
       omega (arith, low, last_few board is_board);
   gaps = λ held pebble is inside.
-      let next : List ℕ = moved held pebble 0 in
-      let is_next : IsConfiguration board next =
-      moved_is_configuration board held pebble 0 (omega (arith, is_board.labels.0)) is in
-      let low = number-ends board _ (number-of board (arranged board.labels next)
-      ((arranged_form board).is next is_next)) in
+      let low = numbers-end board (0 ∷ remove held pebble) (others_are board held pebble is inside) in
       omega (arith, low, last_few board is_board);
 }

@@ -116,7 +116,8 @@ impl<'a> BestMoves<'a> {
         requires { rank < configurations self.now }
         ensures { IsBestRequestIfAny self.now (configuration_at self.now rank) result }
     {
-        self.at(rank).request()
+        let (_, request) = self.at(rank).request();
+        request
     }
 
     /// The best moves at the configuration of `rank`.

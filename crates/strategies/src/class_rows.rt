@@ -38,7 +38,7 @@ pub(crate) fn class_section<R: SectionRow, M: Moves>(
         (R.side (over_normal (M.board moves.now) (normal_by (M.board moves.now) alike.now))
         start) most) }
 {
-    let mut here = NormalWalk::at_start(moves, alike);
+    let mut here = NormalWalk::at_start(alloc, moves, alike, R::names_answers());
     let set = ListedNumbers::new(alloc, most);
     let gaps = ListedNumbers::new(alloc, most);
     section(alloc, &mut here, set, gaps, start)
@@ -65,7 +65,11 @@ pub(crate) fn section_in_parts<R: SectionRow + Send + Sync, M: Moves + Sync>(
         (R.side (over_normal (M.board moves.now) (normal_by (M.board moves.now) alike.now))
         start) most) }
 {
-    let mut here = NormalWalk::at_start(moves, alike);
+    if parts == 1 {
+        // One walk keeps the best answers that it finds on the way for the rows.
+        return class_section(alloc, moves, alike, start, most);
+    }
+    let mut here = NormalWalk::at_start(alloc, moves, alike, false);
     let set = ListedNumbers::new(alloc, most);
     let gaps = ListedNumbers::new(alloc, most);
     let set = reached::<R, NormalWalk<'_, '_, M>, ListedNumbers>(&mut here, set, gaps)?;
@@ -112,7 +116,7 @@ fn rows_in_parts<R: SectionRow + Send + Sync, M: Moves + Sync>(
                     (normal_by (M.board moves.entry.now) alike.entry.now)) start)
                     part.now rows.items) }
             {
-                let mut here = NormalWalk::at_start(moves, alike);
+                let mut here = NormalWalk::at_start(alloc, moves, alike, R::names_answers());
                 rows_at(alloc, &mut here, start, part)
             },
         )

@@ -19,6 +19,10 @@ impl SectionRow for LabellerClassRow {
 
     ghost moves = { answer_moves };
 
+    fn names_answers() -> bool {
+        true
+    }
+
     /// The value of the places is 1 or more.
     fn may_start<W: PositionWalk>(here: &W) -> bool {
         let (value, _) = here.best_request();
@@ -49,6 +53,10 @@ impl SectionRow for AdversaryClassRow {
     ghost side = { adversary_side_on };
 
     ghost moves = { request_moves };
+
+    fn names_answers() -> bool {
+        false
+    }
 
     fn may_start<W: PositionWalk>(_here: &W) -> bool {
         true

@@ -1,6 +1,7 @@
 //! One configuration, in room of a fixed size.
 
-ghost use Rattle.std.specs.Prelude.{◌≡◌, ◌<◌, ◌≤◌, length};
+ghost use Rattle.std.specs.Prelude.{◌≡◌, ◌∷◌, ◌<◌, ◌≤◌, length};
+ghost use Rattle.std.specs.List.{remove};
 ghost use Rattle.positions.specs.Game.{moved};
 ghost use Rattle.positions.specs.Ranks.{configurations, configuration_at};
 
@@ -85,6 +86,22 @@ impl Configuration {
     {
         let mut places = self.places;
         places[pebble as usize] = label;
+        Configuration {
+            places,
+            pebbles: self.pebbles,
+        }
+    }
+
+    /// The label 0, and after it the places of the pebbles other than `pebble`.
+    pub(crate) fn others_after_zero(&self, pebble: u8) -> Configuration
+        requires { pebble < length self.now }
+        ensures { result ≡ 0 ∷ remove self.now pebble }
+    {
+        let mut places = self.places;
+        for index in (0..pebble as usize).rev() {
+            places[index + 1] = places[index];
+        }
+        places[0] = 0;
         Configuration {
             places,
             pebbles: self.pebbles,

@@ -92,8 +92,7 @@ impl<'a, V: ValueTable> Moves for GapMoves<'a, V> {
     }
 
     fn request(&self, held: &[u16]) -> (Value, Option<u8>) {
-        let here = self.at(held);
-        (here.value(), here.request())
+        self.at(held).request()
     }
 }
 
@@ -130,6 +129,11 @@ impl<V: ValueTable> MovesHere for GapMovesAt<'_, V> {
     fn answer(&self, pebble: u8) -> Option<Best> {
         let gap = others_of(self.configuration.as_slice(), pebble);
         self.values.best_answer(self.board, gap.as_slice())
+    }
+
+    fn lowers(&self, pebble: u8, number: u32) -> bool {
+        let gap = others_of(self.configuration.as_slice(), pebble);
+        self.values.leads_below(self.board, gap.as_slice(), number)
     }
 }
 

@@ -2,8 +2,10 @@
 
 ghost use Rattle.std.specs.Prelude.{◌≡◌, ℕ, ◌<◌, ◌↔◌, None, IsTrue, slice_index_or};
 ghost use Rattle.board_text.specs.PlainBoard.{IsBoard, IsConfiguration};
+ghost use Rattle.positions.specs.declared.value.Value.TheVariants.{Finite};
 ghost use Rattle.positions.specs.Value.{HasValue};
 ghost use Rattle.strategies.specs.Best.{IsBestAnswerIfAny, IsBestRequestIfAny, IsBestFor};
+ghost use Rattle.strategies.specs.Best.{LowersValue};
 ghost use Rattle.strategies.specs.Inside.MovesAt.{LeadsBelow};
 ghost use Rattle.strategies.specs.Inside.MovesAt.{HeldPosition};
 
@@ -55,18 +57,36 @@ pub(crate) trait MovesHere: Drop {
         answers
     }
 
-    /// The best request, if the value of the configuration is finite: the smallest pebble all of
-    /// whose legal results have a smaller value.
-    fn request(&self) -> Option<u8>
-        ensures { IsBestRequestIfAny (position self.now).board (position self.now).held result }
+    /// Whether all legal results of a request of `pebble` have a smaller value than the
+    /// configuration, whose value is `number`.
+    fn lowers(&self, pebble: u8, number: u32) -> bool
+        requires pebble { pebble < (position self.now).board.pebbles }
+        requires value { HasValue
+            (position self.now).board (position self.now).held (Finite number) }
+        ensures { IsTrue result
+            ↔ LowersValue (position self.now).board (position self.now).held pebble }
+    {
+        leads_below(self.answer(pebble), Value::Finite(number))
+    }
+
+    /// The value of the configuration, and the best request, if the value is finite: the smallest
+    /// pebble all of whose legal results have a smaller value.
+    fn request(&self) -> (Value, Option<u8>)
+        ensures value { HasValue (position self.now).board (position self.now).held result.0 }
+        ensures request { IsBestRequestIfAny
+            (position self.now).board (position self.now).held result.1 }
     {
         let value = self.value();
-        for pebble in 0..self.pebbles() {
-            if leads_below(self.answer(pebble), value) {
-                return Some(pebble);
+        let pebbles = self.pebbles();
+        let Value::Finite(number) = value else {
+            return (value, None);
+        };
+        for pebble in 0..pebbles {
+            if self.lowers(pebble, number) {
+                return (value, Some(pebble));
             }
         }
-        None
+        (value, None)
     }
 }
 

@@ -92,6 +92,10 @@ impl SectionRow for LabellerRow {
 
     ghost moves = { answer_moves };
 
+    fn names_answers() -> bool {
+        true
+    }
+
     /// The value of the configuration is 1 or more.
     fn may_start<W: PositionWalk>(here: &W) -> bool {
         let (value, _) = here.best_request();
@@ -122,6 +126,10 @@ impl SectionRow for AdversaryRow {
     ghost side = { λ over. adversary_side over.board };
 
     ghost moves = { request_moves };
+
+    fn names_answers() -> bool {
+        false
+    }
 
     fn may_start<W: PositionWalk>(_here: &W) -> bool {
         true

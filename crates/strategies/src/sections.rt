@@ -31,6 +31,9 @@ pub(crate) trait SectionRow: Copy {
 
     ghost moves: { NumberedPositions → SideMoves };
 
+    /// Whether rows name best answers, so that a walk over their positions is to keep them.
+    fn names_answers() -> bool;
+
     /// Whether a row may stand at the start's position, where `here` is.
     fn may_start<W: PositionWalk>(here: &W) -> bool
         requires kind { names (W.kind here.now) }

@@ -15,7 +15,7 @@ use Rattle.strategies.specs.Best.{IsBestRequest}
 use Rattle.strategies.specs.DocumentMoves.{IsAnswerable, IsAnswerMove, IsRequestMove}
 use Rattle.strategies.specs.Inside.NormalForm.{normal_by}
 use Rattle.strategies.specs.Inside.Numbering.{Numbering, IsNumbering, by_order, by_rank}
-use Rattle.strategies.specs.Inside.Numbering.{number_of_class_at}
+use Rattle.strategies.specs.Inside.Numbering.{number_of_gap}
 use Rattle.strategies.specs.Inside.ReachedOver.{number_over, IsAnswerStepOver, LegalLeadsOver}
 use Rattle.strategies.specs.Inside.ReachedOver.{IsRequestStepOver, IsReachedOver}
 use Rattle.strategies.specs.Inside.Reached.{Room}
@@ -56,14 +56,14 @@ over_ranks board = record {
   gap = gap_of board;
 }
 
--- normal places by their numbers in the order of documents; the class after the pebble is put on
--- the label 0 stands for its gap
+-- normal places by their numbers in the order of documents; the label 0 and the other pebbles'
+-- places stand for a pebble's gap
 abbrev pub over_normal : PlainBoard → (List ℕ → List ℕ) → NumberedPositions
 over_normal board normal = record {
   board = board;
   positions = normal_positions normal;
   numbering = by_order board;
-  gap = λ held pebble. number_of_class_at board (moved held pebble 0);
+  gap = number_of_gap board;
 }
 
 -- a board, and what its positions are: configurations, or normal places by symmetries

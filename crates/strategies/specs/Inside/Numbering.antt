@@ -1,5 +1,6 @@
 -- The numbers by which those who make documents name places.
-use Rattle.std.specs.Prelude.{◌≡◌, ℕ, zero, suc, ◌+◌, ◌<◌, ◌↔◌, List, map}
+use Rattle.std.specs.Prelude.{◌≡◌, ℕ, zero, suc, ◌+◌, ◌<◌, ◌↔◌, List, ◌∷◌, map}
+use Rattle.std.specs.List.{remove}
 use Rattle.board_text.specs.PlainBoard.{PlainBoard, IsConfiguration}
 use Rattle.positions.specs.Ranks.{configurations, configuration_at, digits_of, rank_of}
 use Rattle.proof_text.specs.Arranged.{arranged, order_number}
@@ -40,6 +41,10 @@ pub record IsClassNumber (board : PlainBoard) (number : ℕ) : Type 0 where
 abbrev pub number_of_class_at : PlainBoard → List ℕ → ℕ
 number_of_class_at board configuration = order_number board.labels
     (arranged board.labels configuration)
+
+-- the number of the gap of a pebble: that of the label 0 and of the other pebbles' places after it
+abbrev pub number_of_gap : PlainBoard → List ℕ → ℕ → ℕ
+number_of_gap board held pebble = order_number board.labels (0 ∷ remove held pebble)
 
 -- places by their numbers in the order of documents
 abbrev pub by_order : PlainBoard → Numbering
