@@ -24,8 +24,8 @@ returns g c =
     let held = c.self.inside.configuration in
     let inside = rw (← c.self.view_is) at c.requires.pebble in
     let has =
-        subst (λ (at : HeldPosition). HasValue at.board at.held (Finite c.args.number)) (sym c.self.view_is)
-        c.requires.value in
+    subst (λ (at : HeldPosition). HasValue at.board at.held (Finite c.args.number)) (sym c.self.view_is)
+    c.requires.value in
     subst (λ (at : HeldPosition). IsTrue c.leads_below.result ↔ LowersValue at.board at.held c.args.pebble)
     c.self.view_is (
       λ below. lowers-of-gap board held c.self.invariant.is_configuration c.args.pebble inside c.args.number has

@@ -1,4 +1,4 @@
-use Rattle.std.proofs.Common.{◌<◌, ◌≤◌, refl, arith, subst}
+use Rattle.std.proofs.Common.{◌≤◌, arith, subst}
 use Rattle.positions.specs.Value.{HasValue}
 use Rattle.strategies.proofs.LoweringRequests.{forever_lowers_none, lowers_first, none_lowers, request_none, no_request}
 use Rattle.strategies.proofs.moves_here.MovesHere.request.Goals as goal
