@@ -5,12 +5,10 @@ use Rattle.std.proofs.lemmas.List.{length-map}
 use Rattle.board_text.specs.PlainBoard.{PlainBoard, IsConfiguration}
 use Rattle.positions.specs.Ranks.{digits_of}
 use Rattle.positions.proofs.Digits.{digits_of-number_of, number_below}
-use Rattle.proof_text.specs.Arranged.{order_of, arranged, order_number}
-use Rattle.proof_text.proofs.Cited.{arranged_is}
+use Rattle.proof_text.specs.Arranged.{order_of, order_number}
 use Rattle.proof_text.proofs.Cited.{order-none, order-label, orders-below}
 use Rattle.proof_text.proofs.Cited.{places-few}
 use Rattle.strategies.specs.Inside.Numbering.{place_of, class_numbered, IsClassNumber}
-use Rattle.strategies.specs.Inside.Numbering.{number_of_class_at}
 
 place_of-order : (labels place : ℕ) → place_of labels (order_of labels place) ≡ place
 place_of-order labels place = elim (cases_eq place labels) [
@@ -60,8 +58,3 @@ number-of board at is =
       is = subst (IsConfiguration board) (sym same) is;
       number_is = ap (order_number board.labels) same;
     }
-
--- the number of a configuration's class is that of its arranged places
-pub class_numbered-number_at : (board : PlainBoard) (c : List ℕ) → IsConfiguration board c
-    → class_numbered board (number_of_class_at board c) ≡ arranged board.labels c
-class_numbered-number_at board c is = class_numbered-order board (arranged board.labels c) (arranged_is board c is)

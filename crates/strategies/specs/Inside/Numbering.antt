@@ -3,7 +3,7 @@ use Rattle.std.specs.Prelude.{◌≡◌, ℕ, zero, suc, ◌+◌, ◌<◌, ◌�
 use Rattle.std.specs.List.{remove}
 use Rattle.board_text.specs.PlainBoard.{PlainBoard, IsConfiguration}
 use Rattle.positions.specs.Ranks.{configurations, configuration_at, digits_of, rank_of}
-use Rattle.proof_text.specs.Arranged.{arranged, order_number}
+use Rattle.proof_text.specs.Arranged.{order_number}
 
 -- numbers of places
 pub record Numbering : Type 1 where
@@ -36,11 +36,6 @@ class_numbered board number =
 pub record IsClassNumber (board : PlainBoard) (number : ℕ) : Type 0 where
   pub is : IsConfiguration board (class_numbered board number)
   pub number_is : order_number board.labels (class_numbered board number) ≡ number
-
--- the number of the class of a configuration
-abbrev pub number_of_class_at : PlainBoard → List ℕ → ℕ
-number_of_class_at board configuration = order_number board.labels
-    (arranged board.labels configuration)
 
 -- the number of the gap of a pebble: that of the label 0 and of the other pebbles' places after it
 abbrev pub number_of_gap : PlainBoard → List ℕ → ℕ → ℕ
