@@ -64,7 +64,8 @@ module _ (board : PlainBoard) (closed : List ℕ → Value) (table : IsGapTable 
   pub closed-below : own < 4294967295 → own ≤ number → LeadBelow board gap number
   closed-below finite low = λ label answer.
       let before : IsClosedBefore (closed gap) (suc number) =
-      subst (λ v. IsClosedBefore v (suc number)) (sym same) (before-from own (suc number) (omega (arith, low)) finite) in
+      subst (λ v. IsClosedBefore v (suc number)) (sym same)
+      (before-from own (suc number) (omega (arith, low)) finite) in
       let is = class-configuration board (member_with gap label)
       (result-is board gap label is_board is_gap answer.is_label) in
       below-from-tree board number (member_with gap label)

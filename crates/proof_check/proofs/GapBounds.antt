@@ -1,11 +1,11 @@
 -- Numbers above those of the rows of all results of a request, by its gap.
-use Rattle.std.proofs.Common.{◌≡◌, ◌≢◌, ℕ, ◌<◌, ◌≤◌, true, List, length, get_or, slice_set, slice_index, subst, sym, ap, ◌∙◌, arith, inl, inr}
-use Rattle.std.proofs.Common.{get_or-set_other, get_or-set_same}
+use Rattle.std.proofs.Common.{◌≡◌, ℕ, ◌<◌, ◌≤◌, List, length, slice_set, slice_index, subst, sym, ap, ◌∙◌, arith}
+use Rattle.std.proofs.Common.{get_or-set_other, get_or-set_same, inl, inr}
 use Rattle.std.proofs.lemmas.Bool.{cases_eq}
 use Rattle.std.proofs.lemmas.List.{length-set}
 use Rattle.board_text.specs.PlainBoard.{PlainBoard, IsConfiguration}
 use Rattle.positions.specs.Game.{Legal, moved}
-use Rattle.positions.specs.Gaps.{IsAnswer, gap_of, member_of}
+use Rattle.positions.specs.Gaps.{gap_of}
 use Rattle.positions.specs.LabelWalk.{Walk}
 use Rattle.positions.specs.Table.{RequestRow}
 use Rattle.positions.proofs.Cited.{legal_is_answer, member_of-gap_of}
@@ -60,12 +60,12 @@ pub bounds_more : (board : PlainBoard) (rows : List RequestRow) (bounds : List �
 bounds_more board rows bounds gap bound are is at inside =
     let size : length (slice_set bounds gap bound) ≡ length bounds = length-set bounds gap bound in
     elim (cases_eq at gap) [
-  | inl same ↦
-      let within : gap < length bounds = omega (arith, inside, size, same) in
-      subst (IsBound board rows at)
-      (sym (ap (slice_index (slice_set bounds gap bound)) same ∙ get_or-set_same bounds gap bound 0 within))
-      (subst (λ g. IsBound board rows g bound) (sym same) is)
-  | inr differs ↦
-      subst (IsBound board rows at) (sym (get_or-set_other bounds gap at bound 0 differs))
-      (are at (omega (arith, inside, size)))
-]
+      | inl same ↦
+          let within : gap < length bounds = omega (arith, inside, size, same) in
+          subst (IsBound board rows at)
+          (sym (ap (slice_index (slice_set bounds gap bound)) same ∙ get_or-set_same bounds gap bound 0 within))
+          (subst (λ g. IsBound board rows g bound) (sym same) is)
+      | inr differs ↦
+          subst (IsBound board rows at) (sym (get_or-set_other bounds gap at bound 0 differs))
+          (are at (omega (arith, inside, size)))
+    ]

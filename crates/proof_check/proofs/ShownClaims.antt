@@ -188,7 +188,6 @@ module _ (board : PlainBoard) (is_board : IsBoard board) where
       (λ r is. record { is_board = is_board; is_rank = rank_small board r.at is_board is.at; is_pebble = is.request })
       (λ r is. is.is_rank) are.few are.each are.ascending
 
-
   -- the space, the rows of a document and bounds of gaps make a checker
   pub checker_of : (claim : Claim) (space : PlainBoard) (labeller : List LabellerRow) (adversary : List AdversaryRow)
       (bounds : List ℕ) → space ≡ board

@@ -15,8 +15,10 @@ returns-in_default-split_digit c =
     let first = c.in_ok-first.ensures in
     let second = c.in-Some.ensures in (
       omega (arith, first.0, second.0),
-      rw (decimal_two c.in_ok-first.first c.in-Some.second (omega (arith, c.if-first-eq0.false)) first.0 second.0, first.1)
-          (ap (λ ds. (48 + c.in_ok-first.first) ∷ ds) second.1),
+      rw (
+        decimal_two c.in_ok-first.first c.in-Some.second (omega (arith, c.if-first-eq0.false)) first.0 second.0,
+        first.1,
+      ) (ap (λ ds. (48 + c.in_ok-first.first) ∷ ds) second.1),
       c.in_default-split_digit.ensures,
     )
 

@@ -21,5 +21,6 @@ returns-then-bound-lt-NO_BOUND c = λ most.
       asks = omega (arith, is.each_pebble, c.requires.is_pebble);
       each = λ label legal. listed_below_more v.proof.adversary _ c.in-Some.bound.now row.left up
           (served_by_gap v.board v.proof.adversary (configuration_at v.board row.at) row.ask c.in-Some.bound.now is
-          c.requires.is_pebble (subst (λ g. IsBound v.board v.proof.adversary g c.in-Some.bound.now) gap_is bound) c.if-bound-lt-NO_BOUND.true label legal);
+          c.requires.is_pebble (subst (λ g. IsBound v.board v.proof.adversary g c.in-Some.bound.now) gap_is bound)
+          c.if-bound-lt-NO_BOUND.true label legal);
     }

@@ -15,7 +15,10 @@ returns-then-lowers-clause-request g c =
     let b = (g.Self.MovesHere.position c.args.self.now).board in
     let here = (g.Self.MovesHere.position c.args.self.now).held in
     let best = lowers_first b here c.loop-pebble.pebble c.loop-pebble.invariant (c.lowers.ensures.0 c.if-lowers.true) in
-    record { best = best; none = request_none b here c.loop-pebble.pebble c.pebbles-pebbles.ensures.is_configuration best }
+    record {
+      best = best;
+      none = request_none b here c.loop-pebble.pebble c.pebbles-pebbles.ensures.is_configuration best;
+    }
 
 pub loop-pebble-preserved : goal.loop-pebble-preserved
 loop-pebble-preserved g c =
