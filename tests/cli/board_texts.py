@@ -43,6 +43,12 @@ def domain_text(domain, pebbles):
     return text(1, labels, [0] * pebbles, pairs)
 
 
+def layers(labels):
+    """Labels of which each of the first half dominates each of the second, with three pebbles: seven eighths of the classes have value 0."""
+    half = labels // 2
+    return text(1, labels, [0, 0, 0], [(x, y) for x in range(half) for y in range(half, labels)])
+
+
 class Numbers:
     """Numbers that are the same everywhere."""
     state = 20

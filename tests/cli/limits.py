@@ -109,9 +109,9 @@ def readable(work, name, text):
 
 
 def made_jobs(work, program):
-    """Both commands on a small board, on a larger one, and last on one of which workers share three rounds."""
+    """Both commands on a small board, on a larger one, and last on one of which workers share a round."""
     boards = {'cycle': text_of(board('three-pebbles-on-the-cycle')), 'nested': run(['nested', '4', '4']).output,
-              'chain': board_texts.chain(24, 4)}
+              'layers': board_texts.layers(101)}
     for name, text in boards.items():
         path = readable(work, f'limited-{name}.board', text)
         for command in ('solve', 'report'):

@@ -8,5 +8,5 @@ use crate::solving::{MAX_WORKERS, MIN_SHARED};
 /// shared. CONTRIBUTING.md lists what else says these numbers.
 pub fn limits()
     ensures workers { MAX_WORKERS ≡ 16 }
-    ensures shared { MIN_SHARED ≡ 2000 }
+    ensures shared { MIN_SHARED ≡ 131072 }
 {}

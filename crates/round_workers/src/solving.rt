@@ -23,9 +23,9 @@ use std::thread::Threads;
 /// The largest number of workers that may share a round.
 pub const MAX_WORKERS: u32 = 16;
 
-/// The least number of classes filed last for which `solve_classes` shares a round, if they are a
-/// tenth of all too. bench/performance.md has what sharing costs.
-pub const MIN_SHARED: u32 = 2_000;
+/// The least number of classes filed last for which `solve_classes` shares a round, if they are
+/// four fifths of all too. bench/performance.md has the times on both sides of it.
+pub const MIN_SHARED: u32 = 131_072;
 
 /// Works a round of `solver` to its end by `workers` workers,
 /// each in a thread of its own. Worker 0 is this thread.
@@ -83,8 +83,8 @@ pub fn solve_values<G: Gate, R: Threads + Wait + Sync>(
 /// The values of `board`, which has few classes, found in rounds over classes of configurations:
 /// all that exchanged pebbles give are one.
 ///
-/// A round that strikes those of at least `MIN_SHARED` classes, and of a tenth of all, is shared by
-/// all workers, as each round of `solve_values` is, and a smaller one by none. Of this the
+/// A round that strikes those of at least `MIN_SHARED` classes, and of four fifths of all, is shared
+/// by all workers, as each round of `solve_values` is, and a smaller one by none. Of this the
 /// clauses say that `Worker` is answered of no board of fewer classes. The values are those of the
 /// board, whatever the number of workers, the gate and the schedule are.
 pub fn solve_classes<G: Gate, R: Threads + Wait + Sync>(
@@ -119,7 +119,8 @@ fn least_shared(workers: u32, classes: u32) -> u32
         return u32::MAX;
     }
     // A shared round opens a table of all classes and gaps, which costs more than to strike few.
-    (classes / 10).max(MIN_SHARED)
+    let most = classes - classes / 5;
+    if most > MIN_SHARED { most } else { MIN_SHARED }
 }
 
 /// The solver after all rounds that its board takes, of which `workers` workers share those before
