@@ -1,0 +1,35 @@
+use Rattle.std.proofs.Common.{[], inl, inr, refl, ◌∙◌}
+use Rattle.console.proofs.Cited.{none_more}
+use Rattle.runs.specs.Report.{Reports}
+use Rattle.runs.specs.Run.{stream_of}
+use Rattle.runs.specs.SolveRun.{CannotSolve}
+use Rattle.runs.specs.declared.fault.RunFault.TheVariants.{Read}
+use Rattle.serving.specs.Outcomes.{outcome_of_run}
+use Rattle.serving.proofs.Endings.{broken_run, opened_board, told_as}
+use Rattle.serving.proofs.jobs.report.Goals as goal
+
+pub returns-clause-unread : goal.returns-clause-unread
+returns-clause-unread g c broke =
+    c.in-Ok.ensures.sound _ ((told_as outcome_of_run broken_run c.report-done.result c.of_board.result.outcome
+    (c.of_board.ensures ∙ c.of_run.ensures) Read refl _ c.report-done.ensures.streams.failures.read).1 broke)
+
+pub returns-clause-done : goal.returns-clause-done
+returns-clause-done g c =
+    opened_board (Reports c.args.work.limit) (CannotSolve c.args.work.limit c.args.work.workers)
+    (g.F.Folder.at c.args.files.now.folder.now c.args.board.now) _ c.in-Ok.ensures.opened
+    (stream_of g.O.Sink.contents g.O.Sink.has_failed c.args.console.now.output c.report-done.new.writer)
+    c.report-done.result c.of_board.result.outcome (c.of_board.ensures ∙ c.of_run.ensures) c.report-done.ensures.ok
+    c.report-done.ensures.fault c.report-done.ensures.streams.unwritten
+
+pub returns-clause-told : goal.returns-clause-told
+returns-clause-told g c =
+    let told = c.report-done.ensures.notice in
+    let same = c.of_board.ensures ∙ c.of_run.ensures in
+    (told.0, inr (_, c.in-Ok.ensures.opened, c.report-done.result, same, told.1), told.2)
+
+pub returns-in_default-clause-told : goal.returns-in_default-clause-told
+returns-in_default-clause-told g c = (
+  [],
+  inl (c.in_default.ensures.shut, refl),
+  none_more g.E.Sink.contents g.E.Sink.has_failed c.args.console.now.errors,
+)
