@@ -1,5 +1,5 @@
 -- The outcomes of runs, by their results.
-use Rattle.std.proofs.Common.{◌≡◌, ◌≢◌, ◌↔◌, ℕ, List, sym, ap, ◌∙◌, inl, inr}
+use Rattle.std.proofs.Common.{◌≡◌, ◌≢◌, ◌↔◌, sym, ap, subst, ◌∙◌, inl, inr}
 use Rattle.std.proofs.lemmas.Result.{MatchResult-from_both, IfErr-at_err, IfErr-weaker}
 use Rattle.std.specs.Prelude.{Result, Ok, Err, IfOk, IfErr}
 use Rattle.board_text.specs.PlainBoard.{PlainBoard}
@@ -7,11 +7,11 @@ use Rattle.command_line.specs.declared.asked.BoardLimit.{BoardLimit}
 use Rattle.player.specs.declared.end.PlayEnd.{PlayEnd}
 use Rattle.positions.specs.declared.side.Side.{Side}
 use Rattle.serving.specs.Folders.{File, OpensWith}
-use Rattle.serving.specs.Jobs.{Opening, OpeningBoth, Plays, PlaysUpTo, WritesWhole}
+use Rattle.serving.specs.Jobs.{Plays, PlaysUpTo, WritesAlone, WritesBoth, WritesWhole}
 use Rattle.serving.specs.Outcomes.{EndsAs, outcome_of_check, outcome_of_run}
 use Rattle.runs.specs.BoardRun.{FailsOn, RanOn}
 use Rattle.runs.specs.PlayRun.{PlayFails, PlayFailsUpTo, RanPlay, RanPlayUpTo}
-use Rattle.runs.specs.Run.{Bytes, Fails, Ran, Stream}
+use Rattle.runs.specs.Run.{Bytes, Stream}
 use Rattle.runs.specs.declared.reading.TheConstants.{MAX_BOARD_BYTES}
 use Rattle.runs.specs.declared.fault.RunFault.{RunFault}
 use Rattle.runs.specs.declared.fault.RunFault.TheVariants.{Write}
@@ -57,61 +57,41 @@ module _ {A : Type 0} (told : Result A RunFault → Outcome)
 
 -- ---- jobs over files that were opened
 
-module _ {A : Type 0} (P : List ℕ → A → List ℕ → Type 0) (Cannot : List ℕ → RunFault → Type 0)
-    (file : File) (read : Bytes) (opens : OpensWith file read.old) (output : Stream)
-    (r : Result A RunFault) (outcome : Outcome) (is : outcome ≡ outcome_of_run r) where
-  pub opened_board : IfOk r (Ran P MAX_BOARD_BYTES read output.bytes)
-      → IfErr r (Fails P Cannot MAX_BOARD_BYTES read output.bytes)
-      → IfErr r (λ fault. fault ≢ Write → output.IsKept)
-      → Opening file output.IsKept (λ bytes. EndsAs outcome_of_run (Ran P MAX_BOARD_BYTES bytes output.bytes)
-      (Fails P Cannot MAX_BOARD_BYTES bytes output.bytes)) outcome
-      × WritesWhole output outcome
-  opened_board ok fault unwritten = (
-    inr (
-      read,
-      opens,
-      ends outcome_of_run r (Ran P MAX_BOARD_BYTES read output.bytes)
-          (Fails P Cannot MAX_BOARD_BYTES read output.bytes)
-          outcome is ok fault,
-    ),
-    whole outcome_of_run broken_run r outcome is output.IsKept unwritten,
-  )
+-- what was written for the files, with the outcome of that
+module _ (output : Stream) (ran outcome : Outcome) (is : outcome ≡ ran) where
+  pub wrote_alone : (Writes : Bytes → Stream → Outcome → Type 0) (file : File) (read : Bytes)
+      → OpensWith file read.old → Writes read output ran → WritesWhole output ran
+      → WritesAlone Writes file output outcome
+  wrote_alone Writes file read opens done entire =
+      subst (λ o. WritesAlone Writes file output o) (sym is) (inr (read, opens, done), entire)
 
--- of a run that reads a board in one file, and then another file
-module _ {A : Type 0} (told : Result A RunFault → Outcome)
-    (broken : (r : Result A RunFault) (fault : RunFault) → told r ≡ Broken fault → r ≡ Err fault)
-    (IsSmall : PlainBoard → Type 0) (IsRest : Bytes → PlainBoard → A → Type 0)
-    (RestFails : Bytes → PlainBoard → RunFault → Type 0) (first second : File) (one two : Bytes)
-    (opens : OpensWith first one.old) (opens_too : OpensWith second two.old) (output : Stream) (r : Result A RunFault)
-    (outcome : Outcome) (is : outcome ≡ told r) where
-  abbrev RanBoth : Bytes → Bytes → A → Type 0
-  RanBoth b p answer = RanOn IsSmall MAX_BOARD_BYTES b (λ board. IsRest p board answer)
+  pub wrote_both : (Writes : Bytes → Bytes → Stream → Outcome → Type 0) (first second : File) (one two : Bytes)
+      → OpensWith first one.old → OpensWith second two.old → Writes one two output ran → WritesWhole output ran
+      → WritesBoth Writes first second output outcome
+  wrote_both Writes first second one two opens opens_too done entire =
+      subst (λ o. WritesBoth Writes first second output o) (sym is) (inr (one, two, opens, opens_too, done), entire)
 
-  abbrev BothFail : Bytes → Bytes → Type 0 → RunFault → Type 0
-  BothFail b p Untouched fault = FailsOn IsSmall MAX_BOARD_BYTES b Untouched (λ board. RestFails p board) fault
+-- of a run that reads a board, and then another text
+module _ {A : Type 0} (told : Result A RunFault → Outcome) (IsSmall : PlainBoard → Type 0)
+    (IsRest : Bytes → PlainBoard → A → Type 0) (RestFails : Bytes → PlainBoard → RunFault → Type 0) (one two : Bytes)
+    (r : Result A RunFault) (outcome : Outcome) (is : outcome ≡ told r) where
+  abbrev RanBoth : A → Type 0
+  RanBoth answer = RanOn IsSmall MAX_BOARD_BYTES one (λ board. IsRest two board answer)
 
-  -- the fact that a failed run left the other file may be exchanged for one that follows
-  untouched : (Old New : Type 0) → (Old → New) → (fault : RunFault) → BothFail one two Old fault
-      → BothFail one two New fault
+  abbrev BothFail : Type 0 → RunFault → Type 0
+  BothFail Untouched = FailsOn IsSmall MAX_BOARD_BYTES one Untouched (RestFails two)
+
+  -- the fact that a failed run left the other text may be exchanged for one that follows
+  untouched : (Old New : Type 0) → (Old → New) → (fault : RunFault) → BothFail Old fault → BothFail New fault
   untouched Old New to fault (inl (none, kept)) = inl (none, to kept)
   untouched Old New to fault (inr rest) = inr rest
 
-  pub opened_both : IfOk r (RanBoth one two) → (Untouched : Type 0) → (Untouched → two.new ≡ two.old)
-      → IfErr r (BothFail one two Untouched) → IfErr r (λ fault. fault ≢ Write → output.IsKept)
-      → OpeningBoth first second (λ b p. EndsAs told (RanBoth b p) (BothFail b p (p.new ≡ p.old))) outcome
-      × WritesWhole output outcome
-  opened_both ok Untouched to fault unwritten = (
-    inr (
-      one,
-      two,
-      opens,
-      opens_too,
-      ends told r (RanBoth one two) (BothFail one two (two.new ≡ two.old)) outcome is ok
-          (IfErr-weaker r (BothFail one two Untouched) (BothFail one two (two.new ≡ two.old))
-          (untouched Untouched (two.new ≡ two.old) to) fault),
-    ),
-    whole told broken r outcome is output.IsKept unwritten,
-  )
+  pub ends_on_both : IfOk r RanBoth → (Untouched : Type 0) → (Untouched → two.new ≡ two.old)
+      → IfErr r (BothFail Untouched) → EndsAs told RanBoth (BothFail (two.new ≡ two.old)) outcome
+  ends_on_both ok Untouched to fault =
+      ends told r RanBoth (BothFail (two.new ≡ two.old)) outcome is ok
+      (IfErr-weaker r (BothFail Untouched) (BothFail (two.new ≡ two.old))
+      (untouched Untouched (two.new ≡ two.old) to) fault)
 
 module _ (limit : BoardLimit) (side : Side) (file : File) (read : Bytes) (opens : OpensWith file read.old)
     (input output : Stream)

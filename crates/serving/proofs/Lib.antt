@@ -6,5 +6,15 @@ pub mod KnownPlays
 pub mod BoardEnds
 pub mod Greetings
 pub mod Untold
+pub mod KnownFaults
+pub mod KnownFiles
+pub mod ReadBoards
+pub mod KnownChecks
+pub mod ValueEnds
+pub mod PlayEnds
+pub mod DomainPlays
+pub mod OneJob
+pub mod JobEnds
+pub mod GivenEnds
 pub mod OneServing
 pub mod RowLines

@@ -1,6 +1,8 @@
 -- Where standard error is no terminal, a person is told nothing.
 use Rattle.std.proofs.Common.{◌≡◌, ℕ, suc, ◌&&◌, Bool, true, false, List, [], ◌∷◌, ◌++◌, ap, inl, inr, refl, subst, ◌∙◌}
-use Rattle.std.specs.Prelude.{Err, None, Ok, Result, Some, if◌then◌else◌}
+use Rattle.std.specs.Prelude.{Err, None, Ok, Option, Result, Some, if◌then◌else◌}
+use Rattle.std.specs.Borrow.{Bor}
+use Rattle.clap.specs.Walk.{Text}
 use Rattle.board_text.specs.PlainBoard.{PlainBoard}
 use Rattle.command_line.specs.declared.asked.BoardLimit.{BoardLimit}
 use Rattle.command_line.specs.declared.asked.Job.{Job}
@@ -25,7 +27,11 @@ use Rattle.runs.specs.declared.verdicts.Verdict.{Verdict}
 use Rattle.runs.specs.declared.verdicts.Verdict.TheVariants.{Accepted, Refused, RefusedByClasses}
 use Rattle.runs.specs.declared.verdicts.Verdict.TheVariants.{RefusedUpToSymmetries}
 use Rattle.serving.specs.Folders.{File}
-use Rattle.serving.specs.Telling.{IsToldAfterCheck, IsToldInJob, OpensAndTells, rows_line, rows_told, types_and_sees}
+use Rattle.runs.specs.declared.summaries.Summary.TheVariants as summaries
+use Rattle.serving.specs.Telling.{AnswerOf, IsToldAfterCheck, IsToldInJob, IsToldOfValues, OpensAndTells, rows_line}
+use Rattle.serving.specs.Telling.{rows_told, types_and_sees}
+use Rattle.serving.specs.declared.value_texts.ValueText.{ValueText}
+use Rattle.serving.specs.declared.value_texts.ValueText.TheVariants as texts
 use Rattle.serving.proofs.Greetings.{ungreeted}
 use Rattle.serving.specs.declared.outcome.Outcome.{Outcome}
 
@@ -84,7 +90,7 @@ unopened : {Answer : Type 0} (file : File) (Tells : Bytes → Result Answer RunF
     → ((read : Bytes) (result : Result Answer RunFault) → Tells read result told → told ≡ [])
     → OpensAndTells file Tells outcome told → told ≡ []
 unopened file Tells outcome told none (inl (fails, is)) = is
-unopened file Tells outcome told none (inr (read, opens, result, same, tells)) = none read result tells
+unopened file Tells outcome told none (inr (read, opens, (result, same, tells))) = none read result tells
 
 module _ (at : List ℕ → File) (terminals : Terminals) (off : terminals.errors ≡ false) (input output : Stream)
     (outcome : Outcome) where
@@ -92,12 +98,12 @@ module _ (at : List ℕ → File) (terminals : Terminals) (off : terminals.error
   unseen_here = unseen terminals.input terminals.errors off
 
   -- of the size of a board
-  size_untold : {Answer : Type 0} (limit : BoardLimit) (file : File) (told : List ℕ)
-      → OpensAndTells {Answer = Answer} file (λ read. IsNoticedInRun limit read terminals.errors) outcome told
-      → told ≡ []
-  size_untold {Answer} limit file told is =
-      unopened {Answer = Answer} file (λ read. IsNoticedInRun limit read terminals.errors) outcome told
-      (λ read result tells. untold_of _ _ terminals.errors off result told tells) is
+  size_untold : (text : ValueText) (limit : BoardLimit) (symmetries : Option (Bor Text)) (board : Bor Text)
+      (told : List ℕ) → IsToldOfValues at terminals.errors text limit symmetries board outcome told → told ≡ []
+  size_untold text limit None board told is =
+      unopened {Answer = AnswerOf text} (at board.now) (λ read. IsNoticedInRun limit read terminals.errors) outcome
+      told (λ read result tells. untold_of _ _ terminals.errors off result told tells) is
+  size_untold text limit (Some symmetries) board told is = is
 
   pub nothing_in_job : (job : Job) (told : List ℕ) → IsToldInJob at terminals input output outcome job told → told ≡ []
   nothing_in_job Joined told (rows, after, is) =
@@ -107,12 +113,12 @@ module _ (at : List ℕ → File) (terminals : Terminals) (off : terminals.error
   nothing_in_job (Check board proof) told (inr (b, p, opens, opens_too, after)) =
       uncounted terminals.errors off (RanCheck MAX_BOARD_BYTES MAX_PROOF_BYTES b p output.bytes) outcome told after
   nothing_in_job (Nested levels pebbles) told is = is
-  nothing_in_job (Solve workers side limit None board) told is = size_untold limit (at board.now) told is
-  nothing_in_job (Solve workers side limit (Some symmetries) board) told is = is
-  nothing_in_job (Report workers limit None board) told is = size_untold limit (at board.now) told is
-  nothing_in_job (Report workers limit (Some symmetries) board) told is = is
-  nothing_in_job (Starts workers limit None board) told is = size_untold limit (at board.now) told is
-  nothing_in_job (Starts workers limit (Some symmetries) board) told is = is
+  nothing_in_job (Solve workers side limit symmetries board) told is =
+      size_untold (texts.Document side) limit symmetries board told is
+  nothing_in_job (Report workers limit symmetries board) told is =
+      size_untold (texts.Summary summaries.Report) limit symmetries board told is
+  nothing_in_job (Starts workers limit symmetries board) told is =
+      size_untold (texts.Summary summaries.Starts) limit symmetries board told is
   nothing_in_job (Chains workers most board) told is =
       unopened {Answer = Unit {0}} (at board.now) (λ read. IsToldOfChains most read terminals.errors) outcome told
       (λ read result tells. no_lengths most read terminals.errors off result told tells) is
@@ -128,9 +134,9 @@ module _ (at : List ℕ → File) (terminals : Terminals) (off : terminals.error
       output.bytes sees (types_and_sees terminals) result told) off tells))) is
   nothing_in_job (Play side limit (Some symmetries) board) told (inl (fails, is)) = is
   nothing_in_job (Play side limit (Some symmetries) board) told
-      (inr (b, s, opens, opens_too, result, same, inl (fault, broke, none, stays, is))) = is
+      (inr (b, s, opens, opens_too, (result, same, inl (fault, broke, none, stays, is)))) = is
   nothing_in_job (Play side limit (Some symmetries) board) told
-      (inr (b, s, opens, opens_too, result, same, inr (given, domain, played, run, are))) =
+      (inr (b, s, opens, opens_too, (result, same, inr (given, domain, played, run, are)))) =
       nothing_told (game_played side given) told input.bytes.old input.bytes.new output.bytes.old output.bytes.new
       played
       (subst (λ shows. ArePrompts shows (game_played side given) input.bytes.old input.bytes.new output.bytes.old

@@ -1,5 +1,7 @@
 -- Jobs: from the files and standard input to standard output.
 use Rattle.std.specs.Prelude.{◌≡◌, ◌≢◌, ℕ, ◌⊎◌, ◌↔◌, List, Option, None, Some}
+use Rattle.std.specs.Borrow.{Bor}
+use Rattle.clap.specs.Walk.{Text}
 use Rattle.command_line.specs.declared.asked.Job.{Job}
 use Rattle.command_line.specs.declared.asked.Job.TheVariants.{Joined, Check, Nested, Solve, Report}
 use Rattle.command_line.specs.declared.asked.Job.TheVariants.{Starts, Chains}
@@ -26,10 +28,11 @@ use Rattle.runs.specs.declared.checking.TheConstants.{MAX_JOINED_BYTES, MAX_PROO
 use Rattle.runs.specs.declared.reading.TheConstants.{MAX_BOARD_BYTES}
 use Rattle.runs.specs.declared.fault.RunFault.{RunFault}
 use Rattle.runs.specs.declared.fault.RunFault.TheVariants.{Memory, Read, Write}
-use Rattle.runs.specs.declared.summaries.Summary.{Summary}
 use Rattle.runs.specs.declared.summaries.Summary.TheVariants as summaries
 use Rattle.serving.specs.declared.outcome.Outcome.{Outcome}
 use Rattle.serving.specs.declared.outcome.Outcome.TheVariants.{Broken}
+use Rattle.serving.specs.declared.value_texts.ValueText.{ValueText}
+use Rattle.serving.specs.declared.value_texts.ValueText.TheVariants as texts
 
 -- the file was opened and this was done with it; or it can't be opened, and the rest is untouched
 abbrev pub Opening : File → Type 0 → (Bytes → Outcome → Type 0) → Outcome → Type 0
@@ -43,6 +46,11 @@ OpeningBoth first second Then outcome =
     ((CanFail first ⊎ CanFail second) × (outcome ≡ Broken Read))
     ⊎ ((one two : Bytes) × OpensWith first one.old × OpensWith second two.old
     × Then one two outcome)
+
+-- the file at a path can fail, or that at another if there is one
+abbrev pub CanFailAt : (List ℕ → File) → Bor Text → Option (Bor Text) → Type 0
+CanFailAt at path None = CanFail (at path.now)
+CanFailAt at path (Some other) = CanFail (at path.now) ⊎ CanFail (at other.now)
 
 -- nothing was written before a fault, but for one of writing
 abbrev pub WritesWhole : Stream → Outcome → Type 0
@@ -64,67 +72,65 @@ ChecksJoined input output outcome =
     (Fails IsAnswered CannotAnswer MAX_JOINED_BYTES input.bytes output.bytes) outcome
     × WritesWhole output outcome
 
--- both files were opened, and the document was checked for the board; or one can't be opened
-abbrev pub Checks : File → File → Stream → Outcome → Type 0
-Checks board proof output outcome =
-    OpeningBoth board proof (λ b p. EndsAs outcome_of_check
-    (RanCheck MAX_BOARD_BYTES MAX_PROOF_BYTES b p output.bytes)
-    (CheckFails MAX_BOARD_BYTES MAX_PROOF_BYTES (p.new ≡ p.old) b p output.bytes)) outcome
-    × WritesWhole output outcome
+-- for the text of a board this was written, with an answer; or the run broke off
+abbrev pub WritesFor : {Answer : Type 0} → (List ℕ → Answer → List ℕ → Type 0)
+    → (List ℕ → RunFault → Type 0) → Bytes → Stream → Outcome → Type 0
+WritesFor Says SaysNothing read output outcome =
+    EndsAs outcome_of_run (Ran Says MAX_BOARD_BYTES read output.bytes)
+    (Fails Says SaysNothing MAX_BOARD_BYTES read output.bytes) outcome
 
--- both files were opened, and for the board and its symmetries this was written; or one can't be
--- opened
-abbrev pub DoesUpTo : {Answer : Type 0} → (PlainBoard → List ℕ → Answer → List ℕ → Type 0)
-    → (PlainBoard → List ℕ → RunFault → Type 0) → BoardLimit → File → File → Stream → Outcome
+-- the same for the texts of a board and of symmetries
+abbrev pub WritesUpTo : {Answer : Type 0} → (PlainBoard → List ℕ → Answer → List ℕ → Type 0)
+    → (PlainBoard → List ℕ → RunFault → Type 0) → BoardLimit → Bytes → Bytes → Stream → Outcome
     → Type 0
-DoesUpTo Says SaysNothing limit board symmetries output outcome =
-    OpeningBoth board symmetries (λ b s. EndsAs outcome_of_run
-    (RanUpTo Says limit b s output.bytes)
-    (FailsUpTo Says SaysNothing limit (s.new ≡ s.old) b s output.bytes)) outcome
+WritesUpTo Says SaysNothing limit b s output outcome =
+    EndsAs outcome_of_run (RanUpTo Says limit b s output.bytes)
+    (FailsUpTo Says SaysNothing limit (s.new ≡ s.old) b s output.bytes) outcome
+
+-- for the text of a board this text of its values was written, by this number of workers
+abbrev pub WritesValuesFor : ValueText → ℕ → BoardLimit → Bytes → Stream → Outcome → Type 0
+WritesValuesFor (texts.Document side) workers limit =
+    WritesFor (SolutionWithin limit side) (CannotSolveWithin limit side workers)
+WritesValuesFor (texts.Summary summaries.Report) workers limit =
+    WritesFor (Reports limit) (CannotSolve limit workers)
+WritesValuesFor (texts.Summary summaries.Starts) workers limit =
+    WritesFor (SaysStarts limit) (CannotSolve limit workers)
+
+-- the same for the texts of a board and of symmetries, up to which its values are found
+abbrev pub WritesValuesUpTo : ValueText → BoardLimit → Bytes → Bytes → Stream → Outcome → Type 0
+WritesValuesUpTo (texts.Document side) = WritesUpTo (IsSolutionUpTo side) (CannotSolveUpTo side)
+WritesValuesUpTo (texts.Summary summary) = WritesUpTo (SaysUpTo summary) HasNoFewOrbits
+
+-- the file of a board was opened, and this was written for it; or it can't be opened
+abbrev pub WritesAlone : (Bytes → Stream → Outcome → Type 0) → File → Stream → Outcome → Type 0
+WritesAlone Writes board output outcome =
+    Opening board output.IsKept (λ read. Writes read output) outcome × WritesWhole output outcome
+
+-- both files were opened, and this was written for them; or one can't be opened
+abbrev pub WritesBoth : (Bytes → Bytes → Stream → Outcome → Type 0) → File → File → Stream
+    → Outcome → Type 0
+WritesBoth Writes first second output outcome =
+    OpeningBoth first second (λ one two. Writes one two output) outcome
     × WritesWhole output outcome
 
--- the board was solved up to the symmetries, for the side alone or for both
-abbrev pub SolvesUpTo : Option Side → BoardLimit → File → File → Stream → Outcome → Type 0
-SolvesUpTo side = DoesUpTo (IsSolutionUpTo side) (CannotSolveUpTo side)
+-- this text of the values of the board at a path was written, up to the symmetries at another if
+-- there is one
+abbrev pub WritesValues : (List ℕ → File) → ValueText → ℕ → BoardLimit → Option (Bor Text)
+    → Bor Text → Stream → Outcome → Type 0
+WritesValues at text workers limit None board =
+    WritesAlone (WritesValuesFor text workers limit) (at board.now)
+WritesValues at text workers limit (Some symmetries) board =
+    WritesBoth (WritesValuesUpTo text limit) (at board.now) (at symmetries.now)
 
--- this summary of the board was written, with values up to these
-abbrev pub SummarizesUpTo : Summary → BoardLimit → File → File → Stream → Outcome → Type 0
-SummarizesUpTo summary = DoesUpTo (SaysUpTo summary) HasNoFewOrbits
-
--- the board was solved by this number of workers, for the side alone or for both
-abbrev pub Solves : ℕ → Option Side → BoardLimit → File → Stream → Outcome → Type 0
-Solves workers side limit board output outcome =
-    Opening board output.IsKept (λ read. EndsAs outcome_of_run
-    (Ran (SolutionWithin limit side) MAX_BOARD_BYTES read output.bytes)
-    (Fails (SolutionWithin limit side) (CannotSolveWithin limit side workers) MAX_BOARD_BYTES read
-    output.bytes)) outcome
-    × WritesWhole output outcome
-
--- the values of the board were counted by this number of workers
-abbrev pub Counts : ℕ → BoardLimit → File → Stream → Outcome → Type 0
-Counts workers limit board output outcome =
-    Opening board output.IsKept (λ read. EndsAs outcome_of_run
-    (Ran (Reports limit) MAX_BOARD_BYTES read output.bytes)
-    (Fails (Reports limit) (CannotSolve limit workers)
-    MAX_BOARD_BYTES read output.bytes)) outcome
-    × WritesWhole output outcome
-
--- the starts of the board were written, by this number of workers
-abbrev pub WritesStarts : ℕ → BoardLimit → File → Stream → Outcome → Type 0
-WritesStarts workers limit board output outcome =
-    Opening board output.IsKept (λ read. EndsAs outcome_of_run
-    (Ran (SaysStarts limit) MAX_BOARD_BYTES read output.bytes)
-    (Fails (SaysStarts limit) (CannotSolve limit workers)
-    MAX_BOARD_BYTES read output.bytes)) outcome
-    × WritesWhole output outcome
+-- the document was checked for the board
+abbrev pub ChecksFor : Bytes → Bytes → Stream → Outcome → Type 0
+ChecksFor b p output outcome =
+    EndsAs outcome_of_check (RanCheck MAX_BOARD_BYTES MAX_PROOF_BYTES b p output.bytes)
+    (CheckFails MAX_BOARD_BYTES MAX_PROOF_BYTES (p.new ≡ p.old) b p output.bytes) outcome
 
 -- the chains of the board were counted, of up to this many labels
 abbrev pub CountsChains : ℕ → File → Stream → Outcome → Type 0
-CountsChains most board output outcome =
-    Opening board output.IsKept (λ read. EndsAs outcome_of_run
-    (Ran (SaysChains most) MAX_BOARD_BYTES read output.bytes)
-    (Fails (SaysChains most) (CannotCountChains most) MAX_BOARD_BYTES read output.bytes)) outcome
-    × WritesWhole output outcome
+CountsChains most = WritesAlone (WritesFor (SaysChains most) (CannotCountChains most))
 
 -- a play on the board, with a person who is this side
 abbrev pub Plays : Side → BoardLimit → File → Stream → Stream → Outcome → Type 0
@@ -164,22 +170,17 @@ module _ (at : List ℕ → File) (input output : Stream) where
   abbrev pub DoesJob : Job → Outcome → Type 0
   DoesJob Joined outcome = ChecksJoined input output outcome
   DoesJob (Check board proof) outcome =
-      Checks (at board.now) (at proof.now) output outcome × input.IsKept
+      WritesBoth ChecksFor (at board.now) (at proof.now) output outcome × input.IsKept
   DoesJob (Nested levels pebbles) outcome =
       WritesNested levels pebbles output outcome × input.IsKept
-  DoesJob (Solve workers side limit None board) outcome =
-      Solves workers side limit (at board.now) output outcome × input.IsKept
-  DoesJob (Solve workers side limit (Some symmetries) board) outcome =
-      SolvesUpTo side limit (at board.now) (at symmetries.now) output outcome × input.IsKept
-  DoesJob (Report workers limit None board) outcome =
-      Counts workers limit (at board.now) output outcome × input.IsKept
-  DoesJob (Report workers limit (Some symmetries) board) outcome =
-      SummarizesUpTo summaries.Report limit (at board.now) (at symmetries.now) output outcome
+  DoesJob (Solve workers side limit symmetries board) outcome =
+      WritesValues at (texts.Document side) workers limit symmetries board output outcome
       × input.IsKept
-  DoesJob (Starts workers limit None board) outcome =
-      WritesStarts workers limit (at board.now) output outcome × input.IsKept
-  DoesJob (Starts workers limit (Some symmetries) board) outcome =
-      SummarizesUpTo summaries.Starts limit (at board.now) (at symmetries.now) output outcome
+  DoesJob (Report workers limit symmetries board) outcome =
+      WritesValues at (texts.Summary summaries.Report) workers limit symmetries board output outcome
+      × input.IsKept
+  DoesJob (Starts workers limit symmetries board) outcome =
+      WritesValues at (texts.Summary summaries.Starts) workers limit symmetries board output outcome
       × input.IsKept
   DoesJob (Chains workers most board) outcome =
       CountsChains most (at board.now) output outcome × input.IsKept
@@ -192,21 +193,14 @@ module _ (at : List ℕ → File) (input output : Stream) where
   -- an input of the job has failed, or can fail: standard input, or a file whose bytes aren't known
   abbrev pub CanBeUnread : Job → Type 0
   CanBeUnread Joined = input.HasFailed
-  CanBeUnread (Check board proof) = CanFail (at board.now) ⊎ CanFail (at proof.now)
+  CanBeUnread (Check board proof) = CanFailAt at board (Some proof)
   CanBeUnread (Nested levels pebbles) = ⊥
-  CanBeUnread (Solve workers side limit None board) = CanFail (at board.now)
-  CanBeUnread (Solve workers side limit (Some symmetries) board) =
-      CanFail (at board.now) ⊎ CanFail (at symmetries.now)
-  CanBeUnread (Report workers limit None board) = CanFail (at board.now)
-  CanBeUnread (Report workers limit (Some symmetries) board) =
-      CanFail (at board.now) ⊎ CanFail (at symmetries.now)
-  CanBeUnread (Starts workers limit None board) = CanFail (at board.now)
-  CanBeUnread (Starts workers limit (Some symmetries) board) =
-      CanFail (at board.now) ⊎ CanFail (at symmetries.now)
-  CanBeUnread (Chains workers most board) = CanFail (at board.now)
-  CanBeUnread (Play side limit None board) = CanFail (at board.now) ⊎ input.HasFailed
-  CanBeUnread (Play side limit (Some symmetries) board) =
-      CanFail (at board.now) ⊎ CanFail (at symmetries.now) ⊎ input.HasFailed
+  CanBeUnread (Solve workers side limit symmetries board) = CanFailAt at board symmetries
+  CanBeUnread (Report workers limit symmetries board) = CanFailAt at board symmetries
+  CanBeUnread (Starts workers limit symmetries board) = CanFailAt at board symmetries
+  CanBeUnread (Chains workers most board) = CanFailAt at board None
+  CanBeUnread (Play side limit symmetries board) =
+      CanFailAt at board symmetries ⊎ input.HasFailed
   CanBeUnread (Climb levels) = input.HasFailed
 
   -- the same; the streams have failed if the outcome says so, and only then; and no read fault is

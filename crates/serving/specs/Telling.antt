@@ -1,8 +1,11 @@
 -- What a person is told while a job is done.
 use Rattle.std.specs.Prelude.{◌≡◌, ℕ, ◌⊎◌, ◌&&◌, ◌++◌, if◌then◌else◌, Bool, List, [], Result}
-use Rattle.std.specs.Prelude.{codes, nat_eq, IfOk, Ok, Some, None}
+use Rattle.std.specs.Prelude.{Option, codes, nat_eq, IfOk, Ok, Some, None}
+use Rattle.std.specs.Borrow.{Bor}
 use Rattle.std.specs.Fmt.{decimal}
+use Rattle.clap.specs.Walk.{Text}
 use Rattle.board_text.specs.LineForms.{with_line_feed}
+use Rattle.command_line.specs.declared.asked.BoardLimit.{BoardLimit}
 use Rattle.command_line.specs.declared.asked.Job.{Job}
 use Rattle.command_line.specs.declared.asked.Job.TheVariants.{Joined, Check, Nested, Solve, Report}
 use Rattle.command_line.specs.declared.asked.Job.TheVariants.{Starts, Chains}
@@ -21,11 +24,14 @@ use Rattle.runs.specs.Verdicts.{IsAnswered}
 use Rattle.runs.specs.declared.checking.TheConstants.{MAX_JOINED_BYTES, MAX_PROOF_BYTES}
 use Rattle.runs.specs.declared.fault.RunFault.{RunFault}
 use Rattle.runs.specs.declared.reading.TheConstants.{MAX_BOARD_BYTES}
+use Rattle.runs.specs.declared.summaries.Summary.TheVariants as summaries
 use Rattle.runs.specs.declared.verdicts.Verdict.{Verdict}
 use Rattle.runs.specs.declared.verdicts.Verdict.TheVariants.{Accepted}
 use Rattle.serving.specs.Folders.{File, OpensWith, CanFail}
 use Rattle.serving.specs.Outcomes.{outcome_of_check, outcome_of_run}
 use Rattle.serving.specs.declared.outcome.Outcome.{Outcome}
+use Rattle.serving.specs.declared.value_texts.ValueText.{ValueText}
+use Rattle.serving.specs.declared.value_texts.ValueText.TheVariants as texts
 
 -- a person types at a terminal, and sees what is told at another
 abbrev pub types_and_sees : Terminals → Bool
@@ -67,14 +73,20 @@ IsToldOfJoined terminals read written outcome told = (rows : List ℕ)
     × IsToldAfterCheck terminals.errors (Ran IsAnswered MAX_JOINED_BYTES read written) outcome rows
     × (told ≡ joined_greeting terminals ++ rows)
 
+-- what was told belongs to a result of the run, whose outcome this is
+abbrev pub TellsOfRun : {Answer : Type 0} → (Result Answer RunFault → List ℕ → Type 0) → Outcome
+    → List ℕ → Type 0
+TellsOfRun {Answer} Tells outcome told =
+    (result : Result Answer RunFault) × (outcome ≡ outcome_of_run result) × Tells result told
+
 -- nothing was told, since the file can't be opened; or it was, and what was told belongs to the
--- result of the run on it
+-- run on it
 abbrev pub OpensAndTells : {Answer : Type 0} → File
     → (Bytes → Result Answer RunFault → List ℕ → Type 0) → Outcome → List ℕ → Type 0
 OpensAndTells {Answer} file Tells outcome told =
     (CanFail file × (told ≡ []))
-    ⊎ ((read : Bytes) × OpensWith file read.old × (result : Result Answer RunFault)
-    × (outcome ≡ outcome_of_run result) × Tells read result told)
+    ⊎ ((read : Bytes) × OpensWith file read.old
+    × TellsOfRun {Answer = Answer} (Tells read) outcome told)
 
 -- the same of two files
 abbrev pub OpensBothAndTells : {Answer : Type 0} → File → File
@@ -82,8 +94,20 @@ abbrev pub OpensBothAndTells : {Answer : Type 0} → File → File
 OpensBothAndTells {Answer} first second Tells outcome told =
     ((CanFail first ⊎ CanFail second) × (told ≡ []))
     ⊎ ((one two : Bytes) × OpensWith first one.old × OpensWith second two.old
-    × (result : Result Answer RunFault) × (outcome ≡ outcome_of_run result)
-    × Tells one two result told)
+    × TellsOfRun {Answer = Answer} (Tells one two) outcome told)
+
+-- the answer of a run that writes the text: of a document the value of the start
+abbrev pub AnswerOf : ValueText → Type 0
+AnswerOf (texts.Document side) = Value
+AnswerOf (texts.Summary summary) = Unit {0}
+
+-- the notice of a large board and its rounds, if a person sees it; nothing, if its values are found
+-- up to the symmetries at a path
+abbrev pub IsToldOfValues : (List ℕ → File) → Bool → ValueText → BoardLimit → Option (Bor Text)
+    → Bor Text → Outcome → List ℕ → Type 0
+IsToldOfValues at shows text limit None board =
+    OpensAndTells {Answer = AnswerOf text} (at board.now) (λ read. IsNoticedInRun limit read shows)
+IsToldOfValues at shows text limit (Some symmetries) board = λ outcome told. told ≡ []
 
 -- the prompts of a play on the nested board of the level, and its outcome
 abbrev pub IsToldInClimb : Bool → ℕ → Bytes → Bytes → Outcome → List ℕ → Type 0
@@ -101,18 +125,14 @@ module _ (at : List ℕ → File) (terminals : Terminals) (input output : Stream
   IsToldInJob (Check board proof) told =
       IsToldOfFiles terminals.errors (at board.now) (at proof.now) output.bytes outcome told
   IsToldInJob (Nested levels pebbles) told = told ≡ []
-  IsToldInJob (Solve workers side limit None board) told =
-      OpensAndTells {Answer = Value} (at board.now)
-      (λ read. IsNoticedInRun limit read terminals.errors) outcome told
-  IsToldInJob (Solve workers side limit (Some symmetries) board) told = told ≡ []
-  IsToldInJob (Report workers limit None board) told =
-      OpensAndTells {Answer = Unit {0}} (at board.now)
-      (λ read. IsNoticedInRun limit read terminals.errors) outcome told
-  IsToldInJob (Report workers limit (Some symmetries) board) told = told ≡ []
-  IsToldInJob (Starts workers limit None board) told =
-      OpensAndTells {Answer = Unit {0}} (at board.now)
-      (λ read. IsNoticedInRun limit read terminals.errors) outcome told
-  IsToldInJob (Starts workers limit (Some symmetries) board) told = told ≡ []
+  IsToldInJob (Solve workers side limit symmetries board) told =
+      IsToldOfValues at terminals.errors (texts.Document side) limit symmetries board outcome told
+  IsToldInJob (Report workers limit symmetries board) told =
+      IsToldOfValues at terminals.errors (texts.Summary summaries.Report) limit symmetries board
+      outcome told
+  IsToldInJob (Starts workers limit symmetries board) told =
+      IsToldOfValues at terminals.errors (texts.Summary summaries.Starts) limit symmetries board
+      outcome told
   IsToldInJob (Chains workers most board) told =
       OpensAndTells {Answer = Unit {0}} (at board.now)
       (λ read. IsToldOfChains most read terminals.errors) outcome told

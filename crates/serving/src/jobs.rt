@@ -6,13 +6,12 @@ ghost use Rattle.serving.specs.declared.outcome.Outcome.TheVariants.{Broken};
 ghost use Rattle.board_text.specs.Ranges.{InRange};
 ghost use Rattle.command_line.specs.Reading.{IsInRange};
 ghost use Rattle.console.specs.Showing.{IsMore};
-ghost use Rattle.positions.specs.declared.value.Value.{Value as ValueData};
-ghost use Rattle.runs.specs.Notices.{IsNoticedInRun, IsToldOfChains};
+ghost use Rattle.runs.specs.Notices.{IsToldOfChains};
 ghost use Rattle.runs.specs.Run.{bytes_of, stream_of};
 ghost use Rattle.serving.specs.Consoles.{IsReady};
 ghost use Rattle.serving.specs.Folders.{CanFail};
-ghost use Rattle.serving.specs.Jobs.{Checks, ChecksJoined, Counts, CountsChains, IsDone, Solves};
-ghost use Rattle.serving.specs.Jobs.{TellsReads, TellsWrites, WritesNested, WritesStarts};
+ghost use Rattle.serving.specs.Jobs.{ChecksFor, ChecksJoined, CountsChains};
+ghost use Rattle.serving.specs.Jobs.{IsDone, TellsReads, TellsWrites, WritesBoth, WritesNested};
 ghost use Rattle.serving.specs.Telling.{IsToldInJob, IsToldOfFiles, IsToldOfJoined};
 ghost use Rattle.serving.specs.Telling.{OpensAndTells, joined_greeting, rows_line, rows_told};
 
@@ -21,16 +20,15 @@ use crate::files::{Files, INPUT_PATH};
 use crate::folder::Folder;
 use crate::outcome::Outcome;
 use crate::plays::{climb, play, play_up_to};
-use crate::symmetric_jobs::{solve_up_to, summarize_up_to};
+use crate::value_texts::{ValueJob, ValueText};
 use board_text::{MAX_PEBBLES, Sink, Source};
 use chains::MAX_LENGTH;
 use command_line::{BoardLimit, Job, MAX_WORKERS};
 use console::{Console, Terminals, write_digits, write_line, write_more};
 use explanations::{Inputs, Note, Origin};
 use nested_cycles::MAX_BOARD_LEVELS;
-use positions::Side;
 use runs::{
-    Chaining, JoinedRun, Playing, RunFault, Summary, Verdict, Work, run_check, run_keeping_text,
+    Chaining, JoinedRun, Playing, RunFault, Summary, Verdict, run_check, run_keeping_text,
     run_nested,
 };
 use std::alloc::Global;
@@ -65,7 +63,6 @@ pub(crate) fn carry_out<'a, F: Folder, I: Source, O: Sink, E: Sink>(
         job.now told
         × IsMore E.contents E.has_failed console.old.errors console.new.errors told }
 {
-    let shows_size = console.terminals.errors;
     match *job {
         Job::Joined => check_joined(rt, alloc, files, console),
         Job::Check { board, proof } => check(rt, alloc, files, board, proof, console),
@@ -79,18 +76,14 @@ pub(crate) fn carry_out<'a, F: Folder, I: Source, O: Sink, E: Sink>(
             symmetries,
             board,
         } => {
-            let work = Work {
+            let job = ValueJob {
+                text: ValueText::Document(side),
                 workers,
                 limit,
-                shows_size,
+                symmetries,
+                board,
             };
-            match symmetries {
-                None => solve(rt, alloc, work, side, files, board, console),
-                Some(given) => {
-                    let output = &mut console.output;
-                    solve_up_to(rt, alloc, work, side, files, board, given, output)
-                }
-            }
+            job.carry_out(rt, alloc, files, console)
         }
         Job::Report {
             workers,
@@ -98,19 +91,14 @@ pub(crate) fn carry_out<'a, F: Folder, I: Source, O: Sink, E: Sink>(
             symmetries,
             board,
         } => {
-            let work = Work {
+            let job = ValueJob {
+                text: ValueText::Summary(Summary::Report),
                 workers,
                 limit,
-                shows_size,
+                symmetries,
+                board,
             };
-            match symmetries {
-                None => report(rt, alloc, work, files, board, console),
-                Some(given) => {
-                    let output = &mut console.output;
-                    let summary = Summary::Report;
-                    summarize_up_to(rt, alloc, work, summary, files, board, given, output)
-                }
-            }
+            job.carry_out(rt, alloc, files, console)
         }
         Job::Starts {
             workers,
@@ -118,19 +106,14 @@ pub(crate) fn carry_out<'a, F: Folder, I: Source, O: Sink, E: Sink>(
             symmetries,
             board,
         } => {
-            let work = Work {
+            let job = ValueJob {
+                text: ValueText::Summary(Summary::Starts),
                 workers,
                 limit,
-                shows_size,
+                symmetries,
+                board,
             };
-            match symmetries {
-                None => starts(rt, alloc, work, files, board, console),
-                Some(given) => {
-                    let output = &mut console.output;
-                    let summary = Summary::Starts;
-                    summarize_up_to(rt, alloc, work, summary, files, board, given, output)
-                }
-            }
+            job.carry_out(rt, alloc, files, console)
         }
         Job::Chains {
             workers,
@@ -153,7 +136,7 @@ pub(crate) fn carry_out<'a, F: Folder, I: Source, O: Sink, E: Sink>(
             let playing = Playing {
                 side,
                 limit,
-                shows_size,
+                shows_size: console.terminals.errors,
                 prompts: console.terminals.are_both(),
             };
             match symmetries {
@@ -245,7 +228,7 @@ fn check<'a, F: Folder, I: Source, O: Sink, E: Sink>(
 ) -> Ended<'a>
     requires output_ready { O.has_failed console.old.output ≡ false }
     ensures kept { console.new.input ≡ console.old.input }
-    ensures done { Checks (F.at files.now.folder.now board.now)
+    ensures done { WritesBoth ChecksFor (F.at files.now.folder.now board.now)
         (F.at files.now.folder.now proof.now)
         (stream_of O.contents O.has_failed console.old.output console.new.output) result.outcome }
     ensures writes { TellsWrites
@@ -289,113 +272,6 @@ fn write_nested<O: Sink>(alloc: Global, levels: u8, pebbles: u8, output: &mut O)
 {
     let outcome = Outcome::of_run(run_nested(alloc, levels, pebbles, output));
     Ended::of(outcome, &Inputs::without_files(None))
-}
-
-/// Solves the board at a path, for `side` alone or for both.
-fn solve<'a, F: Folder, I: Source, O: Sink, E: Sink>(
-    rt: &(impl Threads + Wait + Sync),
-    alloc: Global,
-    work: Work,
-    side: Option<Side>,
-    files: &Files<'_, F>,
-    board: &'a str,
-    console: &mut Console<I, O, E>,
-) -> Ended<'a>
-    requires workers { InRange 1 MAX_WORKERS work.workers }
-    requires output_ready { O.has_failed console.old.output ≡ false }
-    ensures kept { console.new.input ≡ console.old.input }
-    ensures done { Solves work.workers side work.limit (F.at files.now.folder.now board.now)
-        (stream_of O.contents O.has_failed console.old.output console.new.output) result.outcome }
-    ensures writes { TellsWrites
-        (stream_of O.contents O.has_failed console.old.output console.new.output) result.outcome }
-    ensures unread { result.outcome ≡ Broken Read → CanFail (F.at files.now.folder.now board.now) }
-    ensures told { (told : List ℕ) × OpensAndTells {Answer = ValueData}
-        (F.at files.now.folder.now board.now)
-        (λ read. IsNoticedInRun work.limit read work.shows_size) result.outcome told
-        × IsMore E.contents E.has_failed console.old.errors console.new.errors told }
-{
-    let Ok(mut reader) = files.open(alloc, board) else {
-        return Ended::unopened(files, board);
-    };
-    let solved = work.solve(
-        rt,
-        alloc,
-        side,
-        &mut reader,
-        &mut console.output,
-        &mut console.errors,
-    );
-    Ended::of_board(Outcome::of_run(solved), work.limit, files, board, &reader)
-}
-
-/// Reports on the board at a path.
-fn report<'a, F: Folder, I: Source, O: Sink, E: Sink>(
-    rt: &(impl Threads + Wait + Sync),
-    alloc: Global,
-    work: Work,
-    files: &Files<'_, F>,
-    board: &'a str,
-    console: &mut Console<I, O, E>,
-) -> Ended<'a>
-    requires workers { InRange 1 MAX_WORKERS work.workers }
-    requires output_ready { O.has_failed console.old.output ≡ false }
-    ensures kept { console.new.input ≡ console.old.input }
-    ensures done { Counts work.workers work.limit (F.at files.now.folder.now board.now)
-        (stream_of O.contents O.has_failed console.old.output console.new.output) result.outcome }
-    ensures writes { TellsWrites
-        (stream_of O.contents O.has_failed console.old.output console.new.output) result.outcome }
-    ensures unread { result.outcome ≡ Broken Read → CanFail (F.at files.now.folder.now board.now) }
-    ensures told { (told : List ℕ) × OpensAndTells {Answer = Unit {0}}
-        (F.at files.now.folder.now board.now)
-        (λ read. IsNoticedInRun work.limit read work.shows_size) result.outcome told
-        × IsMore E.contents E.has_failed console.old.errors console.new.errors told }
-{
-    let Ok(mut reader) = files.open(alloc, board) else {
-        return Ended::unopened(files, board);
-    };
-    let done = work.report(
-        rt,
-        alloc,
-        &mut reader,
-        &mut console.output,
-        &mut console.errors,
-    );
-    Ended::of_board(Outcome::of_run(done), work.limit, files, board, &reader)
-}
-
-/// Writes the starts of the board at a path.
-fn starts<'a, F: Folder, I: Source, O: Sink, E: Sink>(
-    rt: &(impl Threads + Wait + Sync),
-    alloc: Global,
-    work: Work,
-    files: &Files<'_, F>,
-    board: &'a str,
-    console: &mut Console<I, O, E>,
-) -> Ended<'a>
-    requires workers { InRange 1 MAX_WORKERS work.workers }
-    requires output_ready { O.has_failed console.old.output ≡ false }
-    ensures kept { console.new.input ≡ console.old.input }
-    ensures done { WritesStarts work.workers work.limit (F.at files.now.folder.now board.now)
-        (stream_of O.contents O.has_failed console.old.output console.new.output) result.outcome }
-    ensures writes { TellsWrites
-        (stream_of O.contents O.has_failed console.old.output console.new.output) result.outcome }
-    ensures unread { result.outcome ≡ Broken Read → CanFail (F.at files.now.folder.now board.now) }
-    ensures told { (told : List ℕ) × OpensAndTells {Answer = Unit {0}}
-        (F.at files.now.folder.now board.now)
-        (λ read. IsNoticedInRun work.limit read work.shows_size) result.outcome told
-        × IsMore E.contents E.has_failed console.old.errors console.new.errors told }
-{
-    let Ok(mut reader) = files.open(alloc, board) else {
-        return Ended::unopened(files, board);
-    };
-    let done = work.starts(
-        rt,
-        alloc,
-        &mut reader,
-        &mut console.output,
-        &mut console.errors,
-    );
-    Ended::of_board(Outcome::of_run(done), work.limit, files, board, &reader)
 }
 
 /// Counts the chains of the board at a path.

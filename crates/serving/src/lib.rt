@@ -11,7 +11,7 @@ mod outcome;
 mod plays;
 mod serving;
 mod serving_laws;
-mod symmetric_jobs;
+mod value_texts;
 mod watched;
 
 pub use explanations::Trouble;

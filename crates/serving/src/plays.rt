@@ -92,8 +92,8 @@ pub(crate) fn play_up_to<'a, F: Folder, I: Source, O: Sink, E: Sink>(
         (stream_of O.contents O.has_failed console.old.output console.new.output) result.outcome }
     ensures reads { I.has_failed console.new.input ≡ true → result.outcome ≡ Broken Read }
     ensures unread { result.outcome ≡ Broken Read
-        → CanFail (F.at files.now.folder.now board.now)
-        ⊎ CanFail (F.at files.now.folder.now symmetries.now)
+        → (CanFail (F.at files.now.folder.now board.now)
+        ⊎ CanFail (F.at files.now.folder.now symmetries.now))
         ⊎ (I.has_failed console.new.input ≡ true) }
     ensures told { (told : List ℕ) × OpensBothAndTells {Answer = EndData}
         (F.at files.now.folder.now board.now) (F.at files.now.folder.now symmetries.now)

@@ -11,34 +11,6 @@ returns-in-Joined-clause-done g c =
       unread = c.check_joined.ensures.reads.1;
     }
 
-pub returns-in-None-symmetries-3-clause-done : goal.returns-in-None-symmetries-3-clause-done
-returns-in-None-symmetries-3-clause-done g c =
-    rw (c.in-Play.is, c.in-None-symmetries-3.is) record {
-      does = c.play.ensures.done;
-      writes = c.play.ensures.writes;
-      reads = c.play.ensures.reads;
-      unread = c.play.ensures.unread;
-    }
-
-pub returns-in-Some-symmetries-3-clause-done : goal.returns-in-Some-symmetries-3-clause-done
-returns-in-Some-symmetries-3-clause-done g c =
-    let run = c.play_up_to.ensures in
-    rw (c.in-Play.is, c.in-Some-symmetries-3.is) record {
-      does = run.done;
-      writes = run.writes;
-      reads = run.reads;
-      unread = run.unread;
-    }
-
-pub returns-in-Climb-clause-done : goal.returns-in-Climb-clause-done
-returns-in-Climb-clause-done g c =
-    rw c.in-Climb.is record {
-      does = c.climb.ensures.done;
-      writes = c.climb.ensures.writes;
-      reads = c.climb.ensures.reads.0;
-      unread = c.climb.ensures.reads.1;
-    }
-
 pub returns-in-Check-clause-done : goal.returns-in-Check-clause-done
 returns-in-Check-clause-done g c =
     rw c.in-Check.is record {
@@ -57,60 +29,33 @@ returns-in-Nested-clause-done g c =
       unread = c.write_nested.ensures.unread;
     }
 
-pub returns-in-None-clause-done : goal.returns-in-None-clause-done
-returns-in-None-clause-done g c =
-    rw (c.in-Solve.is, c.in-None.is) record {
-      does = (c.solve.ensures.done, c.solve.ensures.kept);
-      writes = c.solve.ensures.writes;
-      reads = (λ failed. absurd (true≢false (sym (rw c.solve.ensures.kept at failed) ∙ c.requires.ready.input)));
-      unread = c.solve.ensures.unread;
-    }
-
-pub returns-in-Some-clause-done : goal.returns-in-Some-clause-done
-returns-in-Some-clause-done g c =
-    let run = c.solve_up_to.ensures in
-    rw (c.in-Solve.is, c.in-Some.is) record {
-      does = (run.done, refl);
+pub returns-in-Solve-clause-done : goal.returns-in-Solve-clause-done
+returns-in-Solve-clause-done g c =
+    let run = c.carry_out.ensures in
+    rw c.in-Solve.is record {
+      does = (run.done, run.kept);
       writes = run.writes;
-      reads = (λ failed. absurd (true≢false (sym failed ∙ c.requires.ready.input)));
+      reads = (λ failed. absurd (true≢false (sym (rw run.kept at failed) ∙ c.requires.ready.input)));
       unread = run.unread;
     }
 
-pub returns-in-None-symmetries-clause-done : goal.returns-in-None-symmetries-clause-done
-returns-in-None-symmetries-clause-done g c =
-    rw (c.in-Report.is, c.in-None-symmetries.is) record {
-      does = (c.report.ensures.done, c.report.ensures.kept);
-      writes = c.report.ensures.writes;
-      reads = (λ failed. absurd (true≢false (sym (rw c.report.ensures.kept at failed) ∙ c.requires.ready.input)));
-      unread = c.report.ensures.unread;
-    }
-
-pub returns-in-Some-symmetries-clause-done : goal.returns-in-Some-symmetries-clause-done
-returns-in-Some-symmetries-clause-done g c =
-    let run = c.summarize_up_to.ensures in
-    rw (c.in-Report.is, c.in-Some-symmetries.is) record {
-      does = (run.done, refl);
+pub returns-in-Report-clause-done : goal.returns-in-Report-clause-done
+returns-in-Report-clause-done g c =
+    let run = c.carry_out-in-Report.ensures in
+    rw c.in-Report.is record {
+      does = (run.done, run.kept);
       writes = run.writes;
-      reads = (λ failed. absurd (true≢false (sym failed ∙ c.requires.ready.input)));
+      reads = (λ failed. absurd (true≢false (sym (rw run.kept at failed) ∙ c.requires.ready.input)));
       unread = run.unread;
     }
 
-pub returns-in-None-symmetries-2-clause-done : goal.returns-in-None-symmetries-2-clause-done
-returns-in-None-symmetries-2-clause-done g c =
-    rw (c.in-Starts.is, c.in-None-symmetries-2.is) record {
-      does = (c.starts.ensures.done, c.starts.ensures.kept);
-      writes = c.starts.ensures.writes;
-      reads = (λ failed. absurd (true≢false (sym (rw c.starts.ensures.kept at failed) ∙ c.requires.ready.input)));
-      unread = c.starts.ensures.unread;
-    }
-
-pub returns-in-Some-symmetries-2-clause-done : goal.returns-in-Some-symmetries-2-clause-done
-returns-in-Some-symmetries-2-clause-done g c =
-    let run = c.summarize_up_to-in-Some-symmetries-2.ensures in
-    rw (c.in-Starts.is, c.in-Some-symmetries-2.is) record {
-      does = (run.done, refl);
+pub returns-in-Starts-clause-done : goal.returns-in-Starts-clause-done
+returns-in-Starts-clause-done g c =
+    let run = c.carry_out-in-Starts.ensures in
+    rw c.in-Starts.is record {
+      does = (run.done, run.kept);
       writes = run.writes;
-      reads = (λ failed. absurd (true≢false (sym failed ∙ c.requires.ready.input)));
+      reads = (λ failed. absurd (true≢false (sym (rw run.kept at failed) ∙ c.requires.ready.input)));
       unread = run.unread;
     }
 
@@ -123,6 +68,34 @@ returns-in-Chains-clause-done g c =
       unread = c.chains.ensures.unread;
     }
 
+pub returns-in-None-clause-done : goal.returns-in-None-clause-done
+returns-in-None-clause-done g c =
+    rw (c.in-Play.is, c.in-None.is) record {
+      does = c.play.ensures.done;
+      writes = c.play.ensures.writes;
+      reads = c.play.ensures.reads;
+      unread = c.play.ensures.unread;
+    }
+
+pub returns-in-Some-clause-done : goal.returns-in-Some-clause-done
+returns-in-Some-clause-done g c =
+    let run = c.play_up_to.ensures in
+    rw (c.in-Play.is, c.in-Some.is) record {
+      does = run.done;
+      writes = run.writes;
+      reads = run.reads;
+      unread = run.unread;
+    }
+
+pub returns-in-Climb-clause-done : goal.returns-in-Climb-clause-done
+returns-in-Climb-clause-done g c =
+    rw c.in-Climb.is record {
+      does = c.climb.ensures.done;
+      writes = c.climb.ensures.writes;
+      reads = c.climb.ensures.reads.0;
+      unread = c.climb.ensures.reads.1;
+    }
+
 pub returns-in-Joined-clause-told : goal.returns-in-Joined-clause-told
 returns-in-Joined-clause-told g c = rw c.in-Joined.is c.check_joined.ensures.told
 
@@ -133,40 +106,28 @@ pub returns-in-Nested-clause-told : goal.returns-in-Nested-clause-told
 returns-in-Nested-clause-told g c =
     rw c.in-Nested.is ([], refl, none_more g.E.Sink.contents g.E.Sink.has_failed c.args.console.now.errors)
 
+pub returns-in-Solve-clause-told : goal.returns-in-Solve-clause-told
+returns-in-Solve-clause-told g c =
+    rw c.in-Solve.is c.carry_out.ensures.told
+
+pub returns-in-Report-clause-told : goal.returns-in-Report-clause-told
+returns-in-Report-clause-told g c =
+    rw c.in-Report.is c.carry_out-in-Report.ensures.told
+
+pub returns-in-Starts-clause-told : goal.returns-in-Starts-clause-told
+returns-in-Starts-clause-told g c =
+    rw c.in-Starts.is c.carry_out-in-Starts.ensures.told
+
 pub returns-in-Chains-clause-told : goal.returns-in-Chains-clause-told
 returns-in-Chains-clause-told g c = rw c.in-Chains.is c.chains.ensures.told
 
 pub returns-in-None-clause-told : goal.returns-in-None-clause-told
-returns-in-None-clause-told g c = rw (c.in-Solve.is, c.in-None.is) c.solve.ensures.told
+returns-in-None-clause-told g c =
+    rw (c.in-Play.is, c.in-None.is, ← c.are_both.ensures) c.play.ensures.told
 
 pub returns-in-Some-clause-told : goal.returns-in-Some-clause-told
 returns-in-Some-clause-told g c =
-    rw (c.in-Solve.is, c.in-Some.is)
-    ([], refl, none_more g.E.Sink.contents g.E.Sink.has_failed c.args.console.now.errors)
-
-pub returns-in-None-symmetries-clause-told : goal.returns-in-None-symmetries-clause-told
-returns-in-None-symmetries-clause-told g c = rw (c.in-Report.is, c.in-None-symmetries.is) c.report.ensures.told
-
-pub returns-in-Some-symmetries-clause-told : goal.returns-in-Some-symmetries-clause-told
-returns-in-Some-symmetries-clause-told g c =
-    rw (c.in-Report.is, c.in-Some-symmetries.is)
-    ([], refl, none_more g.E.Sink.contents g.E.Sink.has_failed c.args.console.now.errors)
-
-pub returns-in-None-symmetries-2-clause-told : goal.returns-in-None-symmetries-2-clause-told
-returns-in-None-symmetries-2-clause-told g c = rw (c.in-Starts.is, c.in-None-symmetries-2.is) c.starts.ensures.told
-
-pub returns-in-Some-symmetries-2-clause-told : goal.returns-in-Some-symmetries-2-clause-told
-returns-in-Some-symmetries-2-clause-told g c =
-    rw (c.in-Starts.is, c.in-Some-symmetries-2.is)
-    ([], refl, none_more g.E.Sink.contents g.E.Sink.has_failed c.args.console.now.errors)
-
-pub returns-in-None-symmetries-3-clause-told : goal.returns-in-None-symmetries-3-clause-told
-returns-in-None-symmetries-3-clause-told g c =
-    rw (c.in-Play.is, c.in-None-symmetries-3.is, ← c.are_both.ensures) c.play.ensures.told
-
-pub returns-in-Some-symmetries-3-clause-told : goal.returns-in-Some-symmetries-3-clause-told
-returns-in-Some-symmetries-3-clause-told g c =
-    rw (c.in-Play.is, c.in-Some-symmetries-3.is, ← c.are_both.ensures) c.play_up_to.ensures.told
+    rw (c.in-Play.is, c.in-Some.is, ← c.are_both.ensures) c.play_up_to.ensures.told
 
 pub returns-in-Climb-clause-told : goal.returns-in-Climb-clause-told
 returns-in-Climb-clause-told g c = rw c.in-Climb.is c.climb.ensures.told

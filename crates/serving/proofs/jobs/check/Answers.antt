@@ -7,21 +7,22 @@ use Rattle.runs.specs.Texts.{HasNoProof, OfAnySize}
 use Rattle.runs.specs.Verdicts.{IsChecked}
 use Rattle.runs.specs.declared.checking.TheConstants.{MAX_PROOF_BYTES}
 use Rattle.runs.specs.declared.fault.RunFault.TheVariants.{Read}
-use Rattle.serving.proofs.Endings.{broken_check, opened_both, told_as}
+use Rattle.serving.specs.Jobs.{ChecksFor}
+use Rattle.serving.proofs.Endings.{broken_check, ends_on_both, told_as, whole, wrote_both}
 use Rattle.serving.proofs.jobs.check.Goals as goal
 
 pub returns-clause-done : goal.returns-clause-done
 returns-clause-done g c =
-    let output = stream_of g.O.Sink.contents g.O.Sink.has_failed c.args.console.now.output
-    c.run_check-checked.new.writer in
-    opened_both outcome_of_check broken_check OfAnySize
-    (λ p board. Ran (IsChecked board) MAX_PROOF_BYTES p output.bytes)
-    (λ p board. Fails (IsChecked board) (HasNoProof board) MAX_PROOF_BYTES p output.bytes)
+    let run = c.run_check-checked in
+    let output = stream_of g.O.Sink.contents g.O.Sink.has_failed c.args.console.now.output run.new.writer in
+    wrote_both output c.of_check.result c.of_check.result refl ChecksFor
     (g.F.Folder.at c.args.files.now.folder.now c.args.board.now)
     (g.F.Folder.at c.args.files.now.folder.now c.args.proof.now) _ _ c.in-Ok.ensures.opened c.in-Ok-open.ensures.opened
-    output c.run_check-checked.result c.of_check.result c.of_check.ensures c.run_check-checked.ensures.ok _
-    (λ same. rw same refl)
-    c.run_check-checked.ensures.fault c.run_check-checked.ensures.streams.unwritten
+    (ends_on_both outcome_of_check OfAnySize (λ p board. Ran (IsChecked board) MAX_PROOF_BYTES p output.bytes)
+    (λ p board. Fails (IsChecked board) (HasNoProof board) MAX_PROOF_BYTES p output.bytes) _ _
+    run.result c.of_check.result c.of_check.ensures run.ensures.ok _ (λ same. rw same refl) run.ensures.fault)
+    (whole outcome_of_check broken_check run.result c.of_check.result c.of_check.ensures _
+    run.ensures.streams.unwritten)
 
 pub returns-clause-unread : goal.returns-clause-unread
 returns-clause-unread g c broke =

@@ -27,7 +27,7 @@ returns-clause-unread g c broke =
 pub returns-clause-told : goal.returns-clause-told
 returns-clause-told g c =
     let told = c.run-ended.ensures.prompts in
-    (told.0, inr (_, c.in-Ok.ensures.opened, c.run-ended.result, c.of.ensures ∙ c.of_run.ensures, told.1), told.2)
+    (told.0, inr (_, c.in-Ok.ensures.opened, (c.run-ended.result, c.of.ensures ∙ c.of_run.ensures, told.1)), told.2)
 
 pub returns-in_default-clause-told : goal.returns-in_default-clause-told
 returns-in_default-clause-told g c = (

@@ -23,9 +23,9 @@ returns-clause-unread g c broke =
     let run = c.run_up_to_symmetries-ended in
     elim ((told_as outcome_of_run broken_run run.result c.of.result.outcome (c.of.ensures ∙ c.of_run.ensures) Read
     refl _ run.ensures.streams.read).1 broke) [
-      | inl board ↦ inl (c.in-Ok.ensures.sound _ board)
-      | inr (inl given) ↦ inr (inl (c.in-Ok-open.ensures.sound _ given))
-      | inr (inr lines) ↦ inr (inr lines)
+      | inl board ↦ inl (inl (c.in-Ok.ensures.sound _ board))
+      | inr (inl given) ↦ inl (inr (c.in-Ok-open.ensures.sound _ given))
+      | inr (inr lines) ↦ inr lines
     ]
 
 pub returns-clause-told : goal.returns-clause-told
@@ -33,7 +33,7 @@ returns-clause-told g c =
     let run = c.run_up_to_symmetries-ended in
     let told = run.ensures.prompts in
     let same = c.of.ensures ∙ c.of_run.ensures in
-    (told.0, inr (_, _, c.in-Ok.ensures.opened, c.in-Ok-open.ensures.opened, run.result, same, told.1), told.2)
+    (told.0, inr (_, _, c.in-Ok.ensures.opened, c.in-Ok-open.ensures.opened, (run.result, same, told.1)), told.2)
 
 pub returns-in_default-clause-told : goal.returns-in_default-clause-told
 returns-in_default-clause-told g c = (

@@ -5,17 +5,22 @@ use Rattle.serving.proofs.serving_laws.one_serving.Goals as goal
 
 pub returns : goal.returns
 returns g c = λ at terminals before words old new other_old other_new status other is also.
-    both_given at is.files terminals is.off before.input before.output before.errors
-    (stream_of g.I.Source.remaining g.I.Source.has_failed old.input new.input)
-    (stream_of g.O.Sink.contents g.O.Sink.has_failed old.output new.output)
-    (stream_of g.E.Sink.contents g.E.Sink.has_failed old.errors new.errors)
-    (stream_of g.I.Source.remaining g.I.Source.has_failed other_old.input other_new.input)
-    (stream_of g.O.Sink.contents g.O.Sink.has_failed other_old.output other_new.output)
-    (stream_of g.E.Sink.contents g.E.Sink.has_failed other_old.errors other_new.errors)
-    status other
+    both_given at is.files terminals is.off before
+    (record {
+      input = stream_of g.I.Source.remaining g.I.Source.has_failed old.input new.input;
+      output = stream_of g.O.Sink.contents g.O.Sink.has_failed old.output new.output;
+      errors = stream_of g.E.Sink.contents g.E.Sink.has_failed old.errors new.errors;
+      status = status;
+    })
+    (record {
+      input = stream_of g.I.Source.remaining g.I.Source.has_failed other_old.input other_new.input;
+      output = stream_of g.O.Sink.contents g.O.Sink.has_failed other_old.output other_new.output;
+      errors = stream_of g.E.Sink.contents g.E.Sink.has_failed other_old.errors other_new.errors;
+      status = other;
+    })
     (record {
       had_input = record { old = is.had_input.old; kept = λ k. ap g.I.Source.remaining k; sound = is.had_input.sound };
-      had = record { old = is.had_output.old; kept = λ k. ap g.O.Sink.contents k; sound = is.had_output.sound };
+      had_output = record { old = is.had_output.old; kept = λ k. ap g.O.Sink.contents k; sound = is.had_output.sound };
       had_errors = record { old = is.had_errors.old; kept = λ k. ap g.E.Sink.contents k; sound = is.had_errors.sound };
       given = is.given;
     })
@@ -23,15 +28,17 @@ returns g c = λ at terminals before words old new other_old other_new status ot
       had_input = record {
         old = also.had_input.old;
         kept = λ k. ap g.I.Source.remaining k;
-        sound =
-            also.had_input.sound;
+        sound = also.had_input.sound;
       };
-      had = record { old = also.had_output.old; kept = λ k. ap g.O.Sink.contents k; sound = also.had_output.sound };
+      had_output = record {
+        old = also.had_output.old;
+        kept = λ k. ap g.O.Sink.contents k;
+        sound = also.had_output.sound;
+      };
       had_errors = record {
         old = also.had_errors.old;
         kept = λ k. ap g.E.Sink.contents k;
-        sound =
-            also.had_errors.sound;
+        sound = also.had_errors.sound;
       };
       given = also.given;
     })
