@@ -1,4 +1,4 @@
-"""Runs by several workers, which write what a run without the option writes. They share a round of the board of two layers alone."""
+"""Runs by several workers, which write what a run without the option writes. They share a round of the board of two layers, and three of the chain of 24 labels."""
 from functools import partial
 
 import board_texts
@@ -32,6 +32,7 @@ def checks(work):
     for name in CLAIMS:
         yield Check(f'{name} by several workers', partial(equal, board(name)))
     yield Check('the board of two layers by several workers', partial(equal, written(work, 'layers.board', board_texts.layers(101))))
+    yield Check('the chain of 24 labels by several workers', partial(equal, written(work, 'chain-of-24.board', board_texts.chain(24, 4))))
     for number, text in enumerate(board_texts.drawn(DRAWN), 1):
         path = written(work, f'drawn-{number}.board', text)
         yield Check(f'the drawn board {number} by several workers', partial(equal, path))

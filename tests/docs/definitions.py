@@ -15,7 +15,7 @@ from harness import CRATES, TOP
 DOCUMENTS = [os.path.join(TOP, 'docs', name) for name in ('theorems.md', 'headline.md')]
 # one that stands in a module block begins two columns further right
 HEAD = re.compile(r'^(?:(?:  )?(?:(?:abbrev|unfoldable) pub|pub record|pub data)|record|abbrev|unfoldable) ([\w-]+)')
-USE = re.compile(r'^use Rattle\.(\w+)\.specs\.([\w.-]+?)(?:\.\{([^}]*)\}| as ([\w-]+))$')
+USE = re.compile(r'^(?:pub )?use Rattle\.(\w+)\.specs\.([\w.-]+?)(?:\.\{([^}]*)\}| as ([\w-]+))$')
 WORD = re.compile(r"[\w'-]+(?:\.[\w'-]+)*")
 PASSAGE = re.compile(r'<!-- (table|whole|contract|count|code) of ([\w. ]+?)(?:, beyond ([\w. ]+?))? -->(.*?)<!-- end -->', re.S)
 
@@ -65,7 +65,7 @@ class Specs:
                 current = self.defined[(*module, head[1])] = Definition(os.path.relpath(path, TOP), place, comment)
                 named[head[1]] = (*module, head[1])
             comment = comment + [line] if line.lstrip().startswith('--') else []
-            if current and line.strip() and not line.startswith(('--', 'use ')):
+            if current and line.strip() and not line.startswith(('--', 'use ', 'pub use ')):
                 current.lines.append(line)
         self.named[module] = named
 
@@ -75,7 +75,9 @@ class Specs:
         found = self.named[module].get(first)
         if found and found[2] is None:
             return (found[0], found[1], rest.split('.')[0])
-        return found
+        # a module may pass on what it imports
+        passed = found and self.named.get(found[:2], {}).get(found[2])
+        return found if passed is None or found in self.defined else passed
 
     def one_of(self, name):
         """The definition that a mark names."""

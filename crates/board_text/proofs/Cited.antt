@@ -1,7 +1,7 @@
 -- The lemmas that crates above cite, passed on from one place. Declares nothing.
 pub use Rattle.board_text.proofs.Lines.{after, number_line_unique, small_numbers}
 pub use Rattle.board_text.proofs.StreamMoves.{Appends-kept, Appends-trans, Consumes-kept, Consumes-trans, front_taken}
-pub use Rattle.board_text.proofs.StreamMoves.{take_more}
+pub use Rattle.board_text.proofs.StreamMoves.{between, take_more}
 pub use Rattle.board_text.proofs.Numbers.{digits_split}
 pub use Rattle.board_text.proofs.NumeralLemmas.{spells_none, spells_number}
 pub use Rattle.board_text.proofs.OneReading.{no_fault, not_both, one_board, one_fault}

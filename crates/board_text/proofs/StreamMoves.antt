@@ -6,7 +6,11 @@ use Rattle.std.proofs.lemmas.List.{drop-take}
 use Rattle.std.specs.Prelude.{Option, None, Some, Result, Ok, Err, IfOk}
 use Rattle.std.specs.Io.{ReadsAtMost}
 use Rattle.std.specs.Io.KnownBytes.{Appends, Consumes, Keeps, ReadConsumes}
-use Rattle.board_text.specs.Streams.{AppendsPrefix}
+use Rattle.board_text.specs.Streams.{AppendsPrefix, Bytes}
+
+-- the bytes of a stream, from those before to those after
+abbrev pub between : Option (List ℕ) → Option (List ℕ) → Bytes
+between before after = record { old = before; new = after }
 
 pub Appends-trans : (a b c : Option (List ℕ)) (bs cs : List ℕ) → Appends a b bs → Appends b c cs
     → Appends a c (bs ++ cs)
@@ -64,14 +68,14 @@ moved_on all front rest n e =
 
 -- the bytes written so far are a prefix of the text
 pub front_taken : (a b : Option (List ℕ)) (all front rest : List ℕ) → all ≡ front ++ rest → Appends a b front
-    → AppendsPrefix a b all
+    → AppendsPrefix (between a b) all
 front_taken a b all front rest e taken =
     let same : take (length front) all ≡ front = ap (take (length front)) e ∙ take-append_seam front rest in
     (length front, omega (arith, ap length e, length-append front rest), subst (Appends a b) (sym same) taken)
 
 -- the bytes written so far and in one write more are a prefix of the text
 pub front_more : (a b c : Option (List ℕ)) (all front rest : List ℕ) (n : ℕ) → all ≡ front ++ rest → Appends a b front
-    → Appends b c (take n rest) → AppendsPrefix a c all
+    → Appends b c (take n rest) → AppendsPrefix (between a c) all
 front_more a b c all front rest n e taken more =
     front_taken a c all (front ++ take n rest) (drop n rest) (moved_on all front rest n e)
     (Appends-trans a b c front (take n rest) taken more)

@@ -29,6 +29,7 @@ impl Numeral {
     ghost use Rattle.board_text.specs.Numerals.{IsNumberIn};
 
     /// The number, if it lies in the range from `low` to `high`, both included.
+    #[inline(always)]
     pub fn within(self, low: u32, high: u32) -> Option<u32>
         ensures { MatchOption result ((n : ℕ) → IsNumberIn low high self n → ⊥)
             (IsNumberIn low high self) }
@@ -40,6 +41,7 @@ impl Numeral {
     }
 
     /// The number, if it is below `bound`.
+    #[inline(always)]
     pub fn below(self, bound: u16) -> Option<u16>
         ensures { MatchOption result ((n : ℕ) → n < bound → self ≢ Number n)
             (λ n. (n < bound) × (self ≡ Number n)) }
@@ -94,6 +96,7 @@ impl<'a> LineReader<'a> {
     }
 
     /// Whether the next byte is `byte`.
+    #[inline(always)]
     pub fn begins_with(&self, byte: u8) -> bool
         ensures { IsTrue result ↔ ((more : List ℕ) × (self.now ≡ byte ∷ more)) }
     {
@@ -101,6 +104,7 @@ impl<'a> LineReader<'a> {
     }
 
     /// Takes `text`, if the rest begins with it; else takes nothing.
+    #[inline(always)]
     pub fn take(&mut self, text: &[u8]) -> Option<()>
         ensures taken { MatchOption result ((more : List ℕ) → self.old ≢ text.now ++ more)
             (λ _. self.old ≡ text.now ++ self.new) }
@@ -140,6 +144,7 @@ impl<'a> LineReader<'a> {
 
     /// Takes the digits that the rest begins with, one or more,
     /// and returns the number that they spell.
+    #[inline(always)]
     pub fn numeral(&mut self) -> Option<Numeral>
         ensures { TakesNumeral result self.old self.new }
     {
@@ -178,6 +183,7 @@ impl<'a> LineReader<'a> {
 
     /// Takes the text of a place: digits, or a hyphen if `labels` is below `bound`. Returns the
     /// place that it spells, if that is below `bound`.
+    #[inline(always)]
     fn place(&mut self, labels: u16, bound: u16) -> Option<Option<u16>>
         requires { (labels ≤ bound) × (bound ≤ labels + 1) }
         ensures { TakesPlace labels bound result self.old self.new }
@@ -247,6 +253,7 @@ impl<'a> LineReader<'a> {
 
 /// The number of at most three digits that `bytes` begin with, and the bytes after it.
 /// `None`: there is no digit, a fourth one follows, or a zero leads.
+#[inline(always)]
 fn short_number(bytes: &[u8]) -> Option<(u32, &[u8])>
     ensures { MatchOption result (Unit {0}) (λ found. (found.0 < 1000)
         × (bytes.now ≡ decimal found.0 ++ found.1.now) × NoDigit found.1.now) }
@@ -269,6 +276,7 @@ fn short_number(bytes: &[u8]) -> Option<(u32, &[u8])>
 }
 
 /// The digit that `bytes` begin with, and the bytes after it.
+#[inline(always)]
 fn split_digit(bytes: &[u8]) -> Option<(u32, &[u8])>
     ensures { MatchOption result (NoDigit bytes.now)
         (λ found. (found.0 < 10) × (bytes.now ≡ (48 + found.0) ∷ found.1.now)) }

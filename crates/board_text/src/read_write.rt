@@ -2,8 +2,9 @@
 
 ghost use Rattle.std.specs.Prelude.{◌≡◌, ◌+◌, ◌<◌, ◌≤◌, length, take, drop, true, false};
 ghost use Rattle.std.specs.Prelude.{IfOk, IfErr, OnOk, OnErr, MatchResult};
-ghost use Rattle.std.specs.Io.KnownBytes.{Appends, Consumes, IsAtEnd, Keeps};
-ghost use Rattle.board_text.specs.Streams.{GaveAll, AppendsPrefix, ReadFails};
+ghost use Rattle.std.specs.Io.KnownBytes.{IsAtEnd};
+ghost use Rattle.board_text.specs.Streams.{AppendsAll, AppendsPrefix, AreAsBefore, GaveAll};
+ghost use Rattle.board_text.specs.Streams.{GaveNext, ReadFails, bytes_of};
 ghost use Rattle.board_text.specs.ReadFaults.{ReadAllFails};
 ghost use Rattle.board_text.specs.declared.read_write.ReadFault.TheVariants as read_faults;
 
@@ -43,13 +44,13 @@ pub fn read_all<A: Allocator, S: Source>(
     requires ready { S.has_failed source.old ≡ false }
     requires unended { S.has_ended source.old ≡ false }
     requires countable { limit < usize.MAX }
-    ensures ok { IfOk result (λ bytes. GaveAll (S.remaining source.old)
-        (S.remaining source.new) bytes.items) }
+    ensures ok { IfOk result (λ bytes. GaveAll (bytes_of S.remaining source.old source.new)
+        bytes.items) }
     ensures within { IfOk result (λ bytes. length bytes.items ≤ limit) }
     ensures unfailed { OnOk result (S.has_failed source.new ≡ false) }
     ensures ended { MatchResult result (λ _. S.has_ended source.new ≡ true)
         (λ _. S.has_ended source.new ≡ false) }
-    ensures fault { IfErr result (ReadAllFails (S.remaining source.old) (S.remaining source.new)
+    ensures fault { IfErr result (ReadAllFails (bytes_of S.remaining source.old source.new)
         (S.has_failed source.new) limit) }
 {
     let mut bytes = Vec::new(alloc);
@@ -97,10 +98,10 @@ fn read_at<S: Source>(source: &mut S, bytes: &mut [u8], at: usize) -> Result<usi
     requires unended { S.has_ended source.old ≡ false }
     ensures front { take at bytes.new ≡ take at bytes.old }
     ensures fits { IfOk result (λ n. at + n ≤ length bytes.new) }
-    ensures given { IfOk result (λ n. Consumes (S.remaining source.old) (S.remaining source.new)
+    ensures given { IfOk result (λ n. GaveNext (bytes_of S.remaining source.old source.new)
         (take n (drop at bytes.new))) }
     ensures end { IfOk result (λ n. n ≡ 0 → IsAtEnd (S.remaining source.new)) }
-    ensures kept { OnErr result (Keeps (S.remaining source.old) (S.remaining source.new)) }
+    ensures kept { OnErr result (AreAsBefore (bytes_of S.remaining source.old source.new)) }
     ensures failed { ReadFails (S.has_failed source.old) (S.has_failed source.new) result }
     ensures ended { MatchResult result
         (λ n. (n ≡ 0 → S.has_ended source.new ≡ true) × (0 < n → S.has_ended source.new ≡ false))
@@ -112,10 +113,10 @@ fn read_at<S: Source>(source: &mut S, bytes: &mut [u8], at: usize) -> Result<usi
 /// Writes all of `bytes`. The sink must not have failed before.
 pub fn write_all<S: Sink>(sink: &mut S, bytes: &[u8]) -> Result<(), Failed>
     requires { S.has_failed sink.old ≡ false }
-    ensures ok { OnOk result (Appends (S.contents sink.old) (S.contents sink.new) bytes.now) }
+    ensures ok { OnOk result (AppendsAll (bytes_of S.contents sink.old sink.new) bytes.now) }
     ensures unfailed { OnOk result (S.has_failed sink.new ≡ false) }
-    ensures front { OnErr result (AppendsPrefix (S.contents sink.old)
-        (S.contents sink.new) bytes.now) }
+    ensures front { OnErr result (AppendsPrefix (bytes_of S.contents sink.old sink.new)
+        bytes.now) }
     ensures failed { OnErr result (S.has_failed sink.new ≡ true) }
 {
     let mut rest = bytes;

@@ -143,7 +143,7 @@ impl<'a, S: ListStore> SharedRound<'a, S> {
             // A seat that has something to strike has a first configuration.
             unreachable!();
         };
-        let Some(gap) = self.solver.graph().struck(config) else {
+        let Some(gap) = self.solver.graph().answered_gap(config) else {
             // A configuration to strike is an answer in a gap.
             unreachable!();
         };

@@ -11,7 +11,7 @@ ghost use Rattle.classes.specs.Lists.{AreClassLists};
 use crate::assertions::{assert_same, board_of};
 use crate::classes_of_boards::classes_of;
 use board_text::{Board, MAX_PEBBLES};
-use classes::{ClassPlaces, Classes};
+use classes::{ClassNumbers, Places};
 use fakes::boards::THREE_PEBBLES;
 use std::alloc::Global;
 use std::process::Abort;
@@ -34,7 +34,7 @@ const CLASSES: [[u16; 3]; 10] = [
 const GAPS: [[u16; 2]; 6] = [[0, 0], [1, 0], [1, 1], [2, 0], [2, 1], [2, 2]];
 
 /// The members of each gap with the places 0, 1 and 2.
-const MEMBERS: [[u32; 3]; 6] = [
+const MEMBERS: [[u64; 3]; 6] = [
     [0, 1, 4],
     [1, 2, 5],
     [2, 3, 6],
@@ -44,7 +44,7 @@ const MEMBERS: [[u32; 3]; 6] = [
 ];
 
 /// The gaps at the places of each class.
-const GAPS_OF_CLASSES: [[u32; 3]; 10] = [
+const GAPS_OF_CLASSES: [[u64; 3]; 10] = [
     [0, 0, 0],
     [0, 1, 1],
     [1, 1, 2],
@@ -61,7 +61,7 @@ const GAPS_OF_CLASSES: [[u32; 3]; 10] = [
 const FAMILIES: [u16; 6] = [1, 1, 2, 1, 2, 3];
 
 /// The classes of some pebbles, if the board has as many.
-fn lists_of(alloc: Global, classes: &Classes, pebbles: u8) -> Option<Vec<ClassPlaces>>
+fn lists_of(alloc: Global, classes: &ClassNumbers, pebbles: u8) -> Option<Vec<Places>>
     ensures lists { IfSome result
         (λ lists. AreClassLists (places classes.now) pebbles lists.items) }
     ensures few { IfSome result (λ _. pebbles ≤ classes.now.pebbles) }
@@ -76,7 +76,7 @@ fn lists_of(alloc: Global, classes: &Classes, pebbles: u8) -> Option<Vec<ClassPl
 }
 
 /// The number of a listed class, and the gaps at its first three places.
-fn numbers_of(classes: &Classes, lists: &[ClassPlaces], class: usize) -> (u32, [u32; 3])
+fn numbers_of(classes: &ClassNumbers, lists: &[Places], class: usize) -> (u64, [u64; 3])
     requires lists { AreClassLists (places classes.now) classes.now.pebbles lists.now }
     requires class { class < length lists.now }
 {
@@ -87,36 +87,35 @@ fn numbers_of(classes: &Classes, lists: &[ClassPlaces], class: usize) -> (u32, [
 }
 
 /// The members of a listed gap with the places 0, 1 and 2, by a walk.
-fn walked(classes: &Classes, lists: &[ClassPlaces], gap: usize) -> [Option<u32>; 3]
+fn walked(classes: &ClassNumbers, lists: &[Places], gap: usize) -> [Option<u64>; 3]
     requires lists { AreClassLists (places classes.now) (classes.now.pebbles - 1) lists.now }
     requires gap { gap < length lists.now }
+    requires some { 0 < classes.now.pebbles }
 {
-    let _ = classes.pebbles();
     let mut walk = classes.members(lists[gap].as_slice());
     [walk.take_next(), walk.take_next(), walk.take_next()]
 }
 
 /// The member of a listed gap with a place.
-fn member_of(classes: &Classes, lists: &[ClassPlaces], gap: usize, place: u16) -> u32
+fn member_of(classes: &ClassNumbers, lists: &[Places], gap: usize, place: u16) -> u64
     requires lists { AreClassLists (places classes.now) (classes.now.pebbles - 1) lists.now }
     requires gap { gap < length lists.now }
     requires place { place < places classes.now }
+    requires some { 0 < classes.now.pebbles }
 {
-    let _ = classes.pebbles();
     classes.member(lists[gap].as_slice(), place)
 }
 
 /// The number of places in the family of a listed gap.
-fn least_places(classes: &Classes, lists: &[ClassPlaces], gap: usize) -> u16
+fn least_places(classes: &ClassNumbers, lists: &[Places], gap: usize) -> u16
     requires lists { AreClassLists (places classes.now) (classes.now.pebbles - 1) lists.now }
     requires gap { gap < length lists.now }
 {
-    let _ = classes.pebbles();
     classes.least_places(lists[gap].as_slice())
 }
 
 /// Asserts the number of each class, and its gaps.
-fn assert_classes(rt: &impl Abort, classes: &Classes, lists: &[ClassPlaces])
+fn assert_classes(rt: &impl Abort, classes: &ClassNumbers, lists: &[Places])
     requires { AreClassLists (places classes.now) classes.now.pebbles lists.now }
 {
     assert_same(rt, "classes", lists.len(), CLASSES.len());
@@ -140,8 +139,9 @@ fn assert_classes(rt: &impl Abort, classes: &Classes, lists: &[ClassPlaces])
 }
 
 /// Asserts the places of each gap, and its members.
-fn assert_gaps(rt: &impl Abort, classes: &Classes, lists: &[ClassPlaces])
-    requires { AreClassLists (places classes.now) (classes.now.pebbles - 1) lists.now }
+fn assert_gaps(rt: &impl Abort, classes: &ClassNumbers, lists: &[Places])
+    requires lists { AreClassLists (places classes.now) (classes.now.pebbles - 1) lists.now }
+    requires some { 0 < classes.now.pebbles }
 {
     assert_same(rt, "gaps", lists.len(), GAPS.len());
     for gap in 0..lists.len() {
@@ -163,7 +163,7 @@ fn assert_gaps(rt: &impl Abort, classes: &Classes, lists: &[ClassPlaces])
 }
 
 /// The numbers of classes of fewer pebbles on fewer places, if there are as many.
-fn ways_of(classes: &Classes, pebbles: u8, bound: u16) -> Option<u32> {
+fn ways_of(classes: &ClassNumbers, pebbles: u8, bound: u16) -> Option<u64> {
     if pebbles <= classes.pebbles() && bound <= classes.places() {
         Some(classes.ways(pebbles, bound))
     } else {
@@ -201,7 +201,7 @@ fn members_of_gaps(rt: HostRuntime) {
 }
 
 /// Asserts how many places the family of each gap has.
-fn assert_families(rt: &impl Abort, classes: &Classes, lists: &[ClassPlaces])
+fn assert_families(rt: &impl Abort, classes: &ClassNumbers, lists: &[Places])
     requires { AreClassLists (places classes.now) (classes.now.pebbles - 1) lists.now }
 {
     assert_same(rt, "gaps", lists.len(), FAMILIES.len());
@@ -221,30 +221,54 @@ fn families_of_gaps(rt: HostRuntime) {
 }
 
 /// Puts a place among the others, if there is room.
-fn put(class: &mut ClassPlaces, place: u16)
+fn arrange(class: &mut Places, place: u16)
     requires { (bound : ℕ) × Falls bound class.old }
 {
     if class.as_slice().len() < MAX_PEBBLES {
-        class.put(place);
+        class.arrange(place);
     }
 }
 
-/// The places with a greatest one before them, if there is room.
-fn with_greatest(class: &ClassPlaces, place: u16) -> Option<ClassPlaces> {
-    if class.as_slice().len() < MAX_PEBBLES {
-        Some(class.with_greatest(place))
+/// The places with one before them and one after them, if there is room.
+fn with_ends(held: &Places, first: u16, last: u16) -> Option<(Places, Places)> {
+    if held.as_slice().len() < MAX_PEBBLES {
+        Some((held.with_first(first), held.with_last(last)))
     } else {
         None
     }
 }
 
+/// The places with the first pebble on a place in two ways, and those of the others after 0, if
+/// there is a pebble.
+fn with_moved(held: &mut Places, place: u16) -> Option<(Places, Places)> {
+    if held.count() == 0 {
+        return None;
+    }
+    let moved = held.with(0, place);
+    held.set(0, place);
+    Some((moved, held.others_after_zero(0)))
+}
+
 #[test]
 fn places_of_classes(rt: HostRuntime) {
-    let mut class = ClassPlaces::of(&[0, 2, 1]);
+    let mut class = Places::arranged(&[0, 2, 1]);
     assert_same(&rt, "class", class.as_slice(), &[2, 1, 0][..]);
-    put(&mut class, 1);
+    arrange(&mut class, 1);
     assert_same(&rt, "with 1", class.as_slice(), &[2, 1, 1, 0][..]);
-    let most = with_greatest(&class, 2).expect(&rt, "room");
-    assert_same(&rt, "with 2", most.as_slice(), &[2, 2, 1, 1, 0][..]);
-    assert_same(&rt, "none", ClassPlaces::none().as_slice(), &[][..]);
+    let (most, least) = with_ends(&class, 2, 0).expect(&rt, "room");
+    assert_same(&rt, "2 before", most.as_slice(), &[2, 2, 1, 1, 0][..]);
+    assert_same(&rt, "0 after", least.as_slice(), &[2, 1, 1, 0, 0][..]);
+    assert_same(&rt, "none", Places::none().as_slice(), &[][..]);
+}
+
+#[test]
+fn places_of_pebbles(rt: HostRuntime) {
+    let mut held = Places::of(&[0, 2, 1]);
+    assert_same(&rt, "places", held.as_slice(), &[0, 2, 1][..]);
+    let (moved, others) = with_moved(&mut held, 3).expect(&rt, "a pebble");
+    assert_same(&rt, "moved", moved.as_slice(), &[3, 2, 1][..]);
+    assert_same(&rt, "set", held.as_slice(), &[3, 2, 1][..]);
+    assert_same(&rt, "others", others.as_slice(), &[0, 2, 1][..]);
+    let first = Places::first_of(&[5, 4, 3, 2, 1, 0], 2);
+    assert_same(&rt, "first", first.as_slice(), &[5, 4][..]);
 }

@@ -140,7 +140,7 @@ fn assert_members(rt: &impl Abort, graph: &Graph, worked: &Worked) {
     for gap in 0..graph.gaps() {
         for place in 0..graph.places() {
             let member = graph.member(gap, place);
-            let found = (member, graph.struck(member) == Some(gap));
+            let found = (member, graph.answered_gap(member) == Some(gap));
             assert_same(
                 rt,
                 (gap, place),
@@ -187,7 +187,12 @@ fn assert_struck(rt: &impl Abort, graph: &Graph, worked: &Worked) {
     );
     for configuration in 0..graph.configurations() {
         let wanted = worked.struck.get(configuration as usize).copied();
-        assert_same(rt, configuration, Some(graph.struck(configuration)), wanted);
+        assert_same(
+            rt,
+            configuration,
+            Some(graph.answered_gap(configuration)),
+            wanted,
+        );
     }
 }
 

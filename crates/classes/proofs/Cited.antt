@@ -9,10 +9,10 @@ pub use Rattle.classes.proofs.GapNumbers.{AreGaps, IsGapMore, gap-more}
 pub use Rattle.classes.proofs.Numbers.{is-below, with-is, with-number, with-none}
 pub use Rattle.classes.proofs.OrderCounts.{weighed-sum, orders, orders-is, orders-none, orders-weigh, size_of_sum}
 pub use Rattle.classes.proofs.OrderCounts.{weight-orders}
-pub use Rattle.classes.proofs.Places.{all-class_of, of-all-class_of, class_of-own, class_of-set, falls-class_of}
-pub use Rattle.classes.proofs.Places.{length-class_of, length-put, place-cancel, put-cancel, put-here, put-is}
-pub use Rattle.classes.proofs.Places.{put-none, put-past, HasPebble, IsIn, in-put, pebble_of_place, all-put}
-pub use Rattle.classes.proofs.Places.{falls-more, index-put, of-all-put, others-put}
+pub use Rattle.classes.proofs.PutPlaces.{all-class_of, of-all-class_of, class_of-own, class_of-set, falls-class_of}
+pub use Rattle.classes.proofs.PutPlaces.{length-class_of, length-put, place-cancel, put-cancel, put-here, put-is}
+pub use Rattle.classes.proofs.PutPlaces.{put-none, put-past, HasPebble, IsIn, in-put, pebble_of_place, all-put}
+pub use Rattle.classes.proofs.PutPlaces.{falls-more, index-put, of-all-put, others-put}
 pub use Rattle.classes.proofs.PlacesWithout.{all-remove, class-push, remove-last, remove-past}
 pub use Rattle.classes.proofs.Sums.{sum-add, sum-none, sum-same, sum-suc, sum-swap, sum-zero}
 pub use Rattle.classes.proofs.TableNumbers.{few-of-small, lists-fit, place-below, number-more, ways-fit}
@@ -21,3 +21,12 @@ pub use Rattle.classes.proofs.Values.{one-gap, value-of-class}
 pub use Rattle.classes.proofs.Ways.{ways-few, ways-more, ways-suc, ways-zero, ways-none, ways-within}
 pub use Rattle.classes.proofs.WaysRows.{IsRow, row-begins, row-first, row-more}
 pub use Rattle.classes.proofs.WeightProducts.{copies-same, weight-over}
+pub use Rattle.classes.proofs.FamilyMembers.{IsOwnFamily, IsPart, at-end, edge-begins, edge-is, edge-next, edge-only}
+pub use Rattle.classes.proofs.FamilyMembers.{edge-start, edge-within, family-of, family-size, held-class, held-long}
+pub use Rattle.classes.proofs.FamilyMembers.{member-below, member-class, member-few, member-long, member-number}
+pub use Rattle.classes.proofs.FamilyMembers.{member-with, next-start, number-last-others, others-class, others-number}
+pub use Rattle.classes.proofs.FamilyMembers.{own-family, part-of, place-before, place-last, place-low, put-back}
+pub use Rattle.classes.proofs.FamilyMembers.{rest-below, rest-few, size-of, some-lists, some-place, walk-all, walk-of}
+pub use Rattle.classes.proofs.FamilyMembers.{walk-start, walk-within, walk-zero}
+pub use Rattle.classes.proofs.FamilyRests.{places-end}
+pub use Rattle.classes.proofs.TableNumbers.{ways-small, falls-remove, gap-below, remove-is}

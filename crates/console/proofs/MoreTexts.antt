@@ -3,16 +3,15 @@ use Rattle.std.proofs.Common.{◌≡◌, ℕ, Bool, true, false, List, [], ◌�
 use Rattle.std.proofs.Common.{refl, sym, ap, subst, ◌∙◌, inl, inr, arith}
 use Rattle.std.proofs.lemmas.List.{length-append, take-append-le}
 use Rattle.std.specs.Prelude.{Option}
-use Rattle.std.specs.Io.KnownBytes.{Appends}
-use Rattle.board_text.specs.Streams.{AppendsPrefix}
-use Rattle.board_text.proofs.Cited.{Appends-trans}
+use Rattle.board_text.specs.Streams.{AppendsAll, AppendsPrefix, Bytes, bytes_of}
+use Rattle.board_text.proofs.Cited.{Appends-trans, between}
 use Rattle.console.specs.Showing.{HasNoControl, IsMore, IsTaken, shown}
 use Rattle.console.proofs.ShownTexts.{shown_front}
 use Rattle.console.proofs.Fronts.{Appends-none, front_behind}
 
-wider : (a b : Option (List ℕ)) (s t : List ℕ) → AppendsPrefix a b s → AppendsPrefix a b (s ++ t)
-wider a b s t (n, low, part) =
-    (n, omega (arith, low, length-append s t), subst (Appends a b) (sym (take-append-le n s t low)) part)
+wider : (taken : Bytes) (s t : List ℕ) → AppendsPrefix taken s → AppendsPrefix taken (s ++ t)
+wider taken s t (n, low, part) =
+    (n, omega (arith, low, length-append s t), subst (AppendsAll taken) (sym (take-append-le n s t low)) part)
 
 nothing : (s t : List ℕ) → s ++ t ≡ [] → (s ≡ []) × (t ≡ [])
 nothing [] t none = (refl, none)
@@ -20,12 +19,12 @@ nothing (x ∷ s) t none = cc
 
 module _ {W : Type 0} (known : W → Option (List ℕ)) (failed : W → Bool) where
   -- from a writer that hadn't failed
-  abbrev between : W → W → List ℕ → Type 0
-  between before after text =
-      IsTaken (known before) (known after) (failed after ≡ true) text × (text ≡ [] → after ≡ before)
+  abbrev adds : W → W → List ℕ → Type 0
+  adds before after text =
+      IsTaken (bytes_of known before after) (failed after ≡ true) text × (text ≡ [] → after ≡ before)
 
-  after_written : (a b c : W) (s t : List ℕ) (was : Bool) → failed b ≡ was → between a b s → IsMore known failed b c
-      t → between a c (s ++ t)
+  after_written : (a b c : W) (s t : List ℕ) (was : Bool) → failed b ≡ was → adds a b s → IsMore known failed b c
+      t → adds a c (s ++ t)
   after_written a b c s t true is ((inl (sound, all)), kept) more = absurd (sound is)
   after_written a b c s t false is ((inl (sound, all)), kept) (same, more) =
       let next = more is in (
@@ -39,8 +38,8 @@ module _ {W : Type 0} (known : W → Option (List ℕ)) (failed : W → Bool) wh
       let rest : c ≡ b = same broke in (
         inr (
           ap failed rest ∙ broke,
-          subst (λ (o : Option (List ℕ)). AppendsPrefix (known a) o (s ++ t)) (sym (ap
-              known rest)) (wider (known a) (known b) s t front),
+          subst (λ (o : Option (List ℕ)). AppendsPrefix (between (known a) o) (s ++ t)) (sym (ap
+              known rest)) (wider (bytes_of known a b) s t front),
         ),
         (λ none. rest ∙ kept (nothing s t none).0),
       )

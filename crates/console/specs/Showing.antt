@@ -1,10 +1,7 @@
 -- Texts that a person is shown, by a writer that may fail.
 use Rattle.std.specs.Prelude.{◌≡◌, ℕ, ◌⊎◌, ◌&&◌, ◌||◌, Bool, true, false, List, [], ◌∷◌, Option}
-use Rattle.std.specs.Prelude.{All, cond, nat_eq, nat_lt}
-use Rattle.std.specs.Io.KnownBytes.{Appends}
-use Rattle.std.specs.List.{flat_map}
-use Rattle.board_text.specs.LineForms.{with_line_feed}
-use Rattle.board_text.specs.Streams.{AppendsPrefix}
+use Rattle.std.specs.Prelude.{cond, nat_eq, nat_lt}
+use Rattle.board_text.specs.Streams.{AppendsAll, AppendsPrefix, Bytes, bytes_of}
 
 -- a control byte, as a line feed is
 abbrev pub is_control : ℕ → Bool
@@ -29,10 +26,9 @@ abbrev pub HasNoControl : List ℕ → Type 0
 HasNoControl bytes = shown bytes ≡ bytes
 
 -- the text was written, and nothing else; or a prefix of it, and then the writer failed
-abbrev pub IsTaken : Option (List ℕ) → Option (List ℕ) → Type 0 → List ℕ → Type 0
-IsTaken taken_old taken_new HasFailed text =
-    ((HasFailed → ⊥) × Appends taken_old taken_new text)
-    ⊎ (HasFailed × AppendsPrefix taken_old taken_new text)
+abbrev pub IsTaken : Bytes → Type 0 → List ℕ → Type 0
+IsTaken taken HasFailed text =
+    ((HasFailed → ⊥) × AppendsAll taken text) ⊎ (HasFailed × AppendsPrefix taken text)
 
 -- the text was written, unless the writer had failed; if it had, or if the text is empty, the
 -- writer is as it was
@@ -40,5 +36,5 @@ abbrev pub IsMore : {W : Type 0} → (W → Option (List ℕ)) → (W → Bool) 
 IsMore known has_failed before after text =
     (has_failed before ≡ true → after ≡ before)
     × (has_failed before ≡ false
-    → IsTaken (known before) (known after) (has_failed after ≡ true) text
+    → IsTaken (bytes_of known before after) (has_failed after ≡ true) text
     × (text ≡ [] → after ≡ before))

@@ -4,10 +4,11 @@
 use crate::assertions::{assert_same, board_of};
 use fakes::boards::CYCLE_WITHOUT_LABELS;
 use fakes::{Shape, is_configuration, shaped};
+use gap_values::{GapValues, ValueTable};
 use positions::Value;
 use solved_boards::{gap_values_of, values_of};
 use std::process::Abort;
-use strategies::{GapMoves, Moves};
+use strategies::GapMoves;
 
 /// The value of a configuration of three pebbles, the best answer to each request, and the best
 /// request.
@@ -18,31 +19,28 @@ struct Best {
     request: Option<u8>,
 }
 
-/// The label of a best answer.
-fn label_of(best: Option<gap_values::Best>) -> Option<u16> {
-    let best = best?;
-    Some(best.label)
-}
-
 /// The best moves at a configuration, if it is one and has three pebbles.
-fn best_at<M: Moves>(moves: &M, held: [u16; 3]) -> Option<Best> {
+fn best_at(moves: &GapMoves<'_, GapValues>, held: [u16; 3]) -> Option<Best> {
     let board = moves.board();
     if board.pebbles() != 3 || !is_configuration(board, &held) {
         return None;
     }
-    let (value, [first, second, third, ..]) = moves.answers(&held);
-    let (_, request) = moves.request(&held);
+    let (value, request) = moves.request(&held);
     Some(Best {
         value,
-        answers: [label_of(first), label_of(second), label_of(third)],
+        answers: [
+            moves.answer(&held, 0),
+            moves.answer(&held, 1),
+            moves.answer(&held, 2),
+        ],
         request,
     })
 }
 
 /// Asserts the best moves at a configuration of three pebbles.
-fn assert_best<M: Moves>(
+fn assert_best(
     rt: &impl Abort,
-    moves: &M,
+    moves: &GapMoves<'_, GapValues>,
     held: [u16; 3],
     value: u32,
     answers: [Option<u16>; 3],
@@ -66,7 +64,7 @@ fn best_in_an_order_without_ranks(rt: HostRuntime) {
 }
 
 /// Asserts the best moves in the order of 103 labels, with three pebbles.
-fn assert_moves_in_an_order<M: Moves>(rt: &impl Abort, moves: &M) {
+fn assert_moves_in_an_order(rt: &impl Abort, moves: &GapMoves<'_, GapValues>) {
     assert_best(rt, moves, [0, 0, 0], 102, [Some(1), Some(1), Some(1)], 0);
     assert_best(rt, moves, [1, 0, 0], 101, [Some(1), Some(2), Some(2)], 1);
     assert_best(rt, moves, [1, 2, 0], 100, [Some(3), Some(2), Some(3)], 0);
@@ -76,7 +74,11 @@ fn assert_moves_in_an_order<M: Moves>(rt: &impl Abort, moves: &M) {
 
 /// The best answer to a request of pebble 0 or 1 at a configuration of two, if it is one, and its
 /// value.
-fn answer_at<M: Moves>(moves: &M, held: [u16; 2], pebble: bool) -> Option<(Value, Option<u16>)> {
+fn answer_at<V: ValueTable>(
+    moves: &GapMoves<'_, V>,
+    held: [u16; 2],
+    pebble: bool,
+) -> Option<(Value, Option<u16>)> {
     let board = moves.board();
     if board.pebbles() == 2 && is_configuration(board, &held) {
         Some((moves.value(&held), moves.answer(&held, u8::from(pebble))))
@@ -95,7 +97,7 @@ fn best_at_places_without_a_label(rt: HostRuntime) {
 }
 
 /// Asserts the best moves in the three-cycle on which places hold no label.
-fn assert_moves_without_labels<M: Moves>(rt: &impl Abort, moves: &M) {
+fn assert_moves_without_labels<V: ValueTable>(rt: &impl Abort, moves: &GapMoves<'_, V>) {
     for (held, answers) in [([3, 3], [0, 0]), ([3, 0], [1, 0]), ([2, 3], [0, 0])] {
         let [first, second] = answers;
         let found = answer_at(moves, held, false);

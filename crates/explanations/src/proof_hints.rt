@@ -11,11 +11,11 @@ use crate::sizes::Sizes;
 use crate::symmetry_hints::{FEWER_MAPS, MAP, MORE_MAPS, TOO_MANY, map_fault_hint, map_hint};
 use positions::MAX_CONFIGURATIONS;
 use proof_check::{CheckFault, ClassFault, Side, SymmetryFault};
-use proof_text::{MAX_CLASS_ROWS, MAX_MAPS, MOST_TURNS, ProofFault, ProofKind};
+use proof_text::{MAX_CLASS_ROWS, MAX_MAPS, MAX_TURNS, ProofFault, ProofKind};
 use runs::{DocumentVersion, board_length, version_of};
 
 // The words say these limits.
-const _: () = prove!(MOST_TURNS == 1_000_000_000);
+const _: () = prove!(MAX_TURNS == 1_000_000_000);
 
 const _: () = prove!(MAX_CONFIGURATIONS == 1_048_576);
 
@@ -135,7 +135,7 @@ fn claim_hint(line: Option<&[u8]>) -> Parts {
         Some(line) if line.starts_with("least ".as_bytes()) => "least",
         _ => "most",
     };
-    number_hint(line, word, MOST_TURNS as u64, CLAIM)
+    number_hint(line, word, MAX_TURNS as u64, CLAIM)
 }
 
 /// The number of the line that should begin the first section.

@@ -15,25 +15,25 @@ use Rattle.positions.specs.declared.value.Value.TheVariants.{Finite, Forever}
 use Rattle.classes.specs.Classes.{IsClass, class_of, put}
 use Rattle.positions.specs.Value.{HasValue}
 use Rattle.positions.proofs.Cited.{configuration_at-rank_of, configuration_at_is, rank_below, same_value, size_zero}
-use Rattle.classes.specs.Numbers.{ways, class_number, class_with}
+use Rattle.classes.specs.Numbers.{ways, number_by_greatest, class_with}
 use Rattle.classes.specs.Sums.{sum_below}
 use Rattle.classes.specs.Weights.{AreWeights, HasWeight}
 use Rattle.classes.proofs.Cited.{counted-values}
 use Rattle.classes.proofs.Cited.{ways-fit, with-is}
 use Rattle.classes.proofs.Cited.{orders, orders-weigh, weight-orders}
 use Rattle.classes.proofs.Cited.{sum-zero, sum-suc, sum-same}
-use Rattle.gap_values.specs.declared.families.Family.{Family}
+use Rattle.classes.specs.declared.families.Family.{Family}
 use Rattle.gap_values.specs.declared.sizes.Sizes.{Sizes}
 use Rattle.gap_values.specs.Inside.Counts.{AreCounted, AreSizesBetween, IsAboveRounds, IsCountBetween, IsTrimmed}
 use Rattle.gap_values.specs.Inside.Counts.{counted}
 use Rattle.gap_values.specs.Inside.Counts.{word_at}
-use Rattle.gap_values.specs.Inside.Families.{IsFamilyOf}
+use Rattle.classes.specs.FamilyWalks.{IsFamilyOf}
 use Rattle.gap_values.specs.Sizes.{HasValueCount, AreValueCounts}
-use Rattle.gap_values.proofs.FamilyMembers.{edge-begins, edge-is, edge-within, member-class, member-with, some-lists}
+use Rattle.classes.proofs.Cited.{edge-begins, edge-is, edge-within, member-class, member-with, some-lists}
 use Rattle.gap_values.specs.Inside.Words.{gap_table, least_word, AreGapWords, AreRounds}
 use Rattle.gap_values.specs.RoundWords.{round_of_word}
 use Rattle.gap_values.proofs.ClosedGaps.{first-closed, class-configuration, class-is, value-of-class}
-use Rattle.gap_values.proofs.TableNumbers.{gap-below}
+use Rattle.classes.proofs.Cited.{gap-below}
 use Rattle.gap_values.specs.GapTables.{IsClosedBefore}
 use Rattle.gap_values.proofs.Words.{before-from, before-to, round-finite, round-none, least-is, least-few, leasts}
 
@@ -288,7 +288,7 @@ word-low board words class rounds is_board size low is finite =
           let inside : some.0 < board.pebbles = some.1 in
           let below = (gap-below board class some.0 is_board is (omega arith)).0 in
           subst (λ n. n < rounds) some.2
-          (low (class_number (remove class some.0)) (omega (arith, size, below))
+          (low (number_by_greatest (remove class some.0)) (omega (arith, size, below))
           (subst (λ n. n < 4294967295) (sym some.2) finite))
     ]
 

@@ -13,7 +13,7 @@ use Rattle.positions.specs.Value.{HasValue}
 use Rattle.positions.proofs.Trees.{lasts_at_most, not_both_trees, some_tree, stops_at_least}
 use Rattle.classes.specs.Classes.{IsClass}
 use Rattle.classes.specs.ClassGaps.{gap_at, member_with}
-use Rattle.classes.specs.Numbers.{class_number}
+use Rattle.classes.specs.Numbers.{number_by_greatest}
 use Rattle.classes.proofs.Cited.{AreLike, is-below, labeller-like, legal-answers, with-number}
 use Rattle.gap_values.specs.ClassValues.{AreClassValues}
 use Rattle.gap_values.specs.GapTables.{IsClosedBefore, HasClosedGap}
@@ -133,33 +133,35 @@ pub word-small : (board : PlainBoard) (words gap : List ℕ) (label word : ℕ) 
 word-small board words gap label word is_board values is answer same finite =
     let member : List ℕ = member_with gap label in
     let low = is-below (places board) board.pebbles member (result-is board gap label is_board is answer.is_label) in
-    let few = values.few (class_number member) low (omega (arith, same, finite)) in
+    let few = values.few (number_by_greatest member) low (omega (arith, same, finite)) in
     omega (arith, same, few)
 
 -- ---- all gaps
 
 module _ (board : PlainBoard) (words rounds : List ℕ) (is_board : IsBoard board) (values : AreClassValues board words)
     (each : (gap : List ℕ) → IsClass (places board) (board.pebbles - 1) gap
-    → IsRoundOf board words gap (get_or rounds (class_number gap) 0)) where
+    → IsRoundOf board words gap (get_or rounds (number_by_greatest gap) 0)) where
   value-at : (class : List ℕ) → IsClass (places board) board.pebbles class
-      → HasValue board class (round_of_word (get_or words (class_number class) 0))
+      → HasValue board class (round_of_word (get_or words (number_by_greatest class) 0))
   value-at class is =
-      subst (λ c. HasValue board c (round_of_word (get_or words (class_number class) 0)))
+      subst (λ c. HasValue board c (round_of_word (get_or words (number_by_greatest class) 0)))
       (with-number (places board) board.pebbles class is)
-      (values.each (class_number class) (is-below (places board) board.pebbles class is))
+      (values.each (number_by_greatest class) (is-below (places board) board.pebbles class is))
 
   -- a class's value is below a bound exactly if a gap of it closes before the bound
   class-closed : (bound : ℕ) (class : List ℕ) → IsClass (places board) board.pebbles class
-      → IsClosedBefore (round_of_word (get_or words (class_number class) 0)) bound
+      → IsClosedBefore (round_of_word (get_or words (number_by_greatest class) 0)) bound
       ↔ HasClosedGap board (gap_table rounds) class bound
   class-closed zero class is = (
-    λ before. absurd (let less = before-to (get_or words (class_number class) 0) 0 before in omega (arith, less.0)),
+    λ before. absurd (let less = before-to (get_or words (number_by_greatest class) 0) 0 before in omega
+        (arith, less.0)),
     λ has. absurd
-        (let less = before-to (get_or rounds (class_number (gap_at class has.0)) 0) 0 has.2 in omega (arith, less.0)),
+        (let less = before-to (get_or rounds (number_by_greatest (gap_at class has.0)) 0) 0 has.2 in omega
+        (arith, less.0)),
   )
   class-closed (suc bound) class is =
       let configuration = class-configuration board class is in
-      let value : Value = round_of_word (get_or words (class_number class) 0) in
+      let value : Value = round_of_word (get_or words (number_by_greatest class) 0) in
       let trees = tree-of-value board class value (suc bound) (value-at class is) in (
         λ before. (let tree = trees.0 before in (
           tree.0,

@@ -6,13 +6,13 @@ use Rattle.board_text.specs.PlainBoard.{PlainBoard, IsBoard, places}
 use Rattle.positions.specs.declared.value.Value.{Value}
 use Rattle.classes.specs.Classes.{IsClass, put, class_of}
 use Rattle.classes.specs.ClassGaps.{member_with, gap_at}
-use Rattle.classes.specs.Numbers.{class_number}
+use Rattle.classes.specs.Numbers.{number_by_greatest}
 use Rattle.classes.proofs.Cited.{class_of-class}
 use Rattle.gap_values.specs.GapTables.{IsClosedBefore, HasClosedGap, ClosesBy}
 use Rattle.gap_values.specs.Inside.Words.{gap_table}
 use Rattle.gap_values.specs.Inside.Sets.{TellClosed, IsShut}
 use Rattle.gap_values.proofs.ClosedGaps.{like-closed}
-use Rattle.gap_values.proofs.TableNumbers.{falls-remove, remove-is}
+use Rattle.classes.proofs.Cited.{falls-remove, remove-is}
 use Rattle.gap_values.proofs.Words.{before-to, result-is}
 
 module _ (board : PlainBoard) (is_board : IsBoard board) (gap : List ℕ)
@@ -76,7 +76,7 @@ module _ (board : PlainBoard) (is_board : IsBoard board) (gap : List ℕ)
 -- an open gap is shut, by sets that tell of the gaps before a round, exactly if it closes by the round
 pub shut-closes : (board : PlainBoard) (words : List ℕ) (round : ℕ) (sets : List (List ℕ)) (gap : List ℕ)
     → IsBoard board → 2 ≤ board.pebbles → TellClosed board words round sets
-    → IsClass (places board) (board.pebbles - 1) gap → get_or words (class_number gap) 0 ≡ 4294967295
+    → IsClass (places board) (board.pebbles - 1) gap → get_or words (number_by_greatest gap) 0 ≡ 4294967295
     → IsShut board sets gap ↔ ClosesBy board (gap_table words) gap round
 shut-closes board words round sets gap is_board some tell is_gap opened =
     let size : length gap ≡ board.pebbles - 1 = is_gap.size in
@@ -95,7 +95,7 @@ shut-closes board words round sets gap is_board some tell is_gap opened =
           (gap_table words) round).0
           (closes label answer)) [
             | inl before ↦
-                let finite = before-to (get_or words (class_number gap) 0) round before in
+                let finite = before-to (get_or words (number_by_greatest gap) 0) round before in
                 absurd (omega (arith, finite.1, opened))
             | inr part ↦ (
               part.0,

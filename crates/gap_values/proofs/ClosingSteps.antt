@@ -1,23 +1,24 @@
 -- The open gaps of a round that are shut are closed, family by family.
 use Rattle.std.proofs.Common.{◌≡◌, ◌≢◌, ℕ, zero, suc, ◌+◌, ◌-◌, ◌<◌, ◌≤◌, ◌⊎◌, ◌↔◌, Bool, true, cond, nat_eq, List, []}
-use Rattle.std.proofs.Common.{◌∷◌}
+use Rattle.std.proofs.Common.{◌∷◌, ◌++◌}
 use Rattle.std.proofs.Common.{length}
 use Rattle.std.proofs.Common.{get_or, set, sym, ap, ◌∙◌, subst, inl, inr, arith, refl, eq-eqb, ne_eqb, below_more}
 use Rattle.std.specs.List.{remove}
 use Rattle.std.proofs.lemmas.Bool.{cases_lt, cases_eq, cases_Bool, both_ways}
-use Rattle.std.proofs.lemmas.List.{length-set, get_or-set_same, get_or-set_other}
+use Rattle.std.proofs.lemmas.List.{length-append, length-set, get_or_append_left, get_or-append-add, get_or_past}
+use Rattle.std.proofs.lemmas.List.{get_or-set_same, get_or-set_other}
 use Rattle.std.proofs.lemmas.List.Elements.{All-from_get_or}
 use Rattle.board_text.specs.Domination.{has_bit}
 use Rattle.board_text.specs.PlainBoard.{PlainBoard, IsBoard, DominatesPlace, places}
 use Rattle.board_text.specs.declared.board.TheConstants.{MAX_LABELS}
 use Rattle.positions.specs.Gaps.{AnswersGap}
 use Rattle.classes.specs.Classes.{put}
-use Rattle.classes.specs.Numbers.{class_number, class_with}
+use Rattle.classes.specs.Numbers.{number_by_greatest, class_with}
 use Rattle.classes.proofs.Cited.{all-put, of-all-put}
-use Rattle.gap_values.specs.declared.families.Family.{Family}
-use Rattle.gap_values.specs.Inside.Families.{IsFamilyOf}
+use Rattle.classes.specs.declared.families.Family.{Family}
+use Rattle.classes.specs.FamilyWalks.{IsFamilyOf}
 use Rattle.gap_values.specs.Inside.Sets.{HasLabel, IsInOthers, AreLeft, IsShut, IsPassed, ArePassed, open_count}
-use Rattle.gap_values.proofs.FamilyMembers.{member-long, others-number, number-last-others}
+use Rattle.classes.proofs.Cited.{member-long, others-number, number-last-others}
 
 -- ---- the answers that are in no set yet
 
@@ -217,7 +218,7 @@ module _ (b : PlainBoard) (is : IsBoard b) (sets : List (List ℕ)) where
             | inr last ↦
                 let here : some.0 ≡ count = omega arith in
                 inl (subst (λ n. HasLabel sets n x) (number-last-others b count f family v low)
-                (subst (λ k. HasLabel sets (class_number (remove (put v f.held) k)) x) here some.2))
+                (subst (λ k. HasLabel sets (number_by_greatest (remove (put v f.held) k)) x) here some.2))
           ])
 
 -- ---- the answers to some places
@@ -398,14 +399,40 @@ module _ (b : PlainBoard) (sets : List (List ℕ)) (round : ℕ) (low : round < 
     behind = λ index past. two.behind index past ∙ one.behind index (omega arith);
   }
 
--- ---- a word of a part is one of all words
-
-pub part-passed : (b : PlainBoard) (sets : List (List ℕ)) (round first offset index was is : ℕ) (old new : List ℕ)
-    → first + offset ≡ index → offset < length old → get_or old offset 0 ≡ was → get_or new offset 0 ≡ is
-    → ArePassed b sets round first 0 (length old) old new → IsPassed b sets round (0 + index) was is
-part-passed b sets round first offset index was is old new place inside was_is is_is passed =
-    let whole : first + offset ≡ 0 + index = omega (arith, place) in
-    subst (λ n. IsPassed b sets round n was is) whole
-    (subst (λ w. IsPassed b sets round (first + offset) w is) was_is
-    (subst (IsPassed b sets round (first + offset) (get_or old offset 0)) is_is
-    (passed.passed offset (omega arith) inside)))
+  -- the words behind others are passed as a part of their own
+  pub passed-append : (next : ℕ) (old new olds news : List ℕ) → next ≡ first + length old
+      → ArePassed b sets round first 0 (length old) old new → ArePassed b sets round next 0 (length olds) olds news
+      → ArePassed b sets round first 0 (length (old ++ olds)) (old ++ olds) (new ++ news)
+  passed-append next old new olds news next_is one two =
+      let whole : length (old ++ olds) ≡ length old + length olds = length-append old olds in
+      let same : length new ≡ length old = one.same_length in
+      let ends : length (new ++ news) ≡ length (old ++ olds) =
+      omega (arith, whole, length-append new news, same, two.same_length) in
+      record {
+        same_length = ends;
+        passed = λ index least under. elim (cases_lt index (length old)) [
+          | inl early ↦
+              subst (λ w. IsPassed b sets round (first + index) w (get_or (new ++ news) index 0))
+              (sym (get_or_append_left old olds 0 index early))
+              (subst (IsPassed b sets round (first + index) (get_or old index 0))
+              (sym (get_or_append_left new news 0 index (omega (arith, early, same))))
+              (one.passed index least early))
+          | inr late ↦
+              let at : ℕ = index - length old in
+              let place : length old + at ≡ index = omega (arith, late) in
+              let was : get_or (old ++ olds) index 0 ≡ get_or olds at 0 =
+              ap (λ n. get_or (old ++ olds) n 0) (sym place) ∙ get_or-append-add old olds at 0 in
+              let is : get_or (new ++ news) index 0 ≡ get_or news at 0 =
+              ap (λ n. get_or (new ++ news) n 0) (sym (omega (arith, place, same)))
+              ∙ get_or-append-add new news at 0 in
+              let gap : next + at ≡ first + index = omega (arith, next_is, place) in
+              subst (λ w. IsPassed b sets round (first + index) w (get_or (new ++ news) index 0)) (sym was)
+              (subst (IsPassed b sets round (first + index) (get_or olds at 0)) (sym is)
+              (subst (λ n. IsPassed b sets round n (get_or olds at 0) (get_or news at 0)) gap
+              (two.passed at (omega arith) (omega (arith, whole, under, place)))))
+        ];
+        before = λ index under. absurd (omega arith);
+        behind = λ index past.
+            get_or_past (new ++ news) index 0 (omega (arith, ends, past))
+            ∙ sym (get_or_past (old ++ olds) index 0 past);
+      }

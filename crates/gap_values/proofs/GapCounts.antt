@@ -16,17 +16,17 @@ use Rattle.classes.specs.Numbers.{class_with}
 use Rattle.classes.specs.Sums.{sum_below}
 use Rattle.classes.specs.Weights.{HasWeight}
 use Rattle.classes.proofs.Cited.{size_of_sum, sum-add, sum-same, sum-suc, sum-zero}
-use Rattle.gap_values.specs.declared.families.Family.{Family}
+use Rattle.classes.specs.declared.families.Family.{Family}
 use Rattle.gap_values.specs.declared.sizes.Sizes.{Sizes}
 use Rattle.gap_values.specs.declared.weight.FamilyWeights.{FamilyWeights}
 use Rattle.gap_values.specs.Inside.Counts.{AreCounted, AreMore, AreSizesBetween, AreSmallWeights, HaveRoom}
 use Rattle.gap_values.specs.Inside.Counts.{IsCountBetween}
 use Rattle.gap_values.specs.Inside.Counts.{class_word, made_by, made_by_bits, once, weight_with, word_at}
-use Rattle.gap_values.specs.Inside.Families.{IsFamilyOf}
+use Rattle.classes.specs.FamilyWalks.{IsFamilyOf}
 use Rattle.gap_values.specs.Inside.FamilyWeights.{AreFamilyWeights}
 use Rattle.gap_values.specs.Inside.Sets.{AreAtMost}
 use Rattle.gap_values.proofs.ClassCounts.{counting-more, counting-same, sizes-few, word-of-member}
-use Rattle.gap_values.proofs.FamilyMembers.{edge-is, edge-next, edge-only, edge-start}
+use Rattle.classes.proofs.Cited.{edge-is, edge-next, edge-only, edge-start}
 
 -- ---- counts that grow
 

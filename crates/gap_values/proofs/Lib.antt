@@ -1,15 +1,11 @@
 pub mod Cited
 mod ClosedGaps
-mod WaysTables
-mod TableNumbers
-mod NextLists
-mod FamilyMembers
-mod FamilyRests
 mod ClosedParts
 mod ClosingSteps
 mod TellingSteps
 mod Words
 mod RoundSteps
+mod TableSteps
 mod ClassRounds
 mod OpenCounts
 pub mod BestAnswers

@@ -5,7 +5,7 @@ use Rattle.std.proofs.Common.{ap, arith, cond, inl, inr, nat_eq, refl, replicate
 use Rattle.std.proofs.lemmas.Bool.{cases_lt, eq-eqb, eqb-true, ne_eqb}
 use Rattle.std.proofs.lemmas.List.{get_or-replicate, length_push}
 use Rattle.board_text.specs.PlainBoard.{PlainBoard, IsBoard, places}
-use Rattle.classes.specs.Numbers.{class_number}
+use Rattle.classes.specs.Numbers.{number_by_greatest}
 use Rattle.classes.proofs.Cited.{is-below, size_of_sum, sum-suc, sum-zero, with-is}
 use Rattle.positions.specs.Counts.{HasSize}
 use Rattle.positions.specs.declared.value.Value.TheVariants.{Finite, Forever}
@@ -193,7 +193,7 @@ module _ (board : PlainBoard) (is_board : IsBoard board) (some : 2 ≤ board.peb
                 ∙ round-finite earlier (omega (arith, before, so_far.size, low)),
           ),
       λ told.
-          let n : ℕ = class_number told.0 in
+          let n : ℕ = number_by_greatest told.0 in
           let n_low : n < gap_count board = is-below (places board) (board.pebbles - 1) told.0 told.1 in
           let word = one-round (get_or new n 0) earlier told.2 in
           elim (new-words board is_board some round old new sets low at passed n n_low) [
@@ -204,7 +204,7 @@ module _ (board : PlainBoard) (is_board : IsBoard board) (some : 2 ≤ board.peb
     );
   }
     where
-      own_word : (n : ℕ) → n < gap_count board → get_or new (class_number (gap_with board n)) 0 ≡ get_or new n 0
+      own_word : (n : ℕ) → n < gap_count board → get_or new (number_by_greatest (gap_with board n)) 0 ≡ get_or new n 0
       own_word n n_low = ap (λ k. get_or new k 0) (with-is (places board) (board.pebbles - 1) n n_low).number_is
 
 -- ---- one pebble: its gap never closes
@@ -218,7 +218,7 @@ lone-counts board words all_open rounds = record {
   rounds = λ round. (
     λ before. absurd (omega (arith, before)),
     λ told.
-        let n : ℕ = class_number told.0 in
+        let n : ℕ = number_by_greatest told.0 in
         let n_low : n < gap_count board = is-below (places board) (board.pebbles - 1) told.0 told.1 in
         let open_word : get_or words n 0 ≡ 4294967295 =
         ap (λ l. get_or l n 0) all_open ∙ get_or-replicate {A = ℕ} (gap_count board) n 4294967295 0 n_low in

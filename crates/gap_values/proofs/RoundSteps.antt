@@ -10,17 +10,18 @@ use Rattle.board_text.specs.PlainBoard.{PlainBoard, IsBoard, DominatesPlace, pla
 use Rattle.board_text.specs.declared.board.TheConstants.{MAX_LABELS}
 use Rattle.classes.specs.Classes.{IsClass}
 use Rattle.classes.specs.ClassGaps.{gap_at, member_with}
-use Rattle.classes.specs.Numbers.{ways, class_number, class_with}
+use Rattle.classes.specs.Numbers.{ways, number_by_greatest, class_with}
 use Rattle.board_text.proofs.Cited.{label_is_place}
 use Rattle.classes.proofs.Cited.{is-below, put-is, put-none, ways-zero, with-is, with-number}
 use Rattle.gap_values.specs.GapTables.{IsClosedBefore, ClosesBy}
-use Rattle.gap_values.specs.Inside.Sets.{TellClosed, IsShut, IsPassed, ArePassed, AreToldTo, open_count}
+use Rattle.gap_values.specs.Inside.Sets.{TellClosed, IsShut, IsPassed, ArePassed, AreGathered, AreFresh, AreTablesOf}
+use Rattle.gap_values.specs.Inside.Sets.{IsInTables, IsOfRound, open_count}
 use Rattle.gap_values.specs.Inside.Words.{gap_table, AreGapWords, AreRounds}
 use Rattle.gap_values.specs.RoundWords.{round_of_word}
 use Rattle.gap_values.proofs.ClosedParts.{shut-closes}
 use Rattle.gap_values.proofs.ClosingSteps.{open-falls, open-few}
-use Rattle.gap_values.proofs.TableNumbers.{gap-below}
-use Rattle.gap_values.proofs.TellingSteps.{told-begins}
+use Rattle.classes.proofs.Cited.{gap-below}
+use Rattle.gap_values.proofs.TellingSteps.{sets-none}
 use Rattle.gap_values.proofs.Words.{before-from, before-to, gap_at-index, result-is}
 
 -- ---- words that agree before a round
@@ -35,14 +36,14 @@ closes-agree : (board : PlainBoard) (old new : List ℕ) (round : ℕ) → Agree
     → ClosesBy board (gap_table old) gap b → ClosesBy board (gap_table new) gap b
 closes-agree board old new round agree gap b low closes = λ label answer.
     let has = closes label answer in
-    (has.0, has.1, (agree (class_number (gap_at (member_with gap label) has.0)) b low).0 has.2)
+    (has.0, has.1, (agree (number_by_greatest (gap_at (member_with gap label) has.0)) b low).0 has.2)
 
 closes-back : (board : PlainBoard) (old new : List ℕ) (round : ℕ) → Agree round old new
     → (gap : List ℕ) (b : ℕ) → b ≤ round
     → ClosesBy board (gap_table new) gap b → ClosesBy board (gap_table old) gap b
 closes-back board old new round agree gap b low closes = λ label answer.
     let has = closes label answer in
-    (has.0, has.1, (agree (class_number (gap_at (member_with gap label) has.0)) b low).1 has.2)
+    (has.0, has.1, (agree (number_by_greatest (gap_at (member_with gap label) has.0)) b low).1 has.2)
 
 -- a word of no round yet
 abbrev pub IsLate : ℕ → ℕ → Type 0
@@ -61,7 +62,7 @@ closes-later : (board : PlainBoard) (words gap : List ℕ) (low high : ℕ) → 
     → ClosesBy board (gap_table words) gap low → ClosesBy board (gap_table words) gap high
 closes-later board words gap low high less closes = λ label answer.
     let has = closes label answer in
-    let word : ℕ = get_or words (class_number (gap_at (member_with gap label) has.0)) 0 in
+    let word : ℕ = get_or words (number_by_greatest (gap_at (member_with gap label) has.0)) 0 in
     (has.0, has.1, before-later word low high less has.2)
 
 -- ---- between and in rounds
@@ -95,6 +96,14 @@ right-agree board old new round agree n b low right = (
       (right.1 (closes-back board old new round agree (gap_with board n) b (omega arith) closes)),
 )
 
+-- no gap is of the round before it
+pub fresh-words : (board : PlainBoard) (round : ℕ) (words : List ℕ) (sets : List (List ℕ)) → round < 4294967295
+    → IsAtRound board round words sets → AreFresh round words
+fresh-words board round words sets low at n inside same = elim (at.words_are n (omega (arith, inside, at.size))) [
+  | inl less ↦ omega (arith, less, same)
+  | inr none ↦ omega (arith, none, same, low)
+]
+
 -- ---- the end of a round
 
 -- a gap whose word is below a round closes by that round
@@ -118,9 +127,9 @@ closes-sooner board words gap round b is_board low below is closes = λ label an
     let pebble_low : has.0 < board.pebbles = has.1 in
     let at : gap_at member has.0 ≡ remove member has.0 =
     gap_at-index (places board) board.pebbles member has.0 member_is has.1 in
-    let n : ℕ = class_number (gap_at member has.0) in
+    let n : ℕ = number_by_greatest (gap_at member has.0) in
     let n_low : n < gap_count board =
-    subst (λ g. class_number g < gap_count board) (sym at)
+    subst (λ g. number_by_greatest g < gap_count board) (sym at)
     (gap-below board member has.0 is_board member_is (omega arith)).0 in
     let late = before-to (get_or words n 0) b has.2 in (
       has.0,
@@ -138,7 +147,7 @@ pub told-of-all : (board : PlainBoard) (words : List ℕ) (round : ℕ) → 2 �
 told-of-all board words round some told below tell = record {
   many = tell.many;
   each = λ list list_is label label_low.
-      let n : ℕ = class_number (member_with list label) in
+      let n : ℕ = number_by_greatest (member_with list label) in
       let more : suc (board.pebbles - 2) ≡ board.pebbles - 1 = omega arith in
       let gap_is : IsClass (places board) (board.pebbles - 1) (member_with list label) =
       subst (λ k. IsClass (places board) k (member_with list label)) more
@@ -239,9 +248,54 @@ module _ (board : PlainBoard) (is_board : IsBoard board) (some : 2 ≤ board.peb
     ],
   )
 
-  -- the sets are told of what closed
-  pub telling-begins : AreToldTo board new round 0 sets
-  telling-begins = told-begins board is_board some new round low old sets (λ n. agree n round (omega arith)) at.tell
+  -- once what the tables are told of is added, the sets are those of the next round
+  pub round-told : (tables : ℕ) (told added : List (List ℕ)) → AreTablesOf board tables (IsOfRound round 0 new) told
+      → AreGathered tables (length sets) 0 told sets added → TellClosed board new (round + 1) added
+  round-told tables told added are sum =
+      let many : length sets ≡ ways (board.pebbles - 2) (places board) = at.tell.many in
+      record {
+        many = sum.same_length ∙ many;
+        each = λ list list_is label label_low.
+            let few = is_board.labels.1 in
+            let number : ℕ = number_by_greatest list in
+            let inside : number < length sets =
+            omega (arith, many, is-below (places board) (board.pebbles - 2) list list_is) in
+            let first : 0 + number ≡ number = omega arith in
+            let gap : ℕ = number_by_greatest (member_with list label) in
+            let more : suc (board.pebbles - 2) ≡ board.pebbles - 1 = omega arith in
+            let gap_is : IsClass (places board) (board.pebbles - 1) (member_with list label) =
+            subst (λ k. IsClass (places board) k (member_with list label)) more
+            (put-is (places board) (board.pebbles - 2) label list list_is (label_is_place board label label_low)) in
+            let gap_low : gap < gap_count board =
+            is-below (places board) (board.pebbles - 1) (member_with list label) gap_is in
+            let size : length new ≡ gap_count board = passed.same_length ∙ at.size in
+            let each = sum.each number label inside (omega arith) in
+            let word : ℕ = get_or new gap 0 in (
+              λ has. elim (each.0 has) [
+                | inl before ↦ before-later word round (round + 1) (omega arith)
+                    ((agree gap round (omega arith)).0 ((at.tell.each list list_is label label_low).0 before))
+                | inr some_told ↦
+                    let now = (are.each list list_is label label_low).0
+                    (subst (λ n. IsInTables tables n told number label) many
+                    (subst (λ n. IsInTables tables (length sets) told n label) first some_told)) in
+                    let here : now.0 ≡ gap = omega (arith, now.1) in
+                    let word_is : word ≡ round = ap (λ n. get_or new n 0) (sym here) ∙ now.3 in
+                    before-from word (round + 1) (omega (arith, word_is)) (omega (arith, word_is, low))
+              ],
+              λ before.
+                  let is = before-to word (round + 1) before in
+                  each.1 (elim (cases_lt word round) [
+                    | inl early ↦ inl ((at.tell.each list list_is label label_low).1
+                        ((agree gap round (omega arith)).1 (before-from word round early is.1)))
+                    | inr late ↦
+                        let word_is : word ≡ round = (let under = is.0 in omega (arith, late)) in
+                        inr (subst (λ n. IsInTables tables (length sets) told n label) (sym first)
+                        (subst (λ n. IsInTables tables n told number label) (sym many)
+                        ((are.each list list_is label label_low).1
+                        (gap, omega arith, omega (arith, gap_low, size), word_is))))
+                  ]),
+            );
+      }
 
   -- some gap closed: fewer are open
   pub some-closed : (n : ℕ) × (n < gap_count board) × (get_or new n 0 ≡ round) → open_count new < open_count old
@@ -280,7 +334,7 @@ module _ (board : PlainBoard) (is_board : IsBoard board) (some : 2 ≤ board.peb
   first-kept first some_round tell = record {
     many = tell.many;
     each = λ list list_is label label_low.
-        let n : ℕ = class_number (member_with list label) in (
+        let n : ℕ = number_by_greatest (member_with list label) in (
           λ has. (agree n 1 some_round).0 ((tell.each list list_is label label_low).0 has),
           λ before. (tell.each list list_is label label_low).1 ((agree n 1 some_round).1 before),
         );
@@ -325,36 +379,13 @@ module _ (board : PlainBoard) (is_board : IsBoard board) (some : 2 ≤ board.peb
       record {
         size = passed.same_length ∙ at.size;
         table = λ gap is b.
-            let n : ℕ = class_number gap in
+            let n : ℕ = number_by_greatest gap in
             let n_low : n < gap_count board = is-below (places board) (board.pebbles - 1) gap is in
             subst (λ g. IsClosedBefore (round_of_word (get_or new n 0)) (suc b) ↔ ClosesBy board (gap_table new) g b)
             (with-number (places board) (board.pebbles - 1) gap is) (right n b n_low);
       }
 
 -- ---- the first round
-
--- before the first round empty sets tell of what is closed
-pub none-told : (board : PlainBoard) (words none : List ℕ) (sets : List (List ℕ))
-    → sets ≡ replicate (ways (board.pebbles - 2) (places board)) none
-    → ((x : ℕ) → x < MAX_LABELS → (has_bit none x ≡ true) ↔ (x < 0)) → IsBoard board → TellClosed board words 0 sets
-none-told board words none sets all_none empty is_board =
-    let many : ℕ = ways (board.pebbles - 2) (places board) in
-    record {
-      many = ap length all_none ∙ length-replicate {A = List ℕ} many none;
-      each = λ list list_is label low.
-          let few = is_board.labels.1 in
-          let number_low : class_number list < many = is-below (places board) (board.pebbles - 2) list list_is in
-          let own : get_or sets (class_number list) [] ≡ none =
-          ap (λ l. get_or l (class_number list) []) all_none
-          ∙ get_or-replicate {A = List ℕ} many (class_number list) none [] number_low in (
-            λ has.
-                let under : label < 0 = (empty label (omega arith)).0 (ap (λ s. has_bit s label) (sym own) ∙ has) in
-                absurd (omega arith),
-            λ before.
-                let is = before-to (get_or words (class_number (member_with list label)) 0) 0 before in
-                absurd (omega (arith, is.0)),
-          );
-    }
 
 pub first-round : (board : PlainBoard) (words none : List ℕ) (sets : List (List ℕ))
     → words ≡ replicate (gap_count board) 4294967295
@@ -370,7 +401,8 @@ first-round board words none sets all_open all_none empty is_board =
       words_are = λ n low. inr (ap (λ l. get_or l n 0) all_open
           ∙ get_or-replicate {A = ℕ} (gap_count board) n 4294967295 0 low);
       few = (let few = open-few words in omega arith);
-      tell = none-told board words none sets all_none empty is_board;
+      tell = sets-none board is_board (λ gap. IsClosedBefore (round_of_word (get_or words gap 0)) 0) none sets all_none
+          empty (λ gap before. let is = before-to (get_or words gap 0) 0 before in omega (arith, is.0));
     }
 
 -- ---- one pebble: its gap has no places, and each label answers with that gap again

@@ -9,17 +9,17 @@ use Rattle.board_text.specs.PlainBoard.{PlainBoard, IsBoard, places}
 use Rattle.board_text.specs.declared.board.TheConstants.{MAX_LABELS}
 use Rattle.classes.specs.Classes.{IsClass, put}
 use Rattle.classes.specs.ClassGaps.{member_with}
-use Rattle.classes.specs.Numbers.{class_number}
-use Rattle.gap_values.specs.declared.families.Family.{Family}
+use Rattle.classes.specs.Numbers.{number_by_greatest}
+use Rattle.classes.specs.declared.families.Family.{Family}
 use Rattle.gap_values.specs.GapTables.{HasClosedGap, IsClosedBefore}
 use Rattle.gap_values.specs.Inside.Counts.{class_word}
-use Rattle.gap_values.specs.Inside.Families.{IsFamilyOf}
+use Rattle.classes.specs.FamilyWalks.{IsFamilyOf}
 use Rattle.gap_values.specs.Inside.Sets.{HasLabel, IsInOthers, TellClosed}
 use Rattle.gap_values.specs.Inside.Words.{gap_table}
 use Rattle.gap_values.specs.RoundWords.{round_of_word}
 use Rattle.gap_values.proofs.ClosedParts.{closed-parts}
-use Rattle.gap_values.proofs.FamilyMembers.{held-long, member-class, member-long, member-number, number-last-others}
-use Rattle.gap_values.proofs.FamilyMembers.{others-class, others-number}
+use Rattle.classes.proofs.Cited.{held-long, member-class, member-long, member-number, number-last-others}
+use Rattle.classes.proofs.Cited.{others-class, others-number}
 use Rattle.gap_values.proofs.Words.{before-from, before-to, least-is, result-is}
 
 module _ (b : PlainBoard) (words : List ℕ) (sets : List (List ℕ)) (f : Family) (v word bound : ℕ)
@@ -41,12 +41,12 @@ module _ (b : PlainBoard) (words : List ℕ) (sets : List (List ℕ)) (f : Famil
     gap-is : IsClass (places b) (b.pebbles - 1) gap
     gap-is = subst (λ n. IsClass (places b) n gap) more (member-class b (b.pebbles - 2) f family v low)
 
-    own-word : get_or words (class_number gap) 0 ≡ word
+    own-word : get_or words (number_by_greatest gap) 0 ≡ word
     own-word = ap (λ n. get_or words n 0) (member-number b (b.pebbles - 2) f family v low) ∙ sym word_is
 
     -- the list of a gap without a place has the label in its set if the gap with the label closes before
     list-told : (index : ℕ) → index < length gap → (x : ℕ) → x < b.labels
-        → HasLabel sets (class_number (remove gap index)) x
+        → HasLabel sets (number_by_greatest (remove gap index)) x
         ↔ IsClosedBefore (gap_table words (member_with (remove gap index) x)) bound
     list-told index inside x x_low =
         let long : length gap ≡ suc (b.pebbles - 2) = member-long b (b.pebbles - 2) f family v low in
@@ -55,7 +55,7 @@ module _ (b : PlainBoard) (words : List ℕ) (sets : List (List ℕ)) (f : Famil
     abbrev InSets : ℕ → Type 0
     InSets x = HasLabel sets f.number x ⊎ IsInOthers sets f v x
 
-    in-sets : (index x : ℕ) → index < length gap → HasLabel sets (class_number (remove gap index)) x → InSets x
+    in-sets : (index x : ℕ) → index < length gap → HasLabel sets (number_by_greatest (remove gap index)) x → InSets x
     in-sets index x inside has =
         let long : length gap ≡ suc (b.pebbles - 2) = member-long b (b.pebbles - 2) f family v low in
         let held : length f.held ≡ b.pebbles - 2 = held-long b (b.pebbles - 2) f family in
@@ -68,11 +68,11 @@ module _ (b : PlainBoard) (words : List ℕ) (sets : List (List ℕ)) (f : Famil
           | inr last ↦
               let here : index ≡ b.pebbles - 2 = omega arith in
               inl (subst (λ n. HasLabel sets n x) (number-last-others b (b.pebbles - 2) f family v low)
-              (subst (λ k. HasLabel sets (class_number (remove gap k)) x) here has))
+              (subst (λ k. HasLabel sets (number_by_greatest (remove gap k)) x) here has))
         ]
 
     from-sets : (x : ℕ) → InSets x
-        → (index : ℕ) × (index < length gap) × HasLabel sets (class_number (remove gap index)) x
+        → (index : ℕ) × (index < length gap) × HasLabel sets (number_by_greatest (remove gap index)) x
     from-sets x (inl own) =
         let long : length gap ≡ suc (b.pebbles - 2) = member-long b (b.pebbles - 2) f family v low in (
           b.pebbles - 2,
@@ -135,7 +135,7 @@ module _ (b : PlainBoard) (words : List ℕ) (sets : List (List ℕ)) (f : Famil
                   | inl less ↦ absurd (elim (parts.0 ((closed-word x x_low).0
                       (before-from (class_word b words gap x) bound less (omega arith)))) [
                         | inl own ↦
-                            let is = before-to (get_or words (class_number gap) 0) bound own in
+                            let is = before-to (get_or words (number_by_greatest gap) 0) bound own in
                             let same = own-word in
                             omega (arith, is.0, same)
                         | inr list ↦ elim (in-sets list.0 x list.1 ((list-told list.0 list.1 x x_low).1 list.2)) [

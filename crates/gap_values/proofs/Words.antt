@@ -8,12 +8,12 @@ use Rattle.board_text.proofs.Cited.{label_is_place}
 use Rattle.positions.specs.declared.value.Value.TheVariants.{Finite, Forever}
 use Rattle.classes.specs.Classes.{IsClass, Falls, put, class_of}
 use Rattle.classes.specs.ClassGaps.{gap_at, member_with}
-use Rattle.classes.specs.Numbers.{class_number}
+use Rattle.classes.specs.Numbers.{number_by_greatest}
 use Rattle.classes.proofs.Cited.{class_of-class, put-is}
 use Rattle.gap_values.specs.GapTables.{IsClosedBefore, HasClosedGap}
 use Rattle.gap_values.specs.Inside.Words.{gap_table, word_without, least_word}
 use Rattle.gap_values.specs.RoundWords.{round_of_word}
-use Rattle.gap_values.proofs.TableNumbers.{falls-remove}
+use Rattle.classes.proofs.Cited.{falls-remove}
 
 -- ---- the round of a word
 
@@ -141,7 +141,7 @@ least-closed board words class index first is all most least bound =
                 gap_at-index (places board) board.pebbles class some.0 is (omega arith) in (
                   some.0,
                   omega arith,
-                  subst (λ g. IsClosedBefore (round_of_word (get_or words (class_number g) 0)) bound) (sym at)
+                  subst (λ g. IsClosedBefore (round_of_word (get_or words (number_by_greatest g) 0)) bound) (sym at)
                       (subst (λ w. IsClosedBefore (round_of_word w) bound) (sym some.2) before),
                 )
           ],
@@ -150,7 +150,7 @@ least-closed board words class index first is all most least bound =
           let at : gap_at class has.0 ≡ remove class has.0 = gap_at-index
           (places board) board.pebbles class has.0 is inside in
           let there = before-to (word_without words class has.0) bound
-          (subst (λ g. IsClosedBefore (round_of_word (get_or words (class_number g) 0)) bound) at has.2) in
+          (subst (λ g. IsClosedBefore (round_of_word (get_or words (number_by_greatest g) 0)) bound) at has.2) in
           let no_more : first ≤ word_without words class has.0 = least.least has.0 (omega arith) in
           let under : word_without words class has.0 < bound = there.0 in
           let finite : word_without words class has.0 < 4294967295 = there.1 in

@@ -1,6 +1,6 @@
 //! The rounds in which gaps close, by the values of classes.
 
-ghost use Rattle.std.specs.Prelude.{◌≡◌, ◌-◌, ◌<◌, ℕ, IfOk, length, slice_index};
+ghost use Rattle.std.specs.Prelude.{◌≡◌, ◌≤◌, ◌*◌, ◌-◌, ◌<◌, ℕ, IfOk, length, slice_index};
 ghost use Rattle.board_text.specs.PlainBoard.{IsBoard, places};
 ghost use Rattle.classes.specs.Classes.{IsClass};
 ghost use Rattle.gap_values.specs.ClassValues.{AreClassValues};
@@ -9,22 +9,23 @@ ghost use Rattle.gap_values.specs.Inside.Sets.{AreGapRounds};
 ghost use Rattle.gap_values.specs.Inside.Words.{AreRounds};
 
 use crate::closing::{OPEN, answer_set};
-use crate::gap_numbers::GapNumbers;
 use crate::rounds::GapRounds;
-use crate::telling::tell_round;
-use board_text::{Board, Memory};
-use classes::ClassPlaces;
-use positions::LabelSet;
+use crate::telling::sets_below;
+use board_text::{Board, Memory, ROW_WORDS};
+use classes::{ClassNumbers, Places};
+use positions::{LabelSet, Labels};
 use std::alloc::Global;
 
-impl GapRounds {
+impl<const WORDS: usize> GapRounds<WORDS> {
     /// The rounds in which the gaps of `board` close, by the words of its classes.
     pub(crate) fn of_classes(
         alloc: Global,
         board: &Board,
-        numbers: &GapNumbers,
+        numbers: &ClassNumbers,
         words: &[u32],
-    ) -> Result<GapRounds, Memory>
+    ) -> Result<GapRounds<WORDS>, Memory>
+        requires narrow { WORDS ≤ ROW_WORDS }
+        requires fits { board.now.labels ≤ 64 * WORDS }
         requires board { numbers.now ≡ board.now }
         requires words { AreClassValues board.now words.now }
         ensures { IfOk result (AreGapRounds board.now) }
@@ -37,9 +38,11 @@ impl GapRounds {
     fn told(
         alloc: Global,
         board: &Board,
-        numbers: &GapNumbers,
+        numbers: &ClassNumbers,
         words: Vec<u32>,
-    ) -> Result<GapRounds, Memory>
+    ) -> Result<GapRounds<WORDS>, Memory>
+        requires narrow { WORDS ≤ ROW_WORDS }
+        requires fits { board.now.labels ≤ 64 * WORDS }
         requires board { numbers.now ≡ board.now }
         requires words { AreRounds board.now words.items }
         ensures { IfOk result (AreGapRounds board.now) }
@@ -51,14 +54,8 @@ impl GapRounds {
                 closed: Vec::new(alloc),
             });
         }
-        let lists = numbers.ways(board.pebbles() - 2, board.places());
-        let mut first = Vec::with_capacity(alloc, lists as usize)?;
-        let mut closed = vec![in alloc; LabelSet::below(0); lists as usize]?;
-        tell_round(board, numbers, &words, 0, &mut closed);
-        first.extend_from_slice(&closed)?;
-        for round in 1..count_rounds(&words) {
-            tell_round(board, numbers, &words, round, &mut closed);
-        }
+        let first = sets_below(alloc, board, numbers, &words, 1)?;
+        let closed = sets_below(alloc, board, numbers, &words, OPEN)?;
         Ok(GapRounds {
             words,
             first,
@@ -71,7 +68,7 @@ impl GapRounds {
 fn rounds_of_classes(
     alloc: Global,
     board: &Board,
-    numbers: &GapNumbers,
+    numbers: &ClassNumbers,
     words: &[u32],
 ) -> Result<Vec<u32>, Memory>
     requires board { numbers.now ≡ board.now }
@@ -89,7 +86,7 @@ fn rounds_of_classes(
 }
 
 /// The word of `gap`: one more than the greatest value of a result of its answers.
-fn round_of_gap(board: &Board, numbers: &GapNumbers, words: &[u32], gap: &[u16]) -> u32
+fn round_of_gap(board: &Board, numbers: &ClassNumbers, words: &[u32], gap: &[u16]) -> u32
     requires board { numbers.now ≡ board.now }
     requires words { AreClassValues board.now words.now }
     requires is_gap { IsClass (places board.now) (board.now.pebbles - 1) gap.now }
@@ -113,7 +110,7 @@ fn round_of_gap(board: &Board, numbers: &GapNumbers, words: &[u32], gap: &[u16])
 /// The word of the result of `label` in `gap`.
 fn word_of_result(
     board: &Board,
-    numbers: &GapNumbers,
+    numbers: &ClassNumbers,
     words: &[u32],
     gap: &[u16],
     label: u16,
@@ -125,22 +122,7 @@ fn word_of_result(
     requires label { label < board.now.labels }
     ensures { result ≡ member_word words.now gap.now label }
 {
-    let mut class = ClassPlaces::of(gap);
-    class.put(label);
+    let mut class = Places::arranged(gap);
+    class.arrange(label);
     words[numbers.number(class.as_slice()) as usize]
-}
-
-/// A number above the rounds of all `words`.
-fn count_rounds(words: &[u32]) -> u32
-    ensures { (index : ℕ) → index < length words.now → slice_index words.now index < OPEN
-        → slice_index words.now index < result }
-{
-    let mut count = 0;
-    for index in 0..words.len() {
-        let word = words[index];
-        if word != OPEN && word >= count {
-            count = word + 1;
-        }
-    }
-    count
 }

@@ -1,27 +1,26 @@
 //! Counting the configurations of the classes that a gap makes with a place that isn't above its
 //! least one, by rows of bits: those of value 0 and those that last for ever are counted at once.
 
-ghost use Rattle.std.specs.Prelude.{◌≡◌, ◌⊎◌, ℕ, ◌+◌, ◌-◌, ◌<◌, ◌≤◌, ◌↔◌, true, List, length};
+ghost use Rattle.std.specs.Prelude.{◌≡◌, ◌*◌, ◌⊎◌, ℕ, ◌+◌, ◌-◌, ◌<◌, ◌≤◌, ◌↔◌, true, List, length};
 ghost use Rattle.std.specs.Prelude.{slice_index};
 ghost use Rattle.board_text.specs.Domination.{has_bit};
-ghost use Rattle.board_text.specs.PlainBoard.{PlainBoard};
+ghost use Rattle.board_text.specs.PlainBoard.{PlainBoard, places};
 ghost use Rattle.classes.specs.ClassGaps.{member_with};
 ghost use Rattle.gap_values.specs.Inside.Counts.{IsAboveRounds, HaveRoom, AreMore};
 ghost use Rattle.gap_values.specs.Inside.Counts.{AreSmallWeights, class_word, once, made_by};
 ghost use Rattle.gap_values.specs.Inside.Counts.{made_by_bits, made_among};
-ghost use Rattle.gap_values.specs.Inside.Families.{IsFamilyOf};
+ghost use Rattle.classes.specs.FamilyWalks.{IsFamilyOf};
 ghost use Rattle.gap_values.specs.Inside.Sets.{AreAtMost, AreGapRounds, AreLabelsUpTo, AreSets};
 ghost use Rattle.gap_values.specs.Inside.Sets.{TellClosed};
 ghost use Rattle.gap_values.specs.Inside.Words.{AreGapWords};
 
 use crate::closing::{OPEN, left_of};
-use crate::families::Family;
-use crate::gap_numbers::GapNumbers;
 use crate::rounds::GapRounds;
 use crate::sizes::{Sizes, first_of_member};
 use crate::weight::FamilyWeights;
-use board_text::MAX_LABELS;
-use positions::LabelSet;
+use board_text::{MAX_LABELS, ROW_WORDS};
+use classes::{ClassNumbers, Family};
+use positions::Labels;
 
 impl Sizes {
     /// Adds `more` configurations of the value that `word` stands for.
@@ -42,24 +41,26 @@ impl Sizes {
 
 /// A gap of a family, by its least place.
 #[derive(Clone, Copy)]
-pub(crate) struct GapOf<'a> {
+pub(crate) struct GapOf<'a, const WORDS: usize> {
     pub(crate) family: &'a Family,
     /// The family of the gap with the least place 0.
     pub(crate) lowest: &'a Family,
     pub(crate) least: u16,
     /// The labels up to the least place.
-    pub(crate) upto: LabelSet,
+    pub(crate) upto: Labels<WORDS>,
 }
 
 /// Adds the configurations of the classes that `gap` makes with a place that isn't above its least
 /// one, which have these `weights`.
-pub(crate) fn count_gap(
-    numbers: &GapNumbers,
-    rounds: &GapRounds,
-    gap: &GapOf<'_>,
+pub(crate) fn count_gap<const WORDS: usize>(
+    numbers: &ClassNumbers,
+    rounds: &GapRounds<WORDS>,
+    gap: &GapOf<'_, WORDS>,
     weights: &FamilyWeights,
     sizes: &mut Sizes,
 )
+    requires narrow { WORDS ≤ ROW_WORDS }
+    requires fits { numbers.now.labels ≤ 64 * WORDS }
     requires some { 2 ≤ numbers.now.pebbles }
     requires rounds { AreGapRounds numbers.now rounds.now }
     requires family { IsFamilyOf numbers.now (numbers.now.pebbles - 2)
@@ -69,12 +70,14 @@ pub(crate) fn count_gap(
     requires lowest_held { gap.now.lowest.now.held
         ≡ member_with gap.now.family.now.held 0 }
     requires least { gap.now.least < gap.now.family.now.size }
-    requires upto { AreLabelsUpTo gap.now.least gap.now.upto }
+    requires upto { gap.now.least + 1 < places numbers.now
+        → AreLabelsUpTo gap.now.least gap.now.upto }
     requires weights { AreSmallWeights weights.now }
     requires above { IsAboveRounds rounds.now.words.items (length sizes.old.finite.items) }
     requires room { HaveRoom 207458501411267280 sizes.old }
     ensures { AreMore sizes.old sizes.new
-        (made_by numbers.now rounds.now.words.items (member_with gap.now.family.now.held gap.now.least)
+        (made_by numbers.now rounds.now.words.items
+        (member_with gap.now.family.now.held gap.now.least)
         (gap.now.least + 1) weights.now) }
 {
     let GapOf {
@@ -95,66 +98,69 @@ pub(crate) fn count_gap(
         sizes.count(0, weights.each * least as u64 + weights.last);
         return;
     }
-    let positive = unclosed(family, least, upto, word, 1, &rounds.first);
-    let lasting = unclosed(family, least, upto, word, OPEN, &rounds.closed);
-    count_by_bits(positive, lasting, least, weights, sizes);
+    let positive = unclosed(family, least, &upto, word, 1, &rounds.first);
+    let lasting = unclosed(family, least, &upto, word, OPEN, &rounds.closed);
+    count_by_bits(&positive, &lasting, least, weights, sizes);
     let middle = positive.without(&lasting);
     if !middle.is_empty() {
         let member = numbers.member_family(family, lowest, least);
-        count_among(numbers, &rounds.words, &member, middle, weights, sizes);
+        count_among(numbers, &rounds.words, &member, &middle, weights, sizes);
     }
 }
 
 /// The labels of `upto` with which the gap of `family` with the least place `least`, whose word is
 /// `word`, makes a class none of whose gaps has a word below `bound`. The `sets` tell of the gaps
 /// with such words.
-fn unclosed(
+fn unclosed<const WORDS: usize>(
     family: &Family,
     least: u16,
-    upto: LabelSet,
+    upto: &Labels<WORDS>,
     word: u32,
     bound: u32,
-    sets: &[LabelSet],
-) -> LabelSet
+    sets: &[Labels<WORDS>],
+) -> Labels<WORDS>
     requires family { (board : PlainBoard) × (2 ≤ board.pebbles)
         × IsFamilyOf board (board.pebbles - 2) family.now × AreSets board sets.now }
     requires least { least < family.now.size }
-    ensures within { (x : ℕ) → x < MAX_LABELS → has_bit result x ≡ true → has_bit upto x ≡ true }
+    ensures within { (x : ℕ) → x < MAX_LABELS → has_bit result x ≡ true
+        → has_bit upto.now x ≡ true }
     ensures labels { (board : PlainBoard) (words : List ℕ) → 2 ≤ board.pebbles
         → IsFamilyOf board (board.pebbles - 2) family.now
         → TellClosed board words bound sets.now → bound ≤ OPEN
         → word ≡ slice_index words (family.now.start + least) → (x : ℕ) → x < board.labels
-        → (has_bit result x ≡ true) ↔ ((has_bit upto x ≡ true)
+        → (has_bit result x ≡ true) ↔ ((has_bit upto.now x ≡ true)
         × (bound ≤ class_word board words (member_with family.now.held least) x)) }
 {
     if word < bound {
-        return LabelSet::below(0);
+        return Labels::below(0);
     }
     let common = upto.without(&sets[family.number as usize]);
-    left_of(family, common, least, sets)
+    left_of(family, &common, least, sets)
 }
 
 /// Adds the configurations of the classes that a gap with the least place `least` makes with the
 /// labels up to it: those that aren't `positive` have the value 0, and those that are `lasting`
 /// last for ever.
-fn count_by_bits(
-    positive: LabelSet,
-    lasting: LabelSet,
+fn count_by_bits<const WORDS: usize>(
+    positive: &Labels<WORDS>,
+    lasting: &Labels<WORDS>,
     least: u16,
     weights: &FamilyWeights,
     sizes: &mut Sizes,
 )
-    requires least { least < MAX_LABELS }
-    requires positive { AreAtMost least positive }
-    requires lasting { AreAtMost least lasting }
+    requires narrow { WORDS ≤ ROW_WORDS }
+    requires least { least < 64 * WORDS }
+    requires positive { AreAtMost least positive.now }
+    requires lasting { AreAtMost least lasting.now }
     requires weights { AreSmallWeights weights.now }
-    requires some { (x : ℕ) → x ≤ least → (has_bit positive x ≡ true → ⊥)
+    requires some { (x : ℕ) → x ≤ least → (has_bit positive.now x ≡ true → ⊥)
         → 0 < length sizes.old.finite.items }
     requires few { length sizes.old.finite.items ≤ OPEN }
     requires room { HaveRoom 300000000000000000 sizes.old }
-    ensures { AreMore sizes.old sizes.new (made_by_bits positive lasting (least + 1) weights.now) }
+    ensures { AreMore sizes.old sizes.new
+        (made_by_bits positive.now lasting.now (least + 1) weights.now) }
 {
-    let only = LabelSet::below(0).with(least);
+    let only = Labels::below(0).with(least);
     let zero = least as u64 - positive.without(&only).len() as u64;
     let forever = lasting.without(&only).len() as u64;
     let ends_at_zero = !positive.contains(least) as u64;
@@ -165,7 +171,7 @@ fn count_by_bits(
 
 /// Adds the configurations of all classes of the family `gap`, each at its word.
 pub(crate) fn count_each(
-    numbers: &GapNumbers,
+    numbers: &ClassNumbers,
     words: &[u32],
     gap: &Family,
     weights: &FamilyWeights,
@@ -187,22 +193,22 @@ pub(crate) fn count_each(
 
 /// Adds the configurations of the classes of the family `gap` whose least places are labels of
 /// `among`, each at its word.
-fn count_among(
-    numbers: &GapNumbers,
+fn count_among<const WORDS: usize>(
+    numbers: &ClassNumbers,
     words: &[u32],
     gap: &Family,
-    among: LabelSet,
+    among: &Labels<WORDS>,
     weights: &FamilyWeights,
     sizes: &mut Sizes,
 )
     requires words { AreGapWords numbers.now words.now }
     requires gap { IsFamilyOf numbers.now (numbers.now.pebbles - 1) gap.now }
-    requires labels { gap.now.size ≤ MAX_LABELS }
+    requires labels { gap.now.size ≤ 64 * WORDS }
     requires weights { AreSmallWeights weights.now }
     requires above { IsAboveRounds words.now (length sizes.old.finite.items) }
     requires room { HaveRoom 300000000000000000 sizes.old }
     ensures { AreMore sizes.old sizes.new
-        (made_among numbers.now words.now gap.now.held gap.now.size weights.now among) }
+        (made_among numbers.now words.now gap.now.held gap.now.size weights.now among.now) }
 {
     for place in 0..gap.size {
         if among.contains(place) {

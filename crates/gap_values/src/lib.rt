@@ -6,22 +6,17 @@ mod closing;
 mod counting;
 #[cfg(test)]
 mod examples;
-mod families;
-mod gap_numbers;
 mod gap_sizes;
-mod held_places;
 mod laws;
 mod rounds;
 mod sizes;
 mod telling;
 mod value_table;
 mod values;
-mod ways_table;
 mod weight;
 
 pub use closing::{OPEN, answer_set};
 pub use counting::{count_gaps, has_few_gaps, kept_bytes};
-pub use gap_numbers::GapNumbers;
 pub use laws::gap_tables_have_values;
 pub use rounds::MAX_GAPS;
 pub use sizes::Sizes;

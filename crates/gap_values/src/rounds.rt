@@ -1,56 +1,102 @@
 //! The rounds in which gaps close.
 
-ghost use Rattle.std.specs.Prelude.{◌≡◌, ◌-◌, ◌<◌, ◌≤◌, ℕ, IfOk, List, OnErr, OnOk, length};
+ghost use Rattle.std.specs.Prelude.{◌≡◌, ◌*◌, ◌-◌, ◌<◌, ◌≤◌, ℕ, IfOk, List, OnErr, OnOk, length};
+ghost use Rattle.std.specs.Prelude.{◌↔◌, IsTrue};
 ghost use Rattle.board_text.specs.PlainBoard.{places};
 ghost use Rattle.classes.specs.Numbers.{ways};
 ghost use Rattle.console.specs.Watching.{AreStepsTold};
-ghost use Rattle.gap_values.specs.Inside.Sets.{AreGapRounds, ArePassed, AreSets};
+ghost use Rattle.gap_values.specs.Inside.Sets.{AreFresh, AreGapRounds, AreGathered, ArePassed};
+ghost use Rattle.gap_values.specs.Inside.Sets.{AreSets};
+ghost use Rattle.gap_values.specs.Inside.Sets.{AreTablesOf, HasRound, IsOfRound};
 ghost use Rattle.gap_values.specs.Inside.Words.{AreGapWords};
 ghost use Rattle.gap_values.specs.Inside.OpenWords.{open_below};
 ghost use Rattle.gap_values.specs.OpenGaps.{AreOpenCounts};
 
 use crate::closing::OPEN;
-use crate::gap_numbers::GapNumbers;
-use crate::telling::tell_round;
-use board_text::{Board, Memory};
+use board_text::{Board, Memory, ROW_WORDS};
+use classes::ClassNumbers;
 use console::Watch;
-use positions::LabelSet;
+use positions::Labels;
 use std::alloc::Global;
 
-/// The rounds in which the gaps of a board close.
+/// The rounds in which the gaps of a board close, with sets of `WORDS` words.
 #[derive(Drop)]
-pub(crate) struct GapRounds {
+pub(crate) struct GapRounds<const WORDS: usize> {
     /// The round of each gap, at its number, or `OPEN`.
     pub(crate) words: Vec<u32>,
     /// For each list of all places but two, the labels with which it is a gap of round 0.
-    pub(crate) first: Vec<LabelSet>,
+    pub(crate) first: Vec<Labels<WORDS>>,
     /// For each list of all places but two, the labels with which it is a gap of any round.
-    pub(crate) closed: Vec<LabelSet>,
+    pub(crate) closed: Vec<Labels<WORDS>>,
 }
 
 /// The largest number of gaps of a board whose values are found.
 pub const MAX_GAPS: u32 = 536_870_912;
 
-/// The rounds in which the gaps of `board` close. In each `close` closes the gaps that are shut,
-/// and before each but the first `watch` tells of it. The error is that memory ran out, and then
-/// nothing was told.
-pub(crate) fn rounds_of_gaps<T, W: Watch<T>, F: Fn(&[LabelSet], u32, Vec<u32>) -> Vec<u32>>(
+/// Makes rounds, with sets of `WORDS` words.
+pub(crate) trait RoundMaker<const WORDS: usize> {
+    // It may start threads, if it does.
+    ghost can_make: { Self → Type 0 };
+
+    /// The number of tables of sets that it tells of closed gaps.
+    ghost tables_of: { Self → ℕ };
+
+    /// The number of tables of sets that it tells of closed gaps, at most 255.
+    fn tables(&self) -> u8
+        requires { can_make self.now }
+        ensures value { result ≡ tables_of self.now }
+        ensures some { 1 ≤ result };
+
+    /// Closes in `round` all open gaps of `board` that are shut by these `sets`, and tells the
+    /// tables `told` of them alone. Returns whether there are any.
+    fn close(
+        &self,
+        board: &Board,
+        numbers: &ClassNumbers,
+        sets: &[Labels<WORDS>],
+        round: u32,
+        words: &mut [u32],
+        told: &mut [Labels<WORDS>],
+    ) -> bool
+        requires can_make { can_make self.now }
+        requires narrow { WORDS ≤ ROW_WORDS }
+        requires fits { board.now.labels ≤ 64 * WORDS }
+        requires board { numbers.now ≡ board.now }
+        requires some { 2 ≤ board.now.pebbles }
+        requires sets { AreSets board.now sets.now }
+        requires round { round < OPEN }
+        requires words { AreGapWords board.now words.old }
+        requires fresh { AreFresh round words.old }
+        requires told { length told.old ≡ tables_of self.now * length sets.now }
+        ensures passed { ArePassed board.now sets.now round 0 0 (length words.old)
+            words.old words.new }
+        ensures told { AreTablesOf board.now (tables_of self.now) (IsOfRound round 0 words.new)
+            told.new }
+        ensures some { IsTrue result ↔ HasRound round words.new };
+
+    /// Adds to each of the `sets` that of its list in each of these tables.
+    fn add(&self, told: &[Labels<WORDS>], sets: &mut [Labels<WORDS>])
+        requires can_make { can_make self.now }
+        requires narrow { WORDS ≤ ROW_WORDS }
+        requires told { length told.now ≡ tables_of self.now * length sets.old }
+        ensures { AreGathered (tables_of self.now) (length sets.old) 0 told.now sets.old sets.new };
+}
+
+/// The rounds in which the gaps of `board` close, made by `maker`. Before each but the first
+/// `watch` tells of it. The error is that memory ran out, and then nothing was told.
+pub(crate) fn rounds_of_gaps<const WORDS: usize, T, W: Watch<T>, M: RoundMaker<WORDS>>(
     alloc: Global,
     board: &Board,
-    numbers: &GapNumbers,
-    close: F,
+    numbers: &ClassNumbers,
+    maker: &M,
     watch: &W,
     told: &mut T,
-) -> Result<GapRounds, Memory>
+) -> Result<GapRounds<WORDS>, Memory>
+    requires can_make { M.can_make maker.now }
+    requires narrow { WORDS ≤ ROW_WORDS }
+    requires fits { board.now.labels ≤ 64 * WORDS }
     requires board { numbers.now ≡ board.now }
     requires few { ways (board.now.pebbles - 1) (places board.now) ≤ MAX_GAPS }
-    requires closes { 2 ≤ board.now.pebbles → (sets : _) → (round : _) → (words : _)
-        → AreSets board.now sets.now → round < OPEN → AreGapWords board.now words.items
-        → F.pre close sets round words }
-    requires closed { (sets : _) → (round : _) → (words : _) → (new : _)
-        → F.post close sets round words new
-        → ArePassed board.now sets.now round 0 0
-        (ways (board.now.pebbles - 1) (places board.now)) words.items new.items }
     ensures rounds { IfOk result (AreGapRounds board.now) }
     ensures told { OnOk result ((counts : List ℕ) × AreOpenCounts board.now counts
         × AreStepsTold (W.tells watch.now) 1 counts told.old told.new) }
@@ -67,15 +113,16 @@ pub(crate) fn rounds_of_gaps<T, W: Watch<T>, F: Fn(&[LabelSet], u32, Vec<u32>) -
     }
     let lists = numbers.ways(board.pebbles() - 2, board.places());
     let mut first = Vec::with_capacity(alloc, lists as usize)?;
-    let mut closed = vec![in alloc; LabelSet::below(0); lists as usize]?;
+    let mut closed = vec![in alloc; Labels::below(0); lists as usize]?;
+    let mut tables = vec![in alloc; Labels::below(0); maker.tables() as usize * lists as usize]?;
     let mut round = 0;
     loop {
-        words = close(&closed, round, words);
-        let goes_on = tell_round(board, numbers, &words, round, &mut closed);
+        let some = maker.close(board, numbers, &closed, round, &mut words, &mut tables);
+        maker.add(&tables, &mut closed);
         if round == 0 {
             first.extend_from_slice(&closed)?;
         }
-        if !goes_on {
+        if !some {
             return Ok(GapRounds {
                 words,
                 first,

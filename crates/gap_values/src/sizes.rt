@@ -1,27 +1,27 @@
 //! How many configurations have a value.
 
-ghost use Rattle.std.specs.Prelude.{◌≡◌, ◌≢◌, ◌+◌, ◌-◌, ◌<◌, ◌≤◌, ℕ, length, slice_index, IfOk};
+ghost use Rattle.std.specs.Prelude.{◌≡◌, ◌*◌, ◌≢◌, ◌+◌, ◌-◌, ◌<◌, ◌≤◌, ℕ, length, IfOk};
+ghost use Rattle.std.specs.Prelude.{slice_index};
 ghost use Rattle.classes.specs.ClassGaps.{member_with};
 ghost use Rattle.gap_values.specs.Sizes.{AreValueCounts};
 ghost use Rattle.gap_values.specs.Inside.Counts.{IsAboveRounds, AreSizesBetween, IsTrimmed};
-ghost use Rattle.gap_values.specs.Inside.Families.{IsFamilyOf};
+ghost use Rattle.classes.specs.FamilyWalks.{IsFamilyOf};
 ghost use Rattle.gap_values.specs.Inside.Sets.{AreGapRounds};
 ghost use Rattle.gap_values.specs.Inside.Words.{least_word, AreGapWords};
 
 use crate::closing::OPEN;
-use crate::families::Family;
-use crate::gap_numbers::GapNumbers;
 use crate::gap_sizes::{GapOf, count_each, count_gap};
 use crate::rounds::GapRounds;
 use crate::weight::{family_weights, gap_weights};
-use board_text::{MAX_LABELS, Memory};
-use positions::LabelSet;
+use board_text::{Memory, ROW_WORDS};
+use classes::{ClassNumbers, Family};
+use positions::Labels;
 use std::alloc::Global;
 use std::thread::{Threads, map_chunks};
 
 /// The least of the words of the gaps of the class of `family` with the least place `least`.
 pub(crate) fn first_of_member(
-    numbers: &GapNumbers,
+    numbers: &ClassNumbers,
     words: &[u32],
     family: &Family,
     least: u16,
@@ -53,18 +53,19 @@ pub struct Sizes {
 
 /// The numbers of configurations of all values, which at most `workers` threads count, each those
 /// of a part. The error is that memory ran out.
-pub(crate) fn sizes_of(
+pub(crate) fn sizes_of<const WORDS: usize>(
     rt: &(impl Threads + Sync),
     alloc: Global,
-    numbers: &GapNumbers,
-    rounds: &GapRounds,
+    numbers: &ClassNumbers,
+    rounds: &GapRounds<WORDS>,
     workers: u8,
 ) -> Result<Sizes, Memory>
+    requires narrow { WORDS ≤ ROW_WORDS }
+    requires fits { numbers.now.labels ≤ 64 * WORDS }
     requires rounds { AreGapRounds numbers.now rounds.now }
     requires workers { 1 ≤ workers }
     ensures { IfOk result (λ sizes. AreValueCounts numbers.now sizes.finite.items sizes.forever) }
 {
-    let _ = numbers.pebbles();
     let bound = rounds_in(&rounds.words);
     let mut sizes = sizes_in_parts(rt, alloc, numbers, rounds, bound, workers)?;
     sizes.trim();
@@ -72,15 +73,16 @@ pub(crate) fn sizes_of(
 }
 
 /// The same, counted on this thread.
-pub(crate) fn sizes_alone(
+pub(crate) fn sizes_alone<const WORDS: usize>(
     alloc: Global,
-    numbers: &GapNumbers,
-    rounds: &GapRounds,
+    numbers: &ClassNumbers,
+    rounds: &GapRounds<WORDS>,
 ) -> Result<Sizes, Memory>
-    requires { AreGapRounds numbers.now rounds.now }
+    requires narrow { WORDS ≤ ROW_WORDS }
+    requires fits { numbers.now.labels ≤ 64 * WORDS }
+    requires rounds { AreGapRounds numbers.now rounds.now }
     ensures { IfOk result (λ sizes. AreValueCounts numbers.now sizes.finite.items sizes.forever) }
 {
-    let _ = numbers.pebbles();
     let bound = rounds_in(&rounds.words);
     let mut sizes = sizes_between(alloc, numbers, rounds, bound, 0, rounds.words.len() as u64)?;
     sizes.trim();
@@ -89,21 +91,22 @@ pub(crate) fn sizes_alone(
 
 /// The numbers of configurations of all values, added up from at most `workers` parts. One worker
 /// is this thread. The error is that memory ran out.
-fn sizes_in_parts(
+fn sizes_in_parts<const WORDS: usize>(
     rt: &(impl Threads + Sync),
     alloc: Global,
-    numbers: &GapNumbers,
-    rounds: &GapRounds,
+    numbers: &ClassNumbers,
+    rounds: &GapRounds<WORDS>,
     bound: u32,
     workers: u8,
 ) -> Result<Sizes, Memory>
+    requires narrow { WORDS ≤ ROW_WORDS }
+    requires fits { numbers.now.labels ≤ 64 * WORDS }
     requires rounds { AreGapRounds numbers.now rounds.now }
     requires bound { IsAboveRounds rounds.now.words.items bound }
     requires workers { 1 ≤ workers }
     ensures { IfOk result (AreSizesBetween numbers.now rounds.now.words.items bound
         0 (length rounds.now.words.items)) }
 {
-    let _ = numbers.pebbles();
     let words = &rounds.words;
     if workers == 1 {
         return sizes_between(alloc, numbers, rounds, bound, 0, words.len() as u64);
@@ -115,6 +118,8 @@ fn sizes_in_parts(
         words,
         size,
         &move |first: usize, part: &[u32]| -> Result<Sizes, Memory>
+            requires narrow { WORDS ≤ ROW_WORDS }
+            requires fits { numbers.now.labels ≤ 64 * WORDS }
             requires rounds { AreGapRounds numbers.now rounds.now }
             requires bound { IsAboveRounds rounds.now.words.items bound }
             requires part { first + length part.now ≤ length rounds.now.words.items }
@@ -144,14 +149,16 @@ fn sizes_in_parts(
 /// The numbers of configurations of all values, of the classes of the gaps from the number `from`
 /// up to the number `to` alone. A class is one of the gap that leaves its least place out. The
 /// error is that memory ran out.
-fn sizes_between(
+fn sizes_between<const WORDS: usize>(
     alloc: Global,
-    numbers: &GapNumbers,
-    rounds: &GapRounds,
+    numbers: &ClassNumbers,
+    rounds: &GapRounds<WORDS>,
     bound: u32,
     from: u64,
     to: u64,
 ) -> Result<Sizes, Memory>
+    requires narrow { WORDS ≤ ROW_WORDS }
+    requires fits { numbers.now.labels ≤ 64 * WORDS }
     requires rounds { AreGapRounds numbers.now rounds.now }
     requires bound { IsAboveRounds rounds.now.words.items bound }
     requires order { from ≤ to }
@@ -181,7 +188,13 @@ fn sizes_between(
 }
 
 /// Adds the classes of the gap of a board of one pebble, if its number is from `from` up to `to`.
-fn count_lone(numbers: &GapNumbers, rounds: &GapRounds, from: u64, to: u64, sizes: &mut Sizes)
+fn count_lone<const WORDS: usize>(
+    numbers: &ClassNumbers,
+    rounds: &GapRounds<WORDS>,
+    from: u64,
+    to: u64,
+    sizes: &mut Sizes,
+)
     requires one { numbers.now.pebbles ≡ 1 }
     requires rounds { AreGapRounds numbers.now rounds.now }
     requires above { IsAboveRounds rounds.now.words.items (length sizes.old.finite.items) }
@@ -200,14 +213,16 @@ fn count_lone(numbers: &GapNumbers, rounds: &GapRounds, from: u64, to: u64, size
 }
 
 /// Adds the classes of the gaps of `family` from the number `low` up to the number `high`.
-fn count_gaps_of(
-    numbers: &GapNumbers,
-    rounds: &GapRounds,
+fn count_gaps_of<const WORDS: usize>(
+    numbers: &ClassNumbers,
+    rounds: &GapRounds<WORDS>,
     family: &Family,
     low: u64,
     high: u64,
     sizes: &mut Sizes,
 )
+    requires narrow { WORDS ≤ ROW_WORDS }
+    requires fits { numbers.now.labels ≤ 64 * WORDS }
     requires some { 2 ≤ numbers.now.pebbles }
     requires rounds { AreGapRounds numbers.now rounds.now }
     requires above { IsAboveRounds rounds.now.words.items (length sizes.old.finite.items) }
@@ -224,10 +239,10 @@ fn count_gaps_of(
 {
     let weights = gap_weights(family);
     let lowest = numbers.lowest_member(family);
-    let mut upto = LabelSet::below((low - family.start) as u16);
+    let mut upto = Labels::below((low - family.start) as u16);
     for number in low..high {
         let least = (number - family.start) as u16;
-        if (least as usize) < MAX_LABELS {
+        if least + 1 < numbers.places() {
             upto = upto.with(least);
         }
         let own = weights.of(least, family.size);

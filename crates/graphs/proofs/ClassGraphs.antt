@@ -10,7 +10,7 @@ use Rattle.board_text.specs.PlainBoard.{PlainBoard, IsBoard, IsConfiguration, pl
 use Rattle.board_text.proofs.Cited.{label_is_place}
 use Rattle.positions.specs.Game.{LabellerTree, moved}
 use Rattle.classes.specs.Classes.{put, class_of, Falls, IsClass}
-use Rattle.classes.specs.Numbers.{ways, class_number}
+use Rattle.classes.specs.Numbers.{ways, number_by_greatest}
 use Rattle.positions.specs.Gaps.{AnswersGap}
 use Rattle.classes.specs.ClassGaps.{gap_at}
 use Rattle.classes.proofs.Cited.{is-below, with-is, with-number, put-none, put-past, put-here, put-is, length-put}
@@ -43,37 +43,37 @@ front place [] falls = put-none place
 front place (next ∷ more) falls = put-here place next more (let low : next < suc place = falls.0 in omega arith)
 
 number-of : (place : ℕ) (others : List ℕ) (n : ℕ) → length others ≡ n
-    → class_number (place ∷ others) ≡ ways (suc n) place + class_number others
-number-of place others n size = ap (λ m. ways (suc m) place + class_number others) size
+    → number_by_greatest (place ∷ others) ≡ ways (suc n) place + number_by_greatest others
+number-of place others n size = ap (λ m. ways (suc m) place + number_by_greatest others) size
 
 pub grows : (bound : ℕ) (gap : List ℕ) (v w : ℕ) → Falls bound gap → v < w
-    → class_number (put v gap) < class_number (put w gap)
+    → number_by_greatest (put v gap) < number_by_greatest (put w gap)
 grows bound [] v w falls less =
-    let low = ap class_number (put-none v) in
-    let high = ap class_number (put-none w) in
+    let low = ap number_by_greatest (put-none v) in
+    let high = ap number_by_greatest (put-none w) in
     let more = more-ways 0 v w less in
     omega arith
 grows bound (first ∷ others) v w falls less = elim (cases_lt w first) [
   | inl below ↦
-      let low = ap class_number (put-past v first others (omega arith))
+      let low = ap number_by_greatest (put-past v first others (omega arith))
       ∙ number-of first (put v others) (suc (length others)) (length-put v others) in
-      let high = ap class_number (put-past w first others below)
+      let high = ap number_by_greatest (put-past w first others below)
       ∙ number-of first (put w others) (suc (length others)) (length-put w others) in
       let rest = grows (suc first) others v w falls.1 less in
       omega arith
   | inr above ↦
-      let high = ap class_number (put-here w first others above)
+      let high = ap number_by_greatest (put-here w first others above)
       ∙ number-of w (first ∷ others) (suc (length others)) refl in
       elim (cases_lt v first) [
         | inl below ↦
-            let low = ap class_number (put-past v first others below)
+            let low = ap number_by_greatest (put-past v first others below)
             ∙ number-of first (put v others) (suc (length others)) (length-put v others) in
             let rest = grows (suc first) others v first falls.1 below in
-            let whole = ap class_number (front first others falls.1) in
+            let whole = ap number_by_greatest (front first others falls.1) in
             let most = ways-more (suc (suc (length others))) first w above in
             omega arith
         | inr most ↦
-            let low = ap class_number (put-here v first others most)
+            let low = ap number_by_greatest (put-here v first others most)
             ∙ number-of v (first ∷ others) (suc (length others)) refl in
             let more = more-ways (suc (length others)) v w less in
             omega arith
@@ -106,7 +106,7 @@ module _ (b : PlainBoard) (is : IsBoard b) where
   member-class g v i j =
       subst (λ n. IsClass bound n (X g v)) some-pebble (put-is bound (P - 1) v (gap_class b g) (gap-is g i) j)
 
-  at-member : (g v : ℕ) → g < ways (P - 1) bound → v < bound → class_at b (class_number (X g v)) ≡ X g v
+  at-member : (g v : ℕ) → g < ways (P - 1) bound → v < bound → class_at b (number_by_greatest (X g v)) ≡ X g v
   at-member g v i j = with-number bound P (X g v) (member-class g v i j)
 
   pub own-class : (c : List ℕ) → IsClass bound P c → class_of c ≡ c
@@ -126,7 +126,7 @@ module _ (b : PlainBoard) (is : IsBoard b) where
     falls = falls-class_of bound c ok.each_place;
   }
 
-  pub class-at-number : (c : List ℕ) → IsConfiguration b c → class_at b (class_number (class_of c)) ≡ class_of c
+  pub class-at-number : (c : List ℕ) → IsConfiguration b c → class_at b (number_by_greatest (class_of c)) ≡ class_of c
   class-at-number c ok = with-number bound P (class_of c) (configuration-class c ok)
 
   -- the gap of a pebble is a gap
@@ -219,7 +219,7 @@ module _ (b : PlainBoard) (is : IsBoard b) where
         one-gap b (gap_at c f.pebble) (gap_class b g) (get_or c f.pebble 0) v is.pairs.one_way (answering c held f)
         answer
         (put-own c f.pebble held f.below ∙ own-class c ok) in
-        ap (λ d. struck_among b d (gap_number d) none P) (at-member g v i j) ∙ f.is ∙ ap class_number same
+        ap (λ d. struck_among b d (gap_number d) none P) (at-member g v i j) ∙ f.is ∙ ap number_by_greatest same
         ∙ (with-is bound (P - 1) g i).number_is
 
     -- a place with which a member is struck in the gap is an answer
@@ -253,8 +253,8 @@ module _ (b : PlainBoard) (is : IsBoard b) where
           get_or c f.pebble 0,
           All-get_or (λ place. place < bound) c f.pebble 0
               (let below = f.below in let size : length c ≡ P = ok.size in omega arith) held.each_place,
-          ap (λ g. class_number (X g (get_or c f.pebble 0))) f.is
-              ∙ ap class_number (member-own c f.pebble held f.below ∙ own-class c ok)
+          ap (λ g. number_by_greatest (X g (get_or c f.pebble 0))) f.is
+              ∙ ap number_by_greatest (member-own c f.pebble held f.below ∙ own-class c ok)
               ∙ (with-is bound P x i).number_is,
         );
   }
@@ -312,7 +312,7 @@ module _ (b : PlainBoard) (is : IsBoard b) where
             get_or c p 0,
             All-get_or (λ place. place < bound) c p 0
                 (let size : length c ≡ P = ok.size in omega arith) held.each_place,
-            ap class_number (member-own c p held low ∙ own-class c ok) ∙ (with-is bound P x i).number_is,
+            ap number_by_greatest (member-own c p held low ∙ own-class c ok) ∙ (with-is bound P x i).number_is,
           ),
           asked-in-gap c p held low,
         );

@@ -6,7 +6,7 @@ use Rattle.board_text.specs.declared.board.TheConstants.{MAX_LABELS}
 use Rattle.board_text.proofs.Cited.{label_is_place}
 use Rattle.classes.specs.Classes.{put, IsClass}
 use Rattle.positions.specs.Gaps.{AnswersGap}
-use Rattle.classes.specs.Numbers.{ways, class_number}
+use Rattle.classes.specs.Numbers.{ways, number_by_greatest}
 use Rattle.classes.specs.Rows.{AreGapRows}
 use Rattle.classes.specs.Walks.{GapMembers, TakesMember}
 use Rattle.classes.proofs.Cited.{with-is}
@@ -31,7 +31,8 @@ module _ (b : PlainBoard) (is : IsBoard b) (g : ℕ) (i : g < ways (b.pebbles - 
       → AreAnswerBits (classes b) g row
   bits-of-row rows row are row_is =
       let number = (with-is (places b) (b.pebbles - 1) g i).number_is in
-      let at : get_or rows (class_number (gap_class b g)) row ≡ row = ap (λ k. get_or rows k row) number ∙ sym row_is in
+      let at : get_or rows (number_by_greatest (gap_class b g)) row ≡ row = ap (λ k. get_or rows k row) number
+      ∙ sym row_is in
       let bits : (v : ℕ) → v < MAX_LABELS → (has_bit row v ≡ true) ↔ AnswersGap b (gap_class b g) v =
       subst (λ (r : List ℕ). (v : ℕ) → v < MAX_LABELS → (has_bit r v ≡ true) ↔ AnswersGap b (gap_class b g) v) at
       (are.each (gap_class b g) row (gap-is b is g i)) in record {
@@ -66,10 +67,10 @@ module _ (s b : PlainBoard) (same : s ≡ b) where
   unfolding graph_by
   places-shown n e = subst (λ (p : PlainBoard). n ≡ places p) same e
 
-  pub member-shown : (g v n : ℕ) → n ≡ class_number (put v (gap_class s g))
+  pub member-shown : (g v n : ℕ) → n ≡ number_by_greatest (put v (gap_class s g))
       → n ≡ (graph_of (numbered b Classes)).member g v
   unfolding graph_by
-  member-shown g v n e = subst (λ (p : PlainBoard). n ≡ class_number (put v (gap_class p g))) same e
+  member-shown g v n e = subst (λ (p : PlainBoard). n ≡ number_by_greatest (put v (gap_class p g))) same e
 
   pub bits-shown : IsBoard s → (g : ℕ) (rows : List (List ℕ)) (row : List ℕ) → g < (graph_of (numbered b Classes)).gaps
       → AreGapRows s (s.pebbles - 1) rows → row ≡ get_or rows g row
@@ -99,7 +100,7 @@ walked b g before after n board gap takes = record {
   gap = ap (λ (w : GapMembers). w.gap) takes.rest ∙ gap;
   place = ap (λ (w : GapMembers). w.place) takes.rest;
   inside = subst (λ (p : PlainBoard). before.place < places p) board takes.is_place;
-  member = takes.number_is ∙ ap (λ l. class_number (put before.place l)) gap;
+  member = takes.number_is ∙ ap (λ l. number_by_greatest (put before.place l)) gap;
 }
 
 -- the places of a gap are a class

@@ -9,7 +9,7 @@ use Rattle.positions.specs.declared.value.Value.{Value}
 use Rattle.positions.proofs.Cited.{rank_below, rank_of-configuration_at, configuration_at-rank_of, configuration_at_is}
 use Rattle.positions.proofs.Cited.{gap_below, member_of-gap_of, own_member}
 use Rattle.classes.specs.Classes.{class_of}
-use Rattle.classes.specs.Numbers.{class_number}
+use Rattle.classes.specs.Numbers.{number_by_greatest}
 use Rattle.classes.proofs.Cited.{is-below, with-is, value-of-class}
 use Rattle.graphs.specs.declared.graph.Numbering.{Numbering}
 use Rattle.graphs.specs.declared.graph.Numbering.TheVariants.{Ordered, Classes}
@@ -29,7 +29,7 @@ pub rank-number : (n : Numbered) (c : List ℕ) → n.numbering ≡ Ordered → 
 unfolding number_by
 rank-number n c e = ap (λ k. number_by k n.board c) e
 
-pub class-number : (n : Numbered) (c : List ℕ) → n.numbering ≡ Classes → number_in n c ≡ class_number (class_of c)
+pub class-number : (n : Numbered) (c : List ℕ) → n.numbering ≡ Classes → number_in n c ≡ number_by_greatest (class_of c)
 unfolding number_by
 class-number n c e = ap (λ k. number_by k n.board c) e
 
@@ -73,7 +73,7 @@ number-again-by : (k : Numbering) (b : PlainBoard) → IsBoard b → (x : ℕ) �
 unfolding graph_by number_by configuration_by
 number-again-by Ordered b is x i = rank_of-configuration_at b x i
 number-again-by Classes b is x i =
-    ap class_number (kinds.own-class b is (class_at b x) (with-is (places b) b.pebbles x i).is)
+    ap number_by_greatest (kinds.own-class b is (class_at b x) (with-is (places b) b.pebbles x i).is)
     ∙ (with-is (places b) b.pebbles x i).number_is
 
 value-by : (k : Numbering) (b : PlainBoard) → IsBoard b → (c : List ℕ) → IsConfiguration b c → (value : Value)
@@ -98,14 +98,14 @@ gap-own-by : (k : Numbering) (b : PlainBoard) → IsBoard b → (c : List ℕ) (
     → (graph_by k b).member (gap_by k b c p) (get_or c p 0) ≡ number_by k b c
 unfolding graph_by gap_by number_by
 gap-own-by Ordered b is c p ok low = ap (rank_of b) (own_member b c p ok low)
-gap-own-by Classes b is c p ok low = ap class_number (kinds.member-own b is c p ok low)
+gap-own-by Classes b is c p ok low = ap number_by_greatest (kinds.member-own b is c p ok low)
 
 gap-moved-by : (k : Numbering) (b : PlainBoard) → IsBoard b → (c : List ℕ) (p v : ℕ) → IsConfiguration b c
     → p < b.pebbles
     → (graph_by k b).member (gap_by k b c p) v ≡ number_by k b (moved c p v)
 unfolding graph_by gap_by number_by
 gap-moved-by Ordered b is c p v ok low = ap (rank_of b) (member_of-gap_of b c p v ok low)
-gap-moved-by Classes b is c p v ok low = ap class_number (kinds.member-moved b is c p v ok low)
+gap-moved-by Classes b is c p v ok low = ap number_by_greatest (kinds.member-moved b is c p v ok low)
 
 gap-legal-by : (k : Numbering) (b : PlainBoard) → IsBoard b → (c : List ℕ) (p v : ℕ) → IsConfiguration b c
     → p < b.pebbles

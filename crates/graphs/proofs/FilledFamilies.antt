@@ -10,8 +10,9 @@ use Rattle.std.proofs.lemmas.List.Elements.{All-from_get_or, All-get_or}
 use Rattle.board_text.specs.PlainBoard.{PlainBoard, IsBoard, DominatesPlace, places}
 use Rattle.board_text.specs.Domination.{has_bit}
 use Rattle.board_text.specs.declared.board.TheConstants.{MAX_LABELS}
-use Rattle.classes.specs.Classes.{Falls, IsClass}
-use Rattle.classes.specs.Numbers.{ways}
+use Rattle.positions.specs.declared.space.TheConstants.{MAX_CONFIGURATIONS}
+use Rattle.classes.specs.Classes.{put, Falls, IsClass}
+use Rattle.classes.specs.Numbers.{class_count, number_by_greatest, ways}
 use Rattle.positions.specs.Gaps.{AnswersGap}
 use Rattle.graphs.specs.Answers.{AreAnswerBits}
 use Rattle.graphs.specs.ClassGraph.{gap_class, classes}
@@ -22,10 +23,23 @@ use Rattle.graphs.specs.declared.families.Family.{Family}
 use Rattle.graphs.specs.Inside.Families.{family_start, family_size, IsDominatorAt, HasNoDominator, IsFamilyDominator}
 use Rattle.graphs.specs.Inside.Families.{IsFamily}
 use Rattle.graphs.specs.Inside.Tables.{IsStruckTable}
+use Rattle.classes.proofs.Cited.{is-below, put-is, remove-is, ways-small}
 use Rattle.classes.proofs.Cited.{first-family, last-family, least-below, least-some, next-family, some-ways}
 use Rattle.graphs.proofs.ClassGraphs.{gap-is, classes-is}
 use Rattle.graphs.proofs.ClassTables.{answer-of, answer-in}
 use Rattle.graphs.proofs.StruckFamilies.{struck-own, struck-left, struck-no, one-dominator, some-place}
+
+-- the number of a gap of a family's first class fits, on a board of few classes
+pub rest-small : (b : PlainBoard) → IsBoard b → class_count b ≤ MAX_CONFIGURATIONS → (held : List ℕ)
+    → suc (length held) ≡ b.pebbles → IsClass (places b) (length held) held → (index : ℕ) → index < length held
+    → (rest : ℕ) → rest ≡ number_by_greatest (put 0 (remove held index)) → rest ≤ MAX_CONFIGURATIONS
+rest-small b is few held size class index inside rest rest_is =
+    let count : ℕ = length held - 1 in
+    let gap = put-is (places b) count 0 (remove held index)
+    (remove-is (places b) held index count inside class (omega arith)) (some-place b is) in
+    let below = is-below (places b) (suc count) (put 0 (remove held index)) gap in
+    let most = ways-small b (suc count) (places b) is few (omega arith) (omega arith) in
+    omega (arith, below, most, rest_is)
 
 -- a fact of all places but the one at an index
 pub of-others : (P : ℕ → Type 0) (list : List ℕ) (index : ℕ) → index < length list

@@ -8,10 +8,10 @@ use Rattle.std.proofs.lemmas.List.Edits.{remove-append_left, remove-append_right
 use Rattle.std.proofs.lemmas.List.Elements.{All-append, All-nil, All-cons, All-head, All-tail}
 use Rattle.board_text.specs.PlainBoard.{PlainBoard, IsBoard, IsConfiguration, DominatesPlace, places}
 use Rattle.classes.specs.Classes.{put, Falls, IsClass}
-use Rattle.classes.specs.Numbers.{ways, class_number}
+use Rattle.classes.specs.Numbers.{ways, number_by_greatest}
 use Rattle.positions.specs.Gaps.{AnswersGap}
 use Rattle.classes.specs.ClassGaps.{gap_at, index_in}
-use Rattle.classes.proofs.Places.{falls-more, index-put, others-put}
+use Rattle.classes.proofs.PutPlaces.{falls-more, index-put, others-put}
 use Rattle.classes.proofs.Ways.{ways-one}
 use Rattle.classes.proofs.Cited.{is-below, with-is, with-number, class_of-class, class_of-own, one-gap, place-cancel}
 use Rattle.classes.proofs.Cited.{place-below}
@@ -28,7 +28,7 @@ abbrev with_least : List ℕ → ℕ → List ℕ
 with_least gap place = gap ++ (place ∷ [])
 
 number-least : (gap : List ℕ) (place : ℕ)
-    → class_number (with_least gap place) ≡ class_number (with_least gap 0) + place
+    → number_by_greatest (with_least gap place) ≡ number_by_greatest (with_least gap 0) + place
 number-least [] place = omega (arith, ways-one place, ways-one 0)
 number-least (first ∷ others) place =
     let rest = number-least others place in
@@ -133,7 +133,7 @@ module _ (b : PlainBoard) (is : IsBoard b) where
     gap-remove p = class_of-class bound (remove c p) (falls-remove bound p c ok.falls)
 
     struck-of-pebble : (p : ℕ) → p < P → AnswersGap b (remove c p) (get_or c p 0)
-        → (classes b).struck (class_number c) ≡ class_number (remove c p)
+        → (classes b).struck (number_by_greatest c) ≡ number_by_greatest (remove c p)
     struck-of-pebble p low answer =
         let g : ℕ = gap_number c p in
         let v : ℕ = get_or c p 0 in
@@ -142,9 +142,9 @@ module _ (b : PlainBoard) (is : IsBoard b) where
         let there = struck-there b is g v i (
         let all = ok.falls in place-in p low
         ) (subst (λ h. AnswersGap b h v) (sym same) answer) in
-        let number : (classes b).member g v ≡ class_number c =
-        ap class_number (member-own b is c p held low ∙ own-class b is c ok) in
-        ap (classes b).struck (sym number) ∙ there ∙ ap class_number (gap-remove p)
+        let number : (classes b).member g v ≡ number_by_greatest c =
+        ap number_by_greatest (member-own b is c p held low ∙ own-class b is c ok) in
+        ap (classes b).struck (sym number) ∙ there ∙ ap number_by_greatest (gap-remove p)
       where
         place-in : (p : ℕ) → p < P → get_or c p 0 < bound
         place-in p low =
@@ -152,9 +152,9 @@ module _ (b : PlainBoard) (is : IsBoard b) where
             place-below bound c p ok.falls (omega arith)
 
     struck-of-none : ((p : ℕ) → p < P → AnswersGap b (remove c p) (get_or c p 0) → ⊥)
-        → (classes b).struck (class_number c) ≡ gaps
+        → (classes b).struck (number_by_greatest c) ≡ gaps
     struck-of-none none =
-        let x : ℕ = class_number c in
+        let x : ℕ = number_by_greatest c in
         let below = is-below bound P c ok in
         let most = (classes-is b is).struck_most x below in
         let at : class_at b x ≡ c = with-number bound P c ok in
@@ -201,8 +201,8 @@ module _ (b : PlainBoard) (is : IsBoard b) where
     some-held : (p : ℕ) → p < length h → get_or c p 0 ≡ get_or h p 0
     some-held p inside = get_or_append_left h (v ∷ []) 0 p inside
 
-    number : class_number c ≡ x
-    number = ap class_number (sym put-is-least) ∙ number-of-least bound (P - 1) v h (some-place b is) own low
+    number : number_by_greatest c ≡ x
+    number = ap number_by_greatest (sym put-is-least) ∙ number-of-least bound (P - 1) v h (some-place b is) own low
 
     pub struck-own : AnswersGap b h v → (classes b).struck x ≡ g
     struck-own answer =
@@ -210,18 +210,18 @@ module _ (b : PlainBoard) (is : IsBoard b) where
         ∙ struck-of-pebble c ok (length h) (let size = n in omega arith)
         (subst (λ w. AnswersGap b (remove c (length h)) w) (sym (last-place h v))
         (subst (λ l. AnswersGap b l v) (sym (last-gap h v)) answer))
-        ∙ ap class_number (last-gap h v) ∙ (with-is bound (P - 1) g i).number_is
+        ∙ ap number_by_greatest (last-gap h v) ∙ (with-is bound (P - 1) g i).number_is
 
     pub struck-left : (p : ℕ) → p < length h → IsDominatorAt b h p → DominatesPlace b (get_or h p 0) v
-        → (classes b).struck x ≡ class_number (put 0 (remove h p)) + v
+        → (classes b).struck x ≡ number_by_greatest (put 0 (remove h p)) + v
     struck-left p inside dominates beaten =
         ap (classes b).struck (sym number)
         ∙ struck-of-pebble c ok p (let size = n in omega arith)
         (subst (λ w. AnswersGap b (remove c p) w) (sym (some-held p inside))
         (subst (λ l. AnswersGap b l (get_or h p 0)) (sym (some-gap p inside))
         (answers-more b (remove h p) v (get_or h p 0) dominates beaten)))
-        ∙ ap class_number (some-gap p inside) ∙ number-least (remove h p) v
-        ∙ ap (λ l. class_number l + v) (sym (put-zero b is (remove h p) (falls-remove bound p h own.falls)))
+        ∙ ap number_by_greatest (some-gap p inside) ∙ number-least (remove h p) v
+        ∙ ap (λ l. number_by_greatest l + v) (sym (put-zero b is (remove h p) (falls-remove bound p h own.falls)))
 
     pub struck-no : (AnswersGap b h v → ⊥)
         → ((p : ℕ) → p < length h → IsDominatorAt b h p → DominatesPlace b (get_or h p 0) v → ⊥)
@@ -244,7 +244,7 @@ module _ (b : PlainBoard) (is : IsBoard b) where
     -- ---- all gaps of the class
 
     pub own-member : (classes b).member g v ≡ x
-    own-member = ap class_number put-is-least ∙ number
+    own-member = ap number_by_greatest put-is-least ∙ number
 
     remove-is : (p : ℕ) → p < length c → IsClass bound (P - 1) (remove c p)
     remove-is p inside =
@@ -252,15 +252,16 @@ module _ (b : PlainBoard) (is : IsBoard b) where
         let size : length c ≡ P = ok.size in
         record { size = omega arith; falls = falls-remove bound p c ok.falls }
 
-    pub other-gap : (p : ℕ) → p < length h → class_number (remove c p) ≡ class_number (put 0 (remove h p)) + v
+    pub other-gap : (p : ℕ) → p < length h → number_by_greatest (remove c p)
+        ≡ number_by_greatest (put 0 (remove h p)) + v
     other-gap p inside =
-        ap class_number (some-gap p inside) ∙ number-least (remove h p) v
-        ∙ ap (λ l. class_number l + v) (sym (put-zero b is (remove h p) (falls-remove bound p h own.falls)))
+        ap number_by_greatest (some-gap p inside) ∙ number-least (remove h p) v
+        ∙ ap (λ l. number_by_greatest l + v) (sym (put-zero b is (remove h p) (falls-remove bound p h own.falls)))
 
     long : length c ≡ length h + 1
     long = let size : length c ≡ P = ok.size in let one = n in omega arith
 
-    pub other-below : (p : ℕ) → p < length h → class_number (put 0 (remove h p)) + v < gaps
+    pub other-below : (p : ℕ) → p < length h → number_by_greatest (put 0 (remove h p)) + v < gaps
     other-below p inside =
         let all = long in
         let below = is-below bound (P - 1) (remove c p) (remove-is p (omega arith)) in
@@ -268,18 +269,18 @@ module _ (b : PlainBoard) (is : IsBoard b) where
         omega arith
 
     pub other-member : (p : ℕ) → p < length h
-        → (classes b).member (class_number (put 0 (remove h p)) + v) (get_or h p 0) ≡ x
+        → (classes b).member (number_by_greatest (put 0 (remove h p)) + v) (get_or h p 0) ≡ x
     other-member p inside =
         let all = long in
         let low : p < length c = omega arith in
-        let gap_is : gap_class b (class_number (put 0 (remove h p)) + v) ≡ remove c p =
+        let gap_is : gap_class b (number_by_greatest (put 0 (remove h p)) + v) ≡ remove c p =
         ap (gap_class b) (sym (other-gap p inside)) ∙ with-number bound (P - 1) (remove c p) (remove-is p low) in
-        ap (λ l. class_number (put (get_or h p 0) l)) gap_is
-        ∙ ap (λ w. class_number (put w (remove c p))) (sym (some-held p inside))
-        ∙ ap class_number (put-back bound c p ok.falls low) ∙ number
+        ap (λ l. number_by_greatest (put (get_or h p 0) l)) gap_is
+        ∙ ap (λ w. number_by_greatest (put w (remove c p))) (sym (some-held p inside))
+        ∙ ap number_by_greatest (put-back bound c p ok.falls low) ∙ number
 
     pub only-gaps : (other w : ℕ) → other < gaps → w < bound → (classes b).member other w ≡ x
-        → (other ≡ g) ⊎ ((p : ℕ) × (p < length h) × (other ≡ class_number (put 0 (remove h p)) + v))
+        → (other ≡ g) ⊎ ((p : ℕ) × (p < length h) × (other ≡ number_by_greatest (put 0 (remove h p)) + v))
     only-gaps other w low inside same =
         let gap : List ℕ = gap_class b other in
         let is_gap : IsClass bound (P - 1) gap = gap-is b is other low in
@@ -292,13 +293,13 @@ module _ (b : PlainBoard) (is : IsBoard b) where
         let p : ℕ = index_in w c in
         let left : remove c p ≡ gap = ap (λ l. remove l (index_in w l)) (sym class_is) ∙ others-put w gap in
         let at : p < length c = subst (λ l. index_in w l < length l) class_is (index-put w gap) in
-        let own_number : other ≡ class_number (remove c p) =
-        sym (with-is bound (P - 1) other low).number_is ∙ ap class_number (sym left) in
+        let own_number : other ≡ number_by_greatest (remove c p) =
+        sym (with-is bound (P - 1) other low).number_is ∙ ap number_by_greatest (sym left) in
         let all = long in
         elim (cases_lt p (length h)) [
           | inl before ↦ inr (p, before, own_number ∙ other-gap p before)
           | inr last ↦
               let here : p ≡ length h = omega arith in
-              inl (own_number ∙ ap (λ k. class_number (remove c k)) here ∙ ap class_number (last-gap h v)
+              inl (own_number ∙ ap (λ k. number_by_greatest (remove c k)) here ∙ ap number_by_greatest (last-gap h v)
               ∙ (with-is bound (P - 1) g i).number_is)
         ]

@@ -11,7 +11,7 @@ use Rattle.std.proofs.lemmas.List.{length-take-le, length-drop, get_or-take, get
 use Rattle.std.proofs.lemmas.Slice.{drop-put_mid}
 use Rattle.board_text.specs.PlainBoard.{PlainBoard, IsBoard, places}
 use Rattle.classes.specs.Classes.{put}
-use Rattle.classes.specs.Numbers.{class_number, ways}
+use Rattle.classes.specs.Numbers.{number_by_greatest, ways}
 use Rattle.classes.proofs.Cited.{least-some, least-within}
 use Rattle.classes.proofs.Cited.{place-below}
 use Rattle.graphs.specs.ClassGraph.{classes, gap_class}
@@ -126,7 +126,7 @@ module _ (b : PlainBoard) (is : IsBoard b) (gap start : ℕ) (low : gap < ways (
   }
 
   module _ (rests : List ℕ) (are : (p : ℕ) → p < length h
-      → get_or rests p 0 ≡ class_number (put 0 (remove h p))) where
+      → get_or rests p 0 ≡ number_by_greatest (put 0 (remove h p))) where
     pub rest-below : (p v : ℕ) → p < length h → v < length old
         → get_or rests p 0 + v < ways (b.pebbles - 1) (places b)
     rest-below p v first below =

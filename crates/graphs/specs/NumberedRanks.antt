@@ -4,7 +4,7 @@ use Rattle.board_text.specs.PlainBoard.{PlainBoard}
 use Rattle.positions.specs.Gaps.{gap_of}
 use Rattle.positions.specs.Ranks.{rank_of}
 use Rattle.classes.specs.Classes.{class_of}
-use Rattle.classes.specs.Numbers.{class_number}
+use Rattle.classes.specs.Numbers.{number_by_greatest}
 use Rattle.graphs.specs.declared.graph.Numbering.{Numbering}
 use Rattle.graphs.specs.declared.graph.Numbering.TheVariants.{Ordered, Classes}
 use Rattle.graphs.specs.ClassGraph.{gap_number}
@@ -12,7 +12,7 @@ use Rattle.graphs.specs.Numbered.{Numbered}
 
 unfoldable pub number_by : Numbering → PlainBoard → List ℕ → ℕ
 number_by Ordered board configuration = rank_of board configuration
-number_by Classes board configuration = class_number (class_of configuration)
+number_by Classes board configuration = number_by_greatest (class_of configuration)
 
 -- the number of a configuration: its rank, or the number of its class
 abbrev pub number_in : Numbered → List ℕ → ℕ

@@ -12,7 +12,7 @@ ghost use Rattle.graphs.specs.Stuck.{AreStuckZeroed};
 ghost use Rattle.graphs.specs.declared.graph.Numbering.TheVariants.{Ordered};
 ghost use Rattle.graphs.specs.declared.graph.Numbering.TheVariants.{Classes as ClassesData};
 
-use crate::class_numbers::ClassNumbers;
+use crate::listed_classes::ListedClasses;
 use crate::numbers::{MAX_PLACES, Numbers, Tables, all_struck};
 use crate::ordered_numbers::OrderedNumbers;
 use board_text::{Board, Memory};
@@ -35,7 +35,7 @@ pub enum Numbering {
 #[derive(Drop)]
 pub(crate) enum Finder {
     Ranks(OrderedNumbers),
-    Classes(ClassNumbers),
+    Classes(ListedClasses),
 }
 
 /// A game as numbers: the members of each gap, which are found whenever they are asked for, and a
@@ -95,13 +95,13 @@ impl Graph {
         requires { configurations board.now ≤ MAX_CONFIGURATIONS }
         ensures { IfOk result (λ graph. graph ≡ numbered board.now ClassesData) }
     {
-        let numbers = ClassNumbers::of(alloc, board)?;
+        let numbers = ListedClasses::of(alloc, board)?;
         let struck = numbers.all_struck(alloc, board)?;
         Ok(Graph::with_classes(numbers, struck))
     }
 
     /// The graph of these classes, of which this is the table `struck`.
-    fn with_classes(numbers: ClassNumbers, struck: Vec<u32>) -> Graph
+    fn with_classes(numbers: ListedClasses, struck: Vec<u32>) -> Graph
         requires { IsStruckTable (graph_of (numbered numbers ClassesData)) struck.items }
         ensures { result ≡ numbered numbers ClassesData }
     {
@@ -214,7 +214,7 @@ impl Graph {
     }
 
     /// The gap in which `configuration` is an answer, if there is one.
-    pub fn struck(&self, configuration: u32) -> Option<u32>
+    pub fn answered_gap(&self, configuration: u32) -> Option<u32>
         requires { configuration < (graph_of self.now).configurations }
         ensures { MatchOption result
             ((graph_of self.now).gaps ≤ (graph_of self.now).struck configuration)

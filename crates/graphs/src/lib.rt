@@ -2,10 +2,10 @@
 //! each configuration is an answer.
 #![tactic(auto)]
 
-mod class_numbers;
 mod families;
 mod graph;
 mod laws;
+mod listed_classes;
 mod numbers;
 mod ordered_numbers;
 mod stuck;

@@ -11,7 +11,7 @@
 
 ghost use Rattle.std.specs.Prelude.{◌≡◌, [], false};
 ghost use Rattle.std.specs.Process.{exit_status};
-ghost use Rattle.serving.specs.Consoles.{IsReady};
+ghost use Rattle.serving.specs.Consoles.{IsReady, serving_of};
 ghost use Rattle.serving.specs.Folders.{Unknown};
 ghost use Rattle.runs.specs.Run.{stream_of};
 ghost use Rattle.serving.specs.Serving.{ServesAnyWords};
@@ -58,10 +58,10 @@ fn serve_owned<I: Source, O: Sink, E: Sink>(
     requires errors_ready { E.has_failed console.old.errors ≡ false }
     ensures { (words : AllWords) × Gives owned.now words
         × ServesAnyWords (λ _. Unknown) console.old.terminals
-        (stream_of I.remaining I.has_failed console.old.input console.new.input)
+        (serving_of (stream_of I.remaining I.has_failed console.old.input console.new.input)
         (stream_of O.contents O.has_failed console.old.output console.new.output)
         (stream_of E.contents E.has_failed console.old.errors console.new.errors)
-        (exit_status result) words }
+        (exit_status result)) words }
 {
     let mut texts = Vec::new(alloc);
     let words = owned.borrowed(&mut texts);

@@ -7,9 +7,9 @@ use Rattle.std.specs.Io.KnownBytes.{Consumes}
 use Rattle.std.proofs.lemmas.List.{take_all, drop_more}
 use Rattle.std.proofs.lemmas.List.Elements.{All-take}
 use lib.Seq.{take-take}
-use Rattle.board_text.specs.Streams.{GaveAll}
+use Rattle.board_text.specs.Streams.{Bytes, GaveAll, GaveNext}
 use Rattle.board_text.specs.LineForms.{with_line_feed}
-use Rattle.board_text.proofs.Cited.{Consumes-trans}
+use Rattle.board_text.proofs.Cited.{Consumes-trans, between}
 use Rattle.player.specs.Words.{HasNoFeed, IsLine, BeginsTooLong}
 use Rattle.player.specs.Inside.Words.{Spells}
 use Rattle.player.specs.Inside.LineInput.{Unread, GivesLine}
@@ -42,13 +42,12 @@ cut bytes size inside feed =
     ∙ sym (append_assoc (take size bytes) (10 ∷ []) (drop (size + 1) bytes))
 
 -- a line with its line feed was taken
-pub closed_line : (old now new : Unread) (left_old left_new : Option (List ℕ)) (more : List ℕ) (size : ℕ)
-    (word : LineMeaning)
-    → old.has_ended ≡ false → now.bytes ≡ old.bytes ++ more → Consumes left_old left_new more → now.has_ended ≡ false
+pub closed_line : (old now new : Unread) (left : Bytes) (more : List ℕ) (size : ℕ) (word : LineMeaning)
+    → old.has_ended ≡ false → now.bytes ≡ old.bytes ++ more → GaveNext left more → now.has_ended ≡ false
     → size ≤ MOST_BYTES → size < length now.bytes → HasNoFeed (take size now.bytes) → slice_index now.bytes size ≡ 10
     → Spells (take size now.bytes) word → new.bytes ≡ drop (size + 1) now.bytes → new.has_ended ≡ now.has_ended
-    → GivesLine old new left_old left_new (Some word)
-closed_line old now new left_old left_new more size word began grown read goes_on short inside no_feed feed spells rest
+    → GivesLine old new left (Some word)
+closed_line old now new left more size word began grown read goes_on short inside no_feed feed spells rest
     same = (
       take size now.bytes,
       began,
@@ -67,13 +66,13 @@ closed_line old now new left_old left_new more size word began grown read goes_o
 pub last_line : (old now seen new : Unread) (left_old left_now left_new : Option (List ℕ)) (more : List ℕ)
     (found : Option LineMeaning)
     → old.has_ended ≡ false → now.bytes ≡ old.bytes ++ more → Consumes left_old left_now more → IsLine now.bytes
-    → seen.bytes ≡ now.bytes → GaveAll left_now left_new [] → seen.has_ended ≡ true
+    → seen.bytes ≡ now.bytes → GaveAll (between left_now left_new) [] → seen.has_ended ≡ true
     → new.bytes ≡ [] → new.has_ended ≡ seen.has_ended
     → MatchOption found (seen.bytes ≡ []) (λ word. Spells seen.bytes word × (seen.bytes ≢ []))
-    → GivesLine old new left_old left_new found
+    → GivesLine old new (between left_old left_new) found
 last_line old now seen new left_old left_now left_new more found began grown read is_line same end ended empty stays
     says =
-    let all : GaveAll left_old left_new more = (
+    let all : GaveAll (between left_old left_new) more = (
       subst (Consumes left_old left_new) (append-nil more)
           (Consumes-trans left_old left_now left_new more [] read end.0),
       end.1,
@@ -83,7 +82,8 @@ last_line old now seen new left_old left_now left_new more found began grown rea
   where
     given : (found : Option LineMeaning)
         → MatchOption found (seen.bytes ≡ []) (λ word. Spells seen.bytes word × (seen.bytes ≢ []))
-        → GaveAll left_old left_new more → old.bytes ++ more ≡ seen.bytes → GivesLine old new left_old left_new found
+        → GaveAll (between left_old left_new) more → old.bytes ++ more ≡ seen.bytes
+        → GivesLine old new (between left_old left_new) found
     given None says all taken =
         record { more = more; read = all; taken = taken ∙ says; nothing_left = empty; ends = stays ∙ ended }
     given (Some word) says all taken = (

@@ -81,8 +81,8 @@ module _ (pebbles : ℕ) (Answers : ℕ → List ℕ → Standing → Type 0) (a
     (one_answer : (pebble : ℕ) (said other : List ℕ) (to next : Standing) → Answers pebble said to
     → Answers pebble other next → AreSame said other to next) where
   same_replies_to_line : (line said other : List ℕ) (to next : Standing)
-      → RepliesToLine pebbles Answers at requests line said to
-      → RepliesToLine pebbles Answers at requests line other next → AreSame said other to next
+      → RepliesToLine pebbles Answers (Going at requests) line said to
+      → RepliesToLine pebbles Answers (Going at requests) line other next → AreSame said other to next
   same_replies_to_line line said other to next (inl one) (inl two) =
       let same : one.0 ≡ two.0 = decimal_injective one.0 two.0 (omega (arith, one.1, few)) (omega (arith, two.1, few))
       (sym one.2 ∙ two.2) in

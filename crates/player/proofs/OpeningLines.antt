@@ -3,8 +3,8 @@ use Rattle.std.proofs.Common.{◌≡◌, ℕ, List, [], ◌++◌, inl, inr, refl
 use Rattle.std.proofs.Common.{append_assoc}
 use Rattle.std.specs.Prelude.{Option, None, Some}
 use Rattle.std.specs.Io.KnownBytes.{Appends, Keeps}
-use Rattle.board_text.specs.Streams.{AppendsPrefix}
-use Rattle.board_text.proofs.Cited.{Appends-trans}
+use Rattle.board_text.specs.Streams.{AppendsAll, AppendsPrefix, AreAsBefore, Bytes}
+use Rattle.board_text.proofs.Cited.{Appends-trans, between}
 use Rattle.player.specs.Transcript.{Going, Over, Standing, Stops}
 use Rattle.player.specs.Play.{Ends, GoesOnOrEnds, HasEnded, HasWritten, BreaksOff}
 use Rattle.player.specs.declared.end.PlayEnd.{PlayEnd}
@@ -42,22 +42,22 @@ module _ (Brings Played : List (List ℕ) → List ℕ → Standing → Type 0) 
       inl (going.0, going.1, played lines more (Going going.0 going.1) going.2)
   goes_on_or_ends_too left lines rest more (inr over) = inr (over.0, ends left lines rest more over.0 over.1)
 
-  module _ (left_old left_new taken_old taken_now taken_new : Option (List ℕ))
+  module _ (left : Bytes) (taken_old taken_now taken_new : Option (List ℕ))
       (written : Appends taken_old taken_now opening) where
-    pub has_ended : (end : PlayEnd) → HasEnded Brings left_old left_new taken_now taken_new end
-        → HasEnded Played left_old left_new taken_old taken_new end
+    pub has_ended : (end : PlayEnd) → HasEnded Brings left (between taken_now taken_new) end
+        → HasEnded Played left (between taken_old taken_new) end
     has_ended end h = (
       h.0,
       h.1,
       opening ++ h.2,
       h.3,
-      ends left_new h.0 h.1 h.2 end h.4,
+      ends left.new h.0 h.1 h.2 end h.4,
       Appends-trans taken_old taken_now taken_new opening h.2 written h.5,
     )
 
     has_written : (Waits : List (List ℕ) → List ℕ → Type 0)
-        → HasWritten Brings left_old left_new taken_now taken_new Waits
-        → HasWritten Played left_old left_new taken_old taken_new Waits
+        → HasWritten Brings left (between taken_now taken_new) Waits
+        → HasWritten Played left (between taken_old taken_new) Waits
     has_written Waits h = (
       h.0,
       h.1,
@@ -70,54 +70,54 @@ module _ (Brings Played : List (List ℕ) → List ℕ → Standing → Type 0) 
       Appends-trans taken_old taken_now taken_new opening h.2 written h.8,
     )
 
-    behind : (text : List ℕ) → AppendsPrefix taken_now taken_new text
-        → AppendsPrefix taken_old taken_new (opening ++ text)
+    behind : (text : List ℕ) → AppendsPrefix (between taken_now taken_new) text
+        → AppendsPrefix (between taken_old taken_new) (opening ++ text)
     behind text begun = front_behind taken_old taken_now taken_new opening text written begun
 
-    pub breaks_off : (fault : PlayFault) → BreaksOff Brings left_old left_new taken_now taken_new fault
-        → BreaksOff Played left_old left_new taken_old taken_new fault
+    pub breaks_off : (fault : PlayFault) → BreaksOff Brings left (between taken_now taken_new) fault
+        → BreaksOff Played left (between taken_old taken_new) fault
     breaks_off Read h = has_written _ h
     breaks_off Limit h = has_written _ h
-    breaks_off Write h = (h.0, h.1, opening ++ h.2, h.3, goes_on_or_ends_too left_new h.0 h.1 h.2 h.4, behind h.2 h.5)
-    breaks_off Memory h = (h.0, h.1, opening ++ h.2, h.3, goes_on_or_ends_too left_new h.0 h.1 h.2 h.4, behind h.2 h.5)
+    breaks_off Write h = (h.0, h.1, opening ++ h.2, h.3, goes_on_or_ends_too left.new h.0 h.1 h.2 h.4, behind h.2 h.5)
+    breaks_off Memory h = (h.0, h.1, opening ++ h.2, h.3, goes_on_or_ends_too left.new h.0 h.1 h.2 h.4, behind h.2 h.5)
 
 -- no line has been read
 module _ (Played : List (List ℕ) → List ℕ → Standing → Type 0) (opening : List ℕ) (first : Standing)
     (alone : Played [] opening first) where
   -- nothing was written
-  pub unopened : (left taken_old taken_new : Option (List ℕ)) → Keeps taken_old taken_new
-      → BreaksOff Played left left taken_old taken_new Memory
-  unopened left taken_old taken_new kept = (
+  pub unopened : (left : Option (List ℕ)) (taken : Bytes) → AreAsBefore taken
+      → BreaksOff Played (between left left) taken Memory
+  unopened left taken kept = (
     [],
     [],
     opening,
-    came_of left left [] _ (omega arith) (none_yet left),
+    came_of (between left left) [] _ (omega arith) (none_yet left),
     goes_on_or_ends Played left [] [] opening first alone,
-    front_kept taken_old taken_old taken_new [] opening (Appends-none taken_old) kept,
+    front_kept taken.old taken.old taken.new [] opening (Appends-none taken.old) kept,
   )
 
   -- the play is over before a line is read
-  pub over_at_once : (left taken_old taken_new : Option (List ℕ)) (end : PlayEnd) → first ≡ Over end
-      → Appends taken_old taken_new opening → HasEnded Played left left taken_old taken_new end
-  over_at_once left taken_old taken_new end over written = (
+  pub over_at_once : (left : Option (List ℕ)) (taken : Bytes) (end : PlayEnd) → first ≡ Over end
+      → AppendsAll taken opening → HasEnded Played (between left left) taken end
+  over_at_once left taken end over written = (
     [],
     [],
     opening,
-    came_of left left [] _ (omega arith) (none_yet left),
+    came_of (between left left) [] _ (omega arith) (none_yet left),
     inl (subst (Played [] opening) over alone),
     written,
   )
 
   -- the opening wasn't written whole
-  pub unshown_opening : (left taken_old taken_new : Option (List ℕ)) → AppendsPrefix taken_old taken_new opening
-      → BreaksOff Played left left taken_old taken_new Write
-  unshown_opening left taken_old taken_new begun = (
+  pub unshown_opening : (left : Option (List ℕ)) (taken : Bytes) → AppendsPrefix taken opening
+      → BreaksOff Played (between left left) taken Write
+  unshown_opening left taken begun = (
     [],
     [],
     opening,
-    came_of left left [] _ (omega arith) (none_yet left),
+    came_of (between left left) [] _ (omega arith) (none_yet left),
     goes_on_or_ends Played left [] [] opening first alone,
-    front_behind taken_old taken_old taken_new [] opening (Appends-none taken_old) begun,
+    front_behind taken.old taken.old taken.new [] opening (Appends-none taken.old) begun,
   )
 
 pub Keeps-same : (a : Option (List ℕ)) → Keeps a a

@@ -2,6 +2,7 @@
 use Rattle.std.proofs.Common.{◌≡◌, ℕ, zero, suc, ◌+◌, ◌≤◌, List, [], ◌∷◌, inl, inr, refl, sym, ap, subst, arith}
 use Rattle.std.proofs.lemmas.Bool.{cases_lt}
 use Rattle.board_text.specs.PlainBoard.{PlainBoard, IsConfiguration}
+use Rattle.board_text.specs.Streams.{Bytes}
 use Rattle.positions.specs.declared.value.Value.{Value}
 use Rattle.positions.specs.declared.value.Value.TheVariants.{Finite, Forever}
 use Rattle.positions.specs.Game.{Legal, LabellerTree, moved}
@@ -174,10 +175,10 @@ transcript : (game : Game) (left : Option (List ℕ)) (lines : List (List ℕ)) 
 transcript game left lines rest text end (inl over) = inl over
 transcript game left lines rest text end (inr stops) = inr stops.0
 
-pub keeps_to_value : (game : Game) (left_old left_new taken_old taken_new : Option (List ℕ)) (end : PlayEnd)
-    → HasEnded (IsPlayed game) left_old left_new taken_old taken_new end → KeepsToValue game end
-keeps_to_value game left_old left_new taken_old taken_new end ended =
-    by game ended.0 ended.2 (transcript game left_new ended.0 ended.1 ended.2 end ended.4)
+pub keeps_to_value : (game : Game) (left taken : Bytes) (end : PlayEnd) → HasEnded (IsPlayed game) left taken end
+    → KeepsToValue game end
+keeps_to_value game left taken end ended =
+    by game ended.0 ended.2 (transcript game left.new ended.0 ended.1 ended.2 end ended.4)
   where
     by : (game : Game) (lines : List (List ℕ)) (text : List ℕ) → IsTranscript game lines text end
         → KeepsToValue game end

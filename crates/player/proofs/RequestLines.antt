@@ -36,7 +36,7 @@ no_quit number small same =
 pub no_pebble : (pebbles : ℕ) (Answers : ℕ → List ℕ → Standing → Type 0) (there : List ℕ) (requests number : ℕ)
     → pebbles ≤ number
     → (line : List ℕ) → Spells line (Number number)
-    → RepliesToLine pebbles Answers there requests line no_request_line (Going there requests)
+    → RepliesToLine pebbles Answers (Going there requests) line no_request_line (Going there requests)
 no_pebble pebbles Answers there requests number outside line spells =
     inr (inr (
       (
@@ -52,7 +52,7 @@ no_pebble pebbles Answers there requests number outside line spells =
 -- a line that is neither a number nor `quit` is no request
 pub no_number : (pebbles : ℕ) (Answers : ℕ → List ℕ → Standing → Type 0) (there : List ℕ) (requests : ℕ)
     (blank : Bool) → pebbles < 2 ^ 32 → (line : List ℕ) → Spells line (Other blank)
-    → RepliesToLine pebbles Answers there requests line no_request_line (Going there requests)
+    → RepliesToLine pebbles Answers (Going there requests) line no_request_line (Going there requests)
 no_number pebbles Answers there requests blank few line spells =
     inr (inr ((spells.0, λ pebble inside same. spells.1 pebble (omega (arith, inside, few)) same), refl, refl))
 

@@ -65,7 +65,7 @@ module _ (pebbles : ℕ) (Answers : ℕ → List ℕ → Standing → Type 0) (S
     (answer : (pebble : ℕ) → pebble < pebbles → (said : List ℕ) × (to : Standing) × Answers pebble said to
     × Stands to) where
   reply_to_line : (line : List ℕ)
-      → (said : List ℕ) × (to : Standing) × RepliesToLine pebbles Answers at requests line said to × Stands to
+      → (said : List ℕ) × (to : Standing) × RepliesToLine pebbles Answers (Going at requests) line said to × Stands to
   reply_to_line line =
       elim (same_line line quit_line) [
         | inl asked ↦ (

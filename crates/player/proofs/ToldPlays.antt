@@ -2,18 +2,19 @@
 use Rattle.std.proofs.Common.{◌≡◌, ℕ, ◌<◌, Bool, true, false, List, [], ◌∷◌, ◌++◌}
 use Rattle.std.proofs.Common.{inl, inr, refl, sym, ap, ◌∙◌, subst, append-nil, append_assoc, length}
 use Rattle.std.specs.Prelude.{Option, Result, Ok, Err, IfErr}
-use Rattle.std.specs.Io.KnownBytes.{Appends, Keeps}
-use Rattle.board_text.specs.Streams.{AppendsPrefix}
+use Rattle.std.specs.Io.KnownBytes.{Appends}
+use Rattle.board_text.specs.Streams.{AppendsAll, AppendsPrefix, AreAsBefore, Bytes}
+use Rattle.board_text.proofs.Cited.{between}
 use Rattle.positions.specs.declared.value.Value.{Value}
 use Rattle.player.specs.Inside.Prompts.{IsToldHere, IsToldAtEnd, greeting_if, hint_there}
 use Rattle.player.specs.Inside.LineInput.{GivesNoLine, Unread}
 use Rattle.player.specs.Inside.Steps.{FailsToWrite}
 use Rattle.player.specs.Play.{BreaksOff, Ends, GoesOnOrEnds, HasEnded}
-use Rattle.player.specs.Prompts.{ArePrompts, AreToldResponses, BringsAndTells, EndsAfter, EndsBefore, HasValueIn}
+use Rattle.player.specs.Prompts.{ArePrompts, AreToldResponses, EndsAfter, EndsBefore, HasValueIn}
 use Rattle.player.specs.Prompts.{IsPlayedAndTold, hint_after}
 use Rattle.player.specs.Prompts.{IsToldAt}
-use Rattle.player.specs.Prompts.{IsToldIn, IsToldLast, NearlyTells, TellsBefore, greeting_of, shown_line}
-use Rattle.player.specs.Prompts.{start_of}
+use Rattle.player.specs.Prompts.{IsToldIn, IsToldLast, NearlyTells, Telling, TellsBefore, greeting_of, shown_line}
+use Rattle.player.specs.Prompts.{start_of, told_from, told_play}
 use Rattle.player.specs.Transcript.{AreResponses, BeginsPlay, Game, Going, IsPlayed, IsResponse, Over}
 use Rattle.player.specs.Transcript.{Standing}
 use Rattle.player.specs.declared.end.PlayEnd.{PlayEnd}
@@ -69,17 +70,17 @@ module _ (game : Game) where
 module _ (game : Game) (at : List ℕ) (requests : ℕ) where
   -- before a line is read
   pub begins_told : (shows : Bool) (prompt : List ℕ) → IsToldHere shows game at prompt
-      → BringsAndTells shows game (Going at requests) (greeting_if shows game ++ prompt) [] [] (Going at requests)
+      → (told_from shows game (Going at requests)).Tells (greeting_if shows game ++ prompt) [] [] (Going at requests)
   begins_told true prompt here = (prompt, (refl, here, refl), refl)
   begins_told false prompt here = ((refl, refl), here)
 
   -- a line that leaves the play going
   pub goes_on_told : (shows : Bool) (told prompt : List ℕ) (lines : List (List ℕ)) (line text said stood now : List ℕ)
-      (before answered : ℕ) → BringsAndTells shows game (Going at requests) told lines text (Going stood before)
+      (before answered : ℕ) → (told_from shows game (Going at requests)).Tells told lines text (Going stood before)
       → IsResponse game (Going stood before) line said (Going now answered)
       → IsToldHere shows game now prompt
-      → BringsAndTells shows game (Going at requests) (told ++ (hint_there shows line ++ prompt)) (lines ++ line ∷ [])
-      (text ++ said) (Going now answered)
+      → (told_from shows game (Going at requests)).Tells (told ++ (hint_there shows line ++ prompt))
+      (lines ++ line ∷ []) (text ++ said) (Going now answered)
   goes_on_told true told prompt lines line text said stood now before answered (prompts, brings, is) replies here = (
     prompts ++ (hint_after line ++ prompt),
     told_more game (Going at requests) lines line text said prompts prompt (Going stood before)
@@ -94,9 +95,9 @@ module _ (game : Game) (at : List ℕ) (requests : ℕ) where
 
   -- a line that ends it
   pub ends_told : (shows : Bool) (told : List ℕ) (lines : List (List ℕ)) (line text said stood : List ℕ) (before : ℕ)
-      (end : PlayEnd) → BringsAndTells shows game (Going at requests) told lines text (Going stood before)
+      (end : PlayEnd) → (told_from shows game (Going at requests)).Tells told lines text (Going stood before)
       → IsResponse game (Going stood before) line said (Over end)
-      → BringsAndTells shows game (Going at requests) (told ++ hint_there shows line) (lines ++ line ∷ [])
+      → (told_from shows game (Going at requests)).Tells (told ++ hint_there shows line) (lines ++ line ∷ [])
       (text ++ said) (Over end)
   ends_told true told lines line text said stood before end (prompts, brings, is) replies = (
     prompts ++ hint_after line,
@@ -113,14 +114,13 @@ module _ (game : Game) (at : List ℕ) (requests : ℕ) where
   )
 
   -- a line whose reply isn't written, whatever it is
-  pub nearly_told : (shows : Bool) (left_old left_new : Option (List ℕ)) (told : List ℕ) (lines : List (List ℕ))
+  pub nearly_told : (shows : Bool) (left : Bytes) (told : List ℕ) (lines : List (List ℕ))
       (line text said stood : List ℕ) (before : ℕ) (to : Standing)
       → AreResponses game (Going at requests) lines text (Going stood before)
-      → BringsAndTells shows game (Going at requests) told lines text (Going stood before)
+      → (told_from shows game (Going at requests)).Tells told lines text (Going stood before)
       → IsResponse game (Going stood before) line said to
-      → NearlyTells (BringsAndTells shows game (Going at requests)) (AreResponses game (Going at requests)) left_old
-      left_new told (lines ++ line ∷ []) (text ++ said) to
-  nearly_told shows left_old left_new told lines line text said stood before to brought tells replies = inr (
+      → NearlyTells (told_from shows game (Going at requests)) left told (lines ++ line ∷ []) (text ++ said) to
+  nearly_told shows left told lines line text said stood before to brought tells replies = inr (
     brings_more game (Going at requests) lines line text said (Going stood before) to brought replies,
     inl (lines, line, refl, text, Going stood before, tells),
   )
@@ -139,52 +139,50 @@ last_told false game value end told has is = is
 
 -- ---- faults
 
-module _ (Tells : List ℕ → List (List ℕ) → List ℕ → Standing → Type 0)
-    (Brings : List (List ℕ) → List ℕ → Standing → Type 0)
-    (left_old left_new taken_old taken_now taken_new : Option (List ℕ)) (told : List ℕ) where
+module _ (telling : Telling) (left taken last : Bytes) (told : List ℕ) where
   -- a text wasn't written whole
-  pub near : (IsRight : List ℕ → Type 0) (fault : PlayFault) → FailsToWrite taken_now taken_new IsRight fault
-      → BreaksOff (NearlyTells Tells Brings left_old left_new told) left_old left_new taken_old taken_new fault
-      → BreaksOff (TellsBefore fault Tells Brings left_old left_new told) left_old left_new taken_old taken_new fault
+  pub near : (IsRight : List ℕ → Type 0) (fault : PlayFault) → FailsToWrite last IsRight fault
+      → BreaksOff (NearlyTells telling left told) left taken fault
+      → BreaksOff (TellsBefore fault telling left told) left taken fault
   near IsRight Write fails breaks = breaks
   near IsRight Memory fails breaks = breaks
   near IsRight Read fails breaks = absurd fails
   near IsRight Limit fails breaks = absurd fails
 
   pub near_if : (IsRight : List ℕ → Type 0) (result : Result PlayEnd PlayFault)
-      → IfErr result (FailsToWrite taken_now taken_new IsRight)
-      → IfErr result (BreaksOff (NearlyTells Tells Brings left_old left_new told) left_old left_new taken_old taken_new)
-      → IfErr result (λ fault. BreaksOff (TellsBefore fault Tells Brings left_old left_new told) left_old left_new
-      taken_old taken_new fault)
+      → IfErr result (FailsToWrite last IsRight)
+      → IfErr result (BreaksOff (NearlyTells telling left told) left taken)
+      → IfErr result (λ fault. BreaksOff (TellsBefore fault telling left told) left taken fault)
   near_if IsRight (Ok end) fails breaks = tt
   near_if IsRight (Err fault) fails breaks = near IsRight fault fails breaks
 
 -- no line came
-pub unread_told : (Tells : List ℕ → List (List ℕ) → List ℕ → Standing → Type 0)
-    (Brings : List (List ℕ) → List ℕ → Standing → Type 0)
-    (left_old left_now left_new taken_old taken_now : Option (List ℕ)) (lines : List (List ℕ)) (unread : Unread)
-    (text at : List ℕ) (requests : ℕ) (told : List ℕ) (fault : PlayFault) → Tells told lines text (Going at requests)
-    → Appends taken_old taken_now text → HasCome left_old left_now lines unread → length lines < MOST_LINES
-    → GivesNoLine unread left_now left_new fault
-    → BreaksOff (TellsBefore fault Tells Brings left_old left_new told) left_old left_new taken_old taken_now fault
-unread_told Tells Brings left_old left_now left_new taken_old taken_now lines unread text at requests told Read tells
-    written
-    come few gives =
-    no_line (Tells told) left_old left_now left_new taken_old taken_now lines unread text at requests Read tells
-    written come
+pub unread_told : (telling : Telling) (left_old left_now left_new : Option (List ℕ)) (taken : Bytes)
+    (lines : List (List ℕ)) (unread : Unread) (text at : List ℕ) (requests : ℕ) (told : List ℕ) (fault : PlayFault)
+    → telling.Tells told lines text (Going at requests) → AppendsAll taken text
+    → HasCome (between left_old left_now) lines unread → length lines < MOST_LINES
+    → GivesNoLine unread (between left_now left_new) fault
+    → BreaksOff (TellsBefore fault telling (between left_old left_new) told) (between left_old left_new) taken fault
+unread_told telling left_old left_now left_new taken lines unread text at requests told Read tells written come few
+    gives =
+    no_line (telling.Tells told) left_old left_now left_new taken lines unread text at requests Read tells written come
     few gives
-unread_told Tells Brings left_old left_now left_new taken_old taken_now lines unread text at requests told Limit tells
-    written
-    come few gives =
-    no_line (Tells told) left_old left_now left_new taken_old taken_now lines unread text at requests Limit tells
-    written come
+unread_told telling left_old left_now left_new taken lines unread text at requests told Limit tells written come few
+    gives =
+    no_line (telling.Tells told) left_old left_now left_new taken lines unread text at requests Limit tells written come
     few gives
-unread_told Tells Brings left_old left_now left_new taken_old taken_now lines unread text at requests told Write tells
-    written
-    come few gives = absurd gives
-unread_told Tells Brings left_old left_now left_new taken_old taken_now lines unread text at requests told Memory tells
-    written
-    come few gives = absurd gives
+unread_told telling left_old left_now left_new taken lines unread text at requests told Write tells written come few
+    gives = absurd gives
+unread_told telling left_old left_now left_new taken lines unread text at requests told Memory tells written come few
+    gives = absurd gives
+
+-- a play of the same game
+pub told_alike : (shows : Bool) (one game : Game) (from : Standing) (left taken : Bytes)
+    (result : Result PlayEnd PlayFault) (told : List ℕ) → one ≡ game
+    → IsToldIn (told_from shows one from) left taken result told
+    → IsToldIn (told_from shows game from) left taken result told
+told_alike shows one game from left taken result told same =
+    subst (λ g. IsToldIn (told_from shows g from) left taken result told) same
 
 -- ---- from the opening on
 
@@ -196,67 +194,55 @@ module _ (shows : Bool) (game : Game) (opening : List ℕ) (first : Standing)
       record { opening = opening; first = first; more = more; opens = opens; brings = brings; text_is = refl }
 
   played_and_told : (told : List ℕ) (lines : List (List ℕ)) (more : List ℕ) (to : Standing)
-      → BringsAndTells shows game first told lines more to → IsPlayedAndTold shows game told lines (opening ++ more) to
+      → (told_from shows game first).Tells told lines more to
+      → IsPlayedAndTold shows game told lines (opening ++ more) to
   played_and_told told lines more to brings =
       record { opening = opening; first = first; more = more; opens = opens; brings = brings; text_is = refl }
 
-  nearly_played : (left_old left_new : Option (List ℕ)) (told : List ℕ) (lines : List (List ℕ)) (more : List ℕ)
-      (to : Standing)
-      → NearlyTells (BringsAndTells shows game first) (AreResponses game first) left_old left_new told lines more to
-      → NearlyTells (IsPlayedAndTold shows game) (IsPlayed game) left_old left_new told lines (opening ++ more) to
-  nearly_played left_old left_new told lines more to (inl tells) = inl (played_and_told told lines more to tells)
-  nearly_played left_old left_new told lines more to (inr (brings, inl (before, last, is, front, stood, tells))) = inr (
+  nearly_played : (left : Bytes) (told : List ℕ) (lines : List (List ℕ)) (more : List ℕ) (to : Standing)
+      → NearlyTells (told_from shows game first) left told lines more to
+      → NearlyTells (told_play shows game) left told lines (opening ++ more) to
+  nearly_played left told lines more to (inl tells) = inl (played_and_told told lines more to tells)
+  nearly_played left told lines more to (inr (brings, inl (before, last, is, front, stood, tells))) = inr (
     played lines more to brings,
     inl (before, last, is, opening ++ front, stood, played_and_told told before front stood tells),
   )
-  nearly_played left_old left_new told lines more to (inr (brings, inr none)) =
-      inr (played lines more to brings, inr none)
+  nearly_played left told lines more to (inr (brings, inr none)) = inr (played lines more to brings, inr none)
 
-  module _ (left_old left_new taken_old taken_now taken_new : Option (List ℕ))
-      (written : Appends taken_old taken_now opening)
-      (told : List ℕ) where
+  module _ (left : Bytes) (taken_old taken_now taken_new : Option (List ℕ))
+      (written : Appends taken_old taken_now opening) (told : List ℕ) where
     broken_before : (fault : PlayFault)
-        → BreaksOff
-        (TellsBefore fault (BringsAndTells shows game first) (AreResponses game first) left_old left_new told)
-        left_old left_new taken_now taken_new fault
-        → BreaksOff (TellsBefore fault (IsPlayedAndTold shows game) (IsPlayed game) left_old left_new told)
-        left_old left_new taken_old taken_new fault
-    broken_before Read breaks =
-        breaks_off (BringsAndTells shows game first told) (IsPlayedAndTold shows game told) opening
-        (played_and_told told)
-        left_old left_new taken_old taken_now taken_new written Read breaks
-    broken_before Limit breaks =
-        breaks_off (BringsAndTells shows game first told) (IsPlayedAndTold shows game told) opening
-        (played_and_told told)
-        left_old left_new taken_old taken_now taken_new written Limit breaks
-    broken_before Write breaks =
-        breaks_off (NearlyTells (BringsAndTells shows game first) (AreResponses game first) left_old left_new told)
-        (NearlyTells (IsPlayedAndTold shows game) (IsPlayed game) left_old left_new told) opening
-        (nearly_played left_old left_new told)
-        left_old left_new taken_old taken_now taken_new written Write breaks
-    broken_before Memory breaks =
-        breaks_off (NearlyTells (BringsAndTells shows game first) (AreResponses game first) left_old left_new told)
-        (NearlyTells (IsPlayedAndTold shows game) (IsPlayed game) left_old left_new told) opening
-        (nearly_played left_old left_new told)
-        left_old left_new taken_old taken_now taken_new written Memory breaks
+        → BreaksOff (TellsBefore fault (told_from shows game first) left told) left (between taken_now taken_new) fault
+        → BreaksOff (TellsBefore fault (told_play shows game) left told) left (between taken_old taken_new) fault
+    broken_before Read =
+        breaks_off ((told_from shows game first).Tells told) (IsPlayedAndTold shows game told) opening
+        (played_and_told told) left taken_old taken_now taken_new written Read
+    broken_before Limit =
+        breaks_off ((told_from shows game first).Tells told) (IsPlayedAndTold shows game told) opening
+        (played_and_told told) left taken_old taken_now taken_new written Limit
+    broken_before Write =
+        breaks_off (NearlyTells (told_from shows game first) left told) (NearlyTells (told_play shows game) left told)
+        opening (nearly_played left told) left taken_old taken_now taken_new written Write
+    broken_before Memory =
+        breaks_off (NearlyTells (told_from shows game first) left told) (NearlyTells (told_play shows game) left told)
+        opening (nearly_played left told) left taken_old taken_now taken_new written Memory
 
     pub prompted : (result : Result PlayEnd PlayFault)
-        → IsToldIn (BringsAndTells shows game first) (AreResponses game first) (IsToldLast shows game) left_old left_new
-        taken_now taken_new result told
-        → ArePrompts shows game left_old left_new taken_old taken_new result told
+        → IsToldIn (told_from shows game first) left (between taken_now taken_new) result told
+        → ArePrompts shows game left (between taken_old taken_new) result told
     prompted (Ok end) is = record { ok = of_ended is.ok; fault = tt }
       where
         of_ended : (prompts last : List ℕ)
-            × HasEnded (BringsAndTells shows game first prompts) left_old left_new taken_now taken_new end
+            × HasEnded ((told_from shows game first).Tells prompts) left (between taken_now taken_new) end
             × IsToldLast shows game end last × (told ≡ prompts ++ last)
             → (prompts last : List ℕ)
-            × HasEnded (IsPlayedAndTold shows game prompts) left_old left_new taken_old taken_new end
+            × HasEnded (IsPlayedAndTold shows game prompts) left (between taken_old taken_new) end
             × IsToldLast shows game end last × (told ≡ prompts ++ last)
         of_ended (prompts, last, ended, lasts, is) = (
           prompts,
           last,
-          has_ended (BringsAndTells shows game first prompts) (IsPlayedAndTold shows game prompts) opening
-              (played_and_told prompts) left_old left_new taken_old taken_now taken_new written end ended,
+          has_ended ((told_from shows game first).Tells prompts) (IsPlayedAndTold shows game prompts) opening
+              (played_and_told prompts) left taken_old taken_now taken_new written end ended,
           lasts,
           is,
         )
@@ -266,39 +252,38 @@ module _ (shows : Bool) (game : Game) (opening : List ℕ) (first : Standing)
   pub alone : IsPlayed game [] opening first
   alone = subst (λ l. IsPlayed game [] l first) (append-nil opening) (played [] [] first (refl, refl))
 
-  nearly_alone : (left : Option (List ℕ))
-      → NearlyTells (IsPlayedAndTold shows game) (IsPlayed game) left left [] [] opening first
+  nearly_alone : (left : Option (List ℕ)) → NearlyTells (told_play shows game) (between left left) [] [] opening first
   nearly_alone left = inr (alone, inr (refl, refl, refl))
 
   -- nothing was written, and nothing told
-  pub untold : (left taken_old taken_new : Option (List ℕ)) → Keeps taken_old taken_new
-      → ArePrompts shows game left left taken_old taken_new (Err Memory) []
-  untold left taken_old taken_new kept = record {
+  pub untold : (left : Option (List ℕ)) (taken : Bytes) → AreAsBefore taken
+      → ArePrompts shows game (between left left) taken (Err Memory) []
+  untold left taken kept = record {
     ok = tt;
-    fault = unopened (NearlyTells (IsPlayedAndTold shows game) (IsPlayed game) left left []) opening first
-        (nearly_alone left) left taken_old taken_new kept;
+    fault = unopened (NearlyTells (told_play shows game) (between left left) []) opening first
+        (nearly_alone left) left taken kept;
   }
 
   -- the opening wasn't written whole, and nothing was told
-  pub untold_opening : (left taken_old taken_new : Option (List ℕ)) → AppendsPrefix taken_old taken_new opening
-      → ArePrompts shows game left left taken_old taken_new (Err Write) []
-  untold_opening left taken_old taken_new begun = record {
+  pub untold_opening : (left : Option (List ℕ)) (taken : Bytes) → AppendsPrefix taken opening
+      → ArePrompts shows game (between left left) taken (Err Write) []
+  untold_opening left taken begun = record {
     ok = tt;
-    fault = unshown_opening (NearlyTells (IsPlayedAndTold shows game) (IsPlayed game) left left []) opening first
-        (nearly_alone left) left taken_old taken_new begun;
+    fault = unshown_opening (NearlyTells (told_play shows game) (between left left) []) opening first
+        (nearly_alone left) left taken begun;
   }
 
-over_alone : (shows : Bool) (game : Game) (end : PlayEnd) → BringsAndTells shows game (Over end) [] [] [] (Over end)
+over_alone : (shows : Bool) (game : Game) (end : PlayEnd) → (told_from shows game (Over end)).Tells [] [] [] (Over end)
 over_alone true game end = ((refl, refl), refl)
 over_alone false game end = ((refl, refl), refl)
 
 -- the play was over before a line was read
 pub untold_at_once : (shows : Bool) (game : Game) (opening : List ℕ) (end : PlayEnd)
     → BeginsPlay game opening (Over end)
-    → (left taken_old taken_new : Option (List ℕ)) → Appends taken_old taken_new opening
+    → (left : Option (List ℕ)) (taken : Bytes) → AppendsAll taken opening
     → (last : List ℕ) → IsToldLast shows game end last
-    → ArePrompts shows game left left taken_old taken_new (Ok end) last
-untold_at_once shows game opening end opens left taken_old taken_new written last lasts = record {
+    → ArePrompts shows game (between left left) taken (Ok end) last
+untold_at_once shows game opening end opens left taken written last lasts = record {
   ok = (
     [],
     last,
@@ -311,7 +296,7 @@ untold_at_once shows game opening end opens left taken_old taken_new written las
           brings = over_alone shows game end;
           text_is = sym (append-nil opening);
         })
-        left taken_old taken_new end refl written,
+        left taken end refl written,
     lasts,
     refl,
   );
@@ -323,20 +308,20 @@ untold_at_once shows game opening end opens left taken_old taken_new written las
 -- whatever ended or broke off was played
 module _ (Played : List (List ℕ) → List ℕ → Standing → Type 0) (Claim : Type 0)
     (of : (lines : List (List ℕ)) (text : List ℕ) (to : Standing) → Played lines text to → Claim)
-    (left_old left_new taken_old taken_new : Option (List ℕ)) where
-  of_ends : (lines : List (List ℕ)) (rest text : List ℕ) (end : PlayEnd) → Ends Played left_new lines rest text end
+    (left taken : Bytes) where
+  of_ends : (lines : List (List ℕ)) (rest text : List ℕ) (end : PlayEnd) → Ends Played left.new lines rest text end
       → Claim
   of_ends lines rest text end (inl over) = of lines text (Over end) over
   of_ends lines rest text end (inr stopped) = let h = stopped.0 in of lines h.1 (Going h.0 h.2) h.3
 
-  of_either : (lines : List (List ℕ)) (rest text : List ℕ) → GoesOnOrEnds Played left_new lines rest text → Claim
+  of_either : (lines : List (List ℕ)) (rest text : List ℕ) → GoesOnOrEnds Played left.new lines rest text → Claim
   of_either lines rest text (inl (at, requests, played)) = of lines text (Going at requests) played
   of_either lines rest text (inr (end, ends)) = of_ends lines rest text end ends
 
-  of_ended : (end : PlayEnd) → HasEnded Played left_old left_new taken_old taken_new end → Claim
+  of_ended : (end : PlayEnd) → HasEnded Played left taken end → Claim
   of_ended end (lines, rest, text, came, ends, written) = of_ends lines rest text end ends
 
-  of_broken : (fault : PlayFault) → BreaksOff Played left_old left_new taken_old taken_new fault → Claim
+  of_broken : (fault : PlayFault) → BreaksOff Played left taken fault → Claim
   of_broken Read (lines, rest, text, at, requests, came, waits, played, written) = of lines text
       (Going at requests) played
   of_broken Limit (lines, rest, text, at, requests, came, waits, played, written) = of lines text
@@ -344,41 +329,40 @@ module _ (Played : List (List ℕ) → List ℕ → Standing → Type 0) (Claim 
   of_broken Write (lines, rest, text, came, either, written) = of_either lines rest text either
   of_broken Memory (lines, rest, text, came, either, written) = of_either lines rest text either
 
-module _ (game : Game) (told : List ℕ) (left_old left_new : Option (List ℕ)) where
+module _ (game : Game) (told : List ℕ) (left : Bytes) where
   nothing_brought : (from : Standing) (lines : List (List ℕ)) (text : List ℕ) (to : Standing)
-      → BringsAndTells false game from told lines text to → told ≡ []
+      → (told_from false game from).Tells told lines text to → told ≡ []
   nothing_brought from lines text to (brings, none) = none
 
   nearly_nothing : (lines : List (List ℕ)) (text : List ℕ) (to : Standing)
-      → NearlyTells (IsPlayedAndTold false game) (IsPlayed game) left_old left_new told lines text to → told ≡ []
+      → NearlyTells (told_play false game) left told lines text to → told ≡ []
   nearly_nothing lines text to (inl tells) = nothing_brought tells.first lines tells.more to tells.brings
   nearly_nothing lines text to (inr (played, inl (before, last, is, front, stood, tells))) =
       nothing_brought tells.first before tells.more stood tells.brings
   nearly_nothing lines text to (inr (played, inr (unread, is, none))) = none
 
   nothing_before : (fault : PlayFault) (lines : List (List ℕ)) (text : List ℕ) (to : Standing)
-      → TellsBefore fault (IsPlayedAndTold false game) (IsPlayed game) left_old left_new told lines text to
-      → told ≡ []
+      → TellsBefore fault (told_play false game) left told lines text to → told ≡ []
   nothing_before Read lines text to tells = nothing_brought tells.first lines tells.more to tells.brings
   nothing_before Limit lines text to tells = nothing_brought tells.first lines tells.more to tells.brings
   nothing_before Write lines text to tells = nearly_nothing lines text to tells
   nothing_before Memory lines text to tells = nearly_nothing lines text to tells
 
   -- without a person to see it
-  pub nothing_told : (taken_old taken_new : Option (List ℕ)) (result : Result PlayEnd PlayFault)
-      → ArePrompts false game left_old left_new taken_old taken_new result told → told ≡ []
-  nothing_told taken_old taken_new (Ok end) is = both is.ok
+  pub nothing_told : (taken : Bytes) (result : Result PlayEnd PlayFault) → ArePrompts false game left taken result told
+      → told ≡ []
+  nothing_told taken (Ok end) is = both is.ok
     where
       both : (prompts last : List ℕ)
-          × HasEnded (IsPlayedAndTold false game prompts) left_old left_new taken_old taken_new end
+          × HasEnded (IsPlayedAndTold false game prompts) left taken end
           × IsToldLast false game end last × (told ≡ prompts ++ last)
           → told ≡ []
       both (prompts, last, ended, lasts, is) =
           rw (
             of_ended (IsPlayedAndTold false game prompts) (prompts ≡ [])
-                (λ lines text to tells. tells.brings.1) left_old left_new taken_old taken_new end ended,
+                (λ lines text to tells. tells.brings.1) left taken end ended,
             lasts,
           ) at is
-  nothing_told taken_old taken_new (Err fault) is =
-      of_broken (TellsBefore fault (IsPlayedAndTold false game) (IsPlayed game) left_old left_new told)
-      (told ≡ []) (nothing_before fault) left_old left_new taken_old taken_new fault is.fault
+  nothing_told taken (Err fault) is =
+      of_broken (TellsBefore fault (told_play false game) left told) (told ≡ []) (nothing_before fault) left taken fault
+      is.fault

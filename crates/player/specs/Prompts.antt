@@ -2,12 +2,13 @@
 -- requests are answered and what can be typed, after a line with a blank that it has one, and at
 -- the end whether the play could have gone on, or have ended before.
 use Rattle.std.specs.Prelude.{◌≡◌, ℕ, ◌<◌, ◌-◌, ◌==◌, ◌↔◌, ◌⊎◌, ◌||◌, if◌then◌else◌, List, []}
-use Rattle.std.specs.Prelude.{◌∷◌, ◌++◌, AllPairs, Bool, Contains, IfErr, IfOk, Option, Result}
+use Rattle.std.specs.Prelude.{◌∷◌, ◌++◌, AllPairs, Bool, Contains, IfErr, IfOk, Result}
 use Rattle.std.specs.Prelude.{codes, false, length, nat_lt, replicate, take, true}
 use Rattle.std.specs.List.{list_any}
 use Rattle.std.specs.Fmt.{decimal}
 use Rattle.board_text.specs.LineForms.{spaced_numbers, with_line_feed}
 use Rattle.board_text.specs.PlainBoard.{PlainBoard}
+use Rattle.board_text.specs.Streams.{Bytes}
 use Rattle.positions.specs.Game.{Legal}
 use Rattle.positions.specs.Value.{HasValue}
 use Rattle.positions.specs.declared.value.Value.{Value}
@@ -148,26 +149,17 @@ AreToldResponses game from (line ∷ lines) text told to =
     × IsResponse game from line said next × AreToldResponses game next lines more later to
     × (text ≡ said ++ more) × (told ≡ prompt ++ (hint_after line ++ later))
 
--- the replies from a standing on, and what is told: nothing if nobody is there to see it, or the
--- play is over before a line is read; else the greeting, and what is told wherever the play stands
-abbrev pub BringsAndTells : Bool → Game → Standing → List ℕ → List (List ℕ) → List ℕ → Standing
-    → Type 0
-BringsAndTells true game (Going at requests) told lines text to =
+-- the replies from a standing on, and nothing is told
+abbrev pub BringsUntold : Game → Standing → List ℕ → List (List ℕ) → List ℕ → Standing → Type 0
+BringsUntold game from told lines text to = AreResponses game from lines text to × (told ≡ [])
+
+-- the same, and what a person is told: nothing if the play is over before a line is read; else the
+-- greeting, and what is told wherever the play stands
+abbrev pub BringsAndTells : Game → Standing → List ℕ → List (List ℕ) → List ℕ → Standing → Type 0
+BringsAndTells game (Going at requests) told lines text to =
     (prompts : List ℕ) × AreToldResponses game (Going at requests) lines text prompts to
     × (told ≡ shown_line (greeting_of game) ++ prompts)
-BringsAndTells shows game from told lines text to =
-    AreResponses game from lines text to × (told ≡ [])
-
--- the text written once these lines are read, what a person was told meanwhile, and the state of
--- the play then
-pub record IsPlayedAndTold (shows : Bool) (game : Game) (told : List ℕ) (lines : List (List ℕ))
-    (text : List ℕ) (to : Standing) : Type 0 where
-  pub opening : List ℕ
-  pub first : Standing
-  pub more : List ℕ
-  pub opens : BeginsPlay game opening first
-  pub brings : BringsAndTells shows game first told lines more to
-  pub text_is : text ≡ opening ++ more
+BringsAndTells game (Over end) told lines text to = BringsUntold game (Over end) told lines text to
 
 -- ---- the end
 
@@ -203,45 +195,71 @@ IsToldLast true game end told =
     (value : Value) × HasValueIn game (start_of game) value × IsToldOfStart value end told
 IsToldLast false game end told = told ≡ []
 
--- ---- a play that is broken off
+-- ---- the whole play
+
+-- how a play is told: the replies that lines bring, these with what is told meanwhile, and what is
+-- told at the end
+pub record Telling : Type 1 where
+  pub Brings : List (List ℕ) → List ℕ → Standing → Type 0
+  pub Tells : List ℕ → List (List ℕ) → List ℕ → Standing → Type 0
+  pub TellsLast : PlayEnd → List ℕ → Type 0
+
+-- a play from a standing on, for a person who is there to see it or for nobody
+abbrev pub told_from : Bool → Game → Standing → Telling
+told_from shows game from = record {
+  Brings = AreResponses game from;
+  Tells = elim shows [ true ↦ BringsAndTells game from | false ↦ BringsUntold game from ];
+  TellsLast = IsToldLast shows game;
+}
+
+-- the text written once these lines are read, what a person was told meanwhile, and the state of
+-- the play then
+pub record IsPlayedAndTold (shows : Bool) (game : Game) (told : List ℕ) (lines : List (List ℕ))
+    (text : List ℕ) (to : Standing) : Type 0 where
+  pub opening : List ℕ
+  pub first : Standing
+  pub more : List ℕ
+  pub opens : BeginsPlay game opening first
+  pub brings : (told_from shows game first).Tells told lines more to
+  pub text_is : text ≡ opening ++ more
+
+-- a play from its opening on
+abbrev pub told_play : Bool → Game → Telling
+told_play shows game = record {
+  Brings = IsPlayed game;
+  Tells = IsPlayedAndTold shows game;
+  TellsLast = IsToldLast shows game;
+}
 
 -- a text that belongs to these lines, where what was told belongs to them; or, since the last of
 -- them may be unanswered, to those before it; or nothing was read and nothing told, since the
 -- opening wasn't written
-abbrev pub NearlyTells : (List ℕ → List (List ℕ) → List ℕ → Standing → Type 0)
-    → (List (List ℕ) → List ℕ → Standing → Type 0) → Option (List ℕ) → Option (List ℕ) → List ℕ
-    → List (List ℕ) → List ℕ → Standing → Type 0
-NearlyTells Tells Brings left_old left_new told lines text to =
-    Tells told lines text to
-    ⊎ (Brings lines text to × (((before : List (List ℕ)) × (last : List ℕ)
+abbrev pub NearlyTells : Telling → Bytes → List ℕ → List (List ℕ) → List ℕ → Standing → Type 0
+NearlyTells telling left told lines text to =
+    telling.Tells told lines text to
+    ⊎ (telling.Brings lines text to × (((before : List (List ℕ)) × (last : List ℕ)
     × (lines ≡ before ++ last ∷ []) × (front : List ℕ) × (stood : Standing)
-    × Tells told before front stood)
-    ⊎ ((left_new ≡ left_old) × (lines ≡ []) × (told ≡ []))))
+    × telling.Tells told before front stood)
+    ⊎ ((left.new ≡ left.old) × (lines ≡ []) × (told ≡ []))))
 
 -- after a fault of reading all lines that came are answered, and what was told belongs to them;
 -- when a text can't be made or written, the last one may not be
-abbrev pub TellsBefore : PlayFault → (List ℕ → List (List ℕ) → List ℕ → Standing → Type 0)
-    → (List (List ℕ) → List ℕ → Standing → Type 0) → Option (List ℕ) → Option (List ℕ) → List ℕ
-    → List (List ℕ) → List ℕ → Standing → Type 0
-TellsBefore Read Tells Brings left_old left_new = Tells
-TellsBefore Limit Tells Brings left_old left_new = Tells
-TellsBefore fault Tells Brings left_old left_new = NearlyTells Tells Brings left_old left_new
+abbrev pub TellsBefore : PlayFault → Telling → Bytes → List ℕ → List (List ℕ) → List ℕ → Standing
+    → Type 0
+TellsBefore Read telling left = telling.Tells
+TellsBefore Limit telling left = telling.Tells
+TellsBefore fault telling left = NearlyTells telling left
 
 -- what was told in a play with this result, by the lines that came and the text that was written,
 -- and at its end
-pub record IsToldIn (Tells : List ℕ → List (List ℕ) → List ℕ → Standing → Type 0)
-    (Brings : List (List ℕ) → List ℕ → Standing → Type 0) (Ends : PlayEnd → List ℕ → Type 0)
-    (left_old left_new taken_old taken_new : Option (List ℕ))
-    (result : Result PlayEnd PlayFault) (told : List ℕ) : Type 0 where
+pub record IsToldIn (telling : Telling) (left taken : Bytes) (result : Result PlayEnd PlayFault)
+    (told : List ℕ) : Type 0 where
   pub ok : IfOk result (λ end. (prompts last : List ℕ)
-      × HasEnded (Tells prompts) left_old left_new taken_old taken_new end × Ends end last
+      × HasEnded (telling.Tells prompts) left taken end × telling.TellsLast end last
       × (told ≡ prompts ++ last))
-  pub fault : IfErr result (λ fault. BreaksOff
-      (TellsBefore fault Tells Brings left_old left_new told)
-      left_old left_new taken_old taken_new fault)
+  pub fault : IfErr result (λ fault. BreaksOff (TellsBefore fault telling left told) left taken
+      fault)
 
 -- the same of a play from its opening on
-abbrev pub ArePrompts : Bool → Game → Option (List ℕ) → Option (List ℕ) → Option (List ℕ)
-    → Option (List ℕ) → Result PlayEnd PlayFault → List ℕ → Type 0
-ArePrompts shows game =
-    IsToldIn (IsPlayedAndTold shows game) (IsPlayed game) (IsToldLast shows game)
+abbrev pub ArePrompts : Bool → Game → Bytes → Bytes → Result PlayEnd PlayFault → List ℕ → Type 0
+ArePrompts shows game = IsToldIn (told_play shows game)

@@ -33,6 +33,13 @@ pub data Standing : Type 0 where
   Going : List ℕ → ℕ → Standing
   Over : PlayEnd → Standing
 
+-- the number of requests that are answered when the play stands so
+abbrev pub answered_at : Standing → ℕ
+answered_at (Going at requests) = requests
+answered_at (Over (Stuck requests)) = requests
+answered_at (Over (Stopped requests)) = requests
+answered_at (Over NoStrategy) = 0
+
 -- ---- lines
 
 -- the value of the start
@@ -82,12 +89,13 @@ IsNoRequest pebbles line =
     (line ≢ quit_line) × ((pebble : ℕ) → pebble < pebbles → line ≢ decimal pebble)
 
 -- the reply to a line if the person names one of `pebbles` pebbles, each answered by `Answers`
-abbrev pub RepliesToLine : ℕ → (ℕ → List ℕ → Standing → Type 0) → List ℕ → ℕ → List ℕ → List ℕ
+abbrev pub RepliesToLine : ℕ → (ℕ → List ℕ → Standing → Type 0) → Standing → List ℕ → List ℕ
     → Standing → Type 0
-RepliesToLine pebbles Answers at requests line said to =
+RepliesToLine pebbles Answers from line said to =
     ((pebble : ℕ) × (pebble < pebbles) × (line ≡ decimal pebble) × Answers pebble said to)
-    ⊎ ((line ≡ quit_line) × (said ≡ stopped_line requests) × (to ≡ Over (Stopped requests)))
-    ⊎ (IsNoRequest pebbles line × (said ≡ no_request_line) × (to ≡ Going at requests))
+    ⊎ ((line ≡ quit_line) × (said ≡ stopped_line (answered_at from))
+    × (to ≡ Over (Stopped (answered_at from))))
+    ⊎ (IsNoRequest pebbles line × (said ≡ no_request_line) × (to ≡ from))
 
 -- the best answer to a request, if some label is legal
 abbrev pub Replies : PlainBoard → List ℕ → ℕ → ℕ → List ℕ → Standing → Type 0
@@ -178,13 +186,11 @@ BeginsPlay (PersonClimbs levels) said to =
 abbrev pub IsResponse : Game → Standing → List ℕ → List ℕ → Standing → Type 0
 IsResponse game (Over end) line said to = (said ≡ []) × (to ≡ Over end)
 IsResponse (PersonAsks board) (Going at requests) line said to =
-    RepliesToLine board.pebbles (Replies board at requests)
-    at requests line said to
+    RepliesToLine board.pebbles (Replies board at requests) (Going at requests) line said to
 IsResponse (PersonAnswers board) (Going at requests) line said to =
     AsksAfterLine board at requests line said to
 IsResponse (PersonClimbs levels) (Going at requests) line said to =
-    RepliesToLine levels (NestedReplies levels at requests)
-    at requests line said to
+    RepliesToLine levels (NestedReplies levels at requests) (Going at requests) line said to
 
 -- the replies to these lines, one after the other
 abbrev pub AreResponses : Game → Standing → List (List ℕ) → List ℕ → Standing → Type 0

@@ -2,6 +2,7 @@
 
 ghost use Rattle.std.specs.Prelude.{◌≡◌, ◌+◌, ◌<◌, ◌≤◌, ◌^◌, ℕ, List, false, None, IfOk, IfErr};
 ghost use Rattle.std.specs.Prelude.{string_bytes};
+ghost use Rattle.board_text.specs.Streams.{bytes_of};
 ghost use Rattle.player.specs.Laws.{KeepsToValue};
 ghost use Rattle.player.specs.Play.{HasEnded, BreaksOff, TellsBothStreams};
 ghost use Rattle.player.specs.Transcript.{IsPlayed, PersonAsks, Replies};
@@ -15,11 +16,13 @@ use crate::prompts::{PEBBLES_GREETING, tell_least, tell_pebble_choices};
 use crate::turns::Play;
 use crate::writing::{end_stopped, say_no_request, write_opening, write_reply, write_stuck};
 use board_text::{Board, Memory, Sink, Source, Through};
+use classes::Places;
+use gap_values::ValueTable;
 use positions::Value;
 use solver::Values;
 use std::alloc::{AllocError, Global};
 use std::marker::Model;
-use strategies::{Configuration, GapMoves, Moves};
+use strategies::GapMoves;
 
 /// Plays with a person who is the adversary: each line names a pebble, which is put on the label of
 /// the best answer.
@@ -42,11 +45,11 @@ pub fn play_adversary_side<R: Source, W: Sink>(
     requires reader_unended { R.has_ended reader.old ≡ false }
     requires writer_ready { W.has_failed writer.old ≡ false }
     ensures ok { IfOk result (HasEnded (IsPlayed (PersonAsks board.now))
-        (R.remaining reader.old) (R.remaining reader.new)
-        (W.contents writer.old) (W.contents writer.new)) }
+        (bytes_of R.remaining reader.old reader.new)
+        (bytes_of W.contents writer.old writer.new)) }
     ensures fault { IfErr result (BreaksOff (IsPlayed (PersonAsks board.now))
-        (R.remaining reader.old) (R.remaining reader.new)
-        (W.contents writer.old) (W.contents writer.new)) }
+        (bytes_of R.remaining reader.old reader.new)
+        (bytes_of W.contents writer.old writer.new)) }
     ensures value { IfOk result (KeepsToValue (PersonAsks board.now)) }
     ensures streams { TellsBothStreams result (R.has_failed reader.new) (W.has_failed writer.new) }
 {
@@ -59,21 +62,21 @@ pub fn play_adversary_side<R: Source, W: Sink>(
 /// A game in which the person is the adversary: each line names a pebble, which is put on the label
 /// of the best answer.
 #[derive(Clone, Copy)]
-pub struct AsAdversary<'a, M: Moves> {
+pub struct AsAdversary<'a, V: ValueTable> {
     /// The best moves on the board.
-    pub moves: &'a M,
+    pub moves: &'a GapMoves<'a, V>,
 }
 
-impl<'a, M: Moves> Game for AsAdversary<'a, M> {
-    type Playing = AdversarySide<'a, M>;
+impl<'a, V: ValueTable> Game for AsAdversary<'a, V> {
+    type Playing = AdversarySide<'a, V>;
 
-    ghost game = { λ g. PersonAsks (M.board g.moves.now) };
+    ghost game = { λ g. PersonAsks g.moves.now };
 
     fn open(
         &self,
         _alloc: Global,
         text: &mut String,
-    ) -> Result<Opened<AdversarySide<'a, M>>, Memory> {
+    ) -> Result<Opened<AdversarySide<'a, V>>, Memory> {
         write_opening(text, self.moves.board(), self.start_value())?;
         Ok(Opened::Goes(AdversarySide::new(self.moves)))
     }
@@ -85,38 +88,38 @@ impl<'a, M: Moves> Game for AsAdversary<'a, M> {
 
 /// A play in which the person is the adversary.
 #[derive(Drop)]
-pub struct AdversarySide<'a, M: Moves> {
-    moves: &'a M,
-    configuration: Configuration,
+pub struct AdversarySide<'a, V: ValueTable> {
+    moves: &'a GapMoves<'a, V>,
+    configuration: Places,
     /// The number of answered requests.
     requests: u32,
 }
 
-impl<'a, M: Moves> Model for AdversarySide<'a, M> {
+impl<'a, V: ValueTable> Model for AdversarySide<'a, V> {
     ghost use Rattle.board_text.specs.PlainBoard.{IsConfiguration};
     ghost use Rattle.player.specs.Inside.PlayState.{PlayState};
 
     ghost Value = { PlayState };
 
     ghost view = { λ s. record {
-      board = M.board s.moves.now;
+      board = s.moves.now;
       at = s.configuration;
       requests = s.requests;
     } };
 
-    ghost invariant = { λ s. IsConfiguration (M.board s.moves.now) s.configuration };
+    ghost invariant = { λ s. IsConfiguration s.moves.now s.configuration };
 }
 
-impl<'a, M: Moves> AdversarySide<'a, M> {
+impl<'a, V: ValueTable> AdversarySide<'a, V> {
     /// A play at the start, in which no request was answered yet.
-    fn new(moves: &'a M) -> AdversarySide<'a, M>
+    fn new(moves: &'a GapMoves<'a, V>) -> AdversarySide<'a, V>
         ensures { result ≡ record {
-          board = M.board moves.now;
-          at = (M.board moves.now).start;
+          board = moves.now;
+          at = moves.now.start;
           requests = 0;
         } }
     {
-        let configuration = Configuration::of(moves.board().start());
+        let configuration = Places::of(moves.board().start());
         AdversarySide {
             moves,
             configuration,
@@ -152,7 +155,7 @@ impl<'a, M: Moves> AdversarySide<'a, M> {
     }
 }
 
-impl<M: Moves> Play for AdversarySide<'_, M> {
+impl<V: ValueTable> Play for AdversarySide<'_, V> {
     ghost game = { λ s. PersonAsks s.board };
 
     ghost at = { λ s. s.at };

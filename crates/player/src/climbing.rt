@@ -4,6 +4,7 @@ ghost use Rattle.std.specs.Prelude.{◌≡◌, ◌+◌, ◌<◌, ◌^◌, ℕ, L
 ghost use Rattle.std.specs.Prelude.{string_bytes};
 ghost use Rattle.board_text.specs.Ranges.{InRange};
 ghost use Rattle.nested_cycles.specs.NestedGame.{plain_game};
+ghost use Rattle.board_text.specs.Streams.{bytes_of};
 ghost use Rattle.player.specs.Laws.{KeepsToValue};
 ghost use Rattle.player.specs.Play.{HasEnded, BreaksOff, TellsBothStreams};
 ghost use Rattle.player.specs.Transcript.{IsPlayed, NestedReplies, PersonClimbs};
@@ -40,12 +41,12 @@ pub fn play_nested<R: Source, W: Sink>(
     requires reader_ready { R.has_failed reader.old ≡ false }
     requires reader_unended { R.has_ended reader.old ≡ false }
     requires writer_ready { W.has_failed writer.old ≡ false }
-    ensures ok { IfOk result (HasEnded (IsPlayed (PersonClimbs levels)) (R.remaining reader.old)
-        (R.remaining reader.new)
-        (W.contents writer.old) (W.contents writer.new)) }
+    ensures ok { IfOk result (HasEnded (IsPlayed (PersonClimbs levels))
+        (bytes_of R.remaining reader.old reader.new)
+        (bytes_of W.contents writer.old writer.new)) }
     ensures fault { IfErr result (BreaksOff (IsPlayed (PersonClimbs levels))
-        (R.remaining reader.old) (R.remaining reader.new)
-        (W.contents writer.old) (W.contents writer.new)) }
+        (bytes_of R.remaining reader.old reader.new)
+        (bytes_of W.contents writer.old writer.new)) }
     ensures value { IfOk result (KeepsToValue (PersonClimbs levels)) }
     ensures streams { TellsBothStreams result (R.has_failed reader.new) (W.has_failed writer.new) }
 {

@@ -2,6 +2,7 @@
 
 ghost use Rattle.std.specs.Prelude.{◌≡◌, ℕ, List, false, IfOk, IfErr, string_bytes};
 ghost use Rattle.console.specs.Showing.{IsMore};
+ghost use Rattle.board_text.specs.Streams.{bytes_of};
 ghost use Rattle.player.specs.Laws.{KeepsToValue};
 ghost use Rattle.player.specs.Opened.{StandsAt};
 ghost use Rattle.player.specs.Play.{HasEnded, BreaksOff, TellsBothStreams};
@@ -70,16 +71,16 @@ pub fn play<G: Game, R: Source, W: Sink, E: Sink>(
     requires reader_unended { R.has_ended reader.old ≡ false }
     requires writer_ready { W.has_failed writer.old ≡ false }
     ensures ok { IfOk result (HasEnded (IsPlayed (G.game game.now))
-        (R.remaining reader.old) (R.remaining reader.new)
-        (W.contents writer.old) (W.contents writer.new)) }
+        (bytes_of R.remaining reader.old reader.new)
+        (bytes_of W.contents writer.old writer.new)) }
     ensures fault { IfErr result (BreaksOff (IsPlayed (G.game game.now))
-        (R.remaining reader.old) (R.remaining reader.new)
-        (W.contents writer.old) (W.contents writer.new)) }
+        (bytes_of R.remaining reader.old reader.new)
+        (bytes_of W.contents writer.old writer.new)) }
     ensures value { IfOk result (KeepsToValue (G.game game.now)) }
     ensures streams { TellsBothStreams result (R.has_failed reader.new) (W.has_failed writer.new) }
     ensures prompts { (told : List ℕ) × ArePrompts shows (G.game game.now)
-        (R.remaining reader.old) (R.remaining reader.new)
-        (W.contents writer.old) (W.contents writer.new) result told
+        (bytes_of R.remaining reader.old reader.new)
+        (bytes_of W.contents writer.old writer.new) result told
         × IsMore E.contents E.has_failed errors.old errors.new told }
 {
     let mut text = String::new(alloc);

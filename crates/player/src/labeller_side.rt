@@ -5,6 +5,7 @@ ghost use Rattle.std.specs.Prelude.{IfErr, OnOk, string_bytes, true};
 ghost use Rattle.std.specs.Fmt.{decimal};
 ghost use Rattle.board_text.specs.Domination.{has_bit};
 ghost use Rattle.board_text.specs.PlainBoard.{IsBoard, IsConfiguration};
+ghost use Rattle.board_text.specs.Streams.{bytes_of};
 ghost use Rattle.positions.specs.Value.{HasValue};
 ghost use Rattle.positions.specs.declared.value.Value.TheVariants.{Finite};
 ghost use Rattle.strategies.specs.Best.{IsBestRequest};
@@ -26,13 +27,15 @@ use crate::prompts::{LABELS_GREETING, tell_count, tell_label, tell_most};
 use crate::turns::Play;
 use crate::writing::{end_stopped, write_at, write_opening, write_stuck};
 use board_text::{Board, MAX_LABELS, Memory, Sink, Source, Through};
+use classes::Places;
 use console::{write_digits, write_shown};
+use gap_values::ValueTable;
 use positions::{LabelSet, Value, legal_labels};
 use solver::Values;
 use std::alloc::{AllocError, Global};
 use std::fmt::Write;
 use std::marker::Model;
-use strategies::{Configuration, GapMoves, Moves};
+use strategies::GapMoves;
 
 /// Plays with a person who is the labeller: best requests are made,
 /// and each line answers one with a label.
@@ -55,11 +58,11 @@ pub fn play_labeller_side<R: Source, W: Sink>(
     requires reader_unended { R.has_ended reader.old ≡ false }
     requires writer_ready { W.has_failed writer.old ≡ false }
     ensures ok { IfOk result (HasEnded (IsPlayed (PersonAnswers board.now))
-        (R.remaining reader.old) (R.remaining reader.new)
-        (W.contents writer.old) (W.contents writer.new)) }
+        (bytes_of R.remaining reader.old reader.new)
+        (bytes_of W.contents writer.old writer.new)) }
     ensures fault { IfErr result (BreaksOff (IsPlayed (PersonAnswers board.now))
-        (R.remaining reader.old) (R.remaining reader.new)
-        (W.contents writer.old) (W.contents writer.new)) }
+        (bytes_of R.remaining reader.old reader.new)
+        (bytes_of W.contents writer.old writer.new)) }
     ensures value { IfOk result (KeepsToValue (PersonAnswers board.now)) }
     ensures streams { TellsBothStreams result (R.has_failed reader.new) (W.has_failed writer.new) }
 {
@@ -72,21 +75,21 @@ pub fn play_labeller_side<R: Source, W: Sink>(
 /// A game in which the person is the labeller: best requests are made, and each line answers one
 /// with a label.
 #[derive(Clone, Copy)]
-pub struct AsLabeller<'a, M: Moves> {
+pub struct AsLabeller<'a, V: ValueTable> {
     /// The best moves on the board.
-    pub moves: &'a M,
+    pub moves: &'a GapMoves<'a, V>,
 }
 
-impl<'a, M: Moves> Game for AsLabeller<'a, M> {
-    type Playing = LabellerSide<'a, M>;
+impl<'a, V: ValueTable> Game for AsLabeller<'a, V> {
+    type Playing = LabellerSide<'a, V>;
 
-    ghost game = { λ g. PersonAnswers (M.board g.moves.now) };
+    ghost game = { λ g. PersonAnswers g.moves.now };
 
     fn open(
         &self,
         _alloc: Global,
         text: &mut String,
-    ) -> Result<Opened<LabellerSide<'a, M>>, Memory> {
+    ) -> Result<Opened<LabellerSide<'a, V>>, Memory> {
         match open(text, self.moves)? {
             Next::Asks(pebble) => Ok(Opened::Goes(LabellerSide::new(self.moves, pebble))),
             Next::Ends(end) => Ok(Opened::Ends(end)),
@@ -117,11 +120,11 @@ struct Request {
 
 /// Appends the value of the start and its places, and the first request or that there is no
 /// strategy; returns the next turn.
-fn open<M: Moves>(text: &mut String, moves: &M) -> Result<Next, AllocError>
-    ensures is_board { IsBoard (M.board moves.now) }
+fn open<V: ValueTable>(text: &mut String, moves: &GapMoves<'_, V>) -> Result<Next, AllocError>
+    ensures is_board { IsBoard moves.now }
     ensures said { IfOk result (λ next. AddsText (string_bytes text.old) (string_bytes text.new)
-        (λ said. (to : Standing) × BeginsPlay (PersonAnswers (M.board moves.now)) said to
-        × IsStandingAfter (M.board moves.now) (M.board moves.now).start 0 next to)) }
+        (λ said. (to : Standing) × BeginsPlay (PersonAnswers moves.now) said to
+        × IsStandingAfter moves.now moves.now.start 0 next to)) }
 {
     let board = moves.board();
     let value = moves.value(board.start());
@@ -136,10 +139,10 @@ fn open<M: Moves>(text: &mut String, moves: &M) -> Result<Next, AllocError>
 }
 
 /// The best request at the configuration `held`, whose value is finite.
-fn request_at<M: Moves>(moves: &M, held: &[u16]) -> Request
-    requires held { IsConfiguration (M.board moves.now) held.now }
-    requires finite { (number : ℕ) × HasValue (M.board moves.now) held.now (Finite number) }
-    ensures { IsRequestAt (M.board moves.now) held.now result }
+fn request_at<V: ValueTable>(moves: &GapMoves<'_, V>, held: &[u16]) -> Request
+    requires held { IsConfiguration moves.now held.now }
+    requires finite { (number : ℕ) × HasValue moves.now held.now (Finite number) }
+    ensures { IsRequestAt moves.now held.now result }
 {
     let (_, request) = moves.request(held);
     let pebble = request.unwrap();
@@ -162,40 +165,40 @@ fn write_request(text: &mut String, request: Request, requests: u32) -> Result<N
 
 /// A play in which the person is the labeller.
 #[derive(Drop)]
-pub struct LabellerSide<'a, M: Moves> {
-    moves: &'a M,
-    configuration: Configuration,
+pub struct LabellerSide<'a, V: ValueTable> {
+    moves: &'a GapMoves<'a, V>,
+    configuration: Places,
     /// The pebble that is asked for, which is the best request.
     asked: u8,
     /// The number of answered requests.
     requests: u32,
 }
 
-impl<'a, M: Moves> Model for LabellerSide<'a, M> {
+impl<'a, V: ValueTable> Model for LabellerSide<'a, V> {
     ghost use Rattle.player.specs.Inside.PlayState.{PlayState, IsPlayState};
 
     ghost Value = { PlayState };
 
     ghost view = { λ s. record {
-      board = M.board s.moves.now;
+      board = s.moves.now;
       at = s.configuration;
       requests = s.requests;
     } };
 
-    ghost invariant = { λ s. IsPlayState (M.board s.moves.now) s.configuration s.asked };
+    ghost invariant = { λ s. IsPlayState s.moves.now s.configuration s.asked };
 }
 
-impl<'a, M: Moves> LabellerSide<'a, M> {
+impl<'a, V: ValueTable> LabellerSide<'a, V> {
     /// A play at the start, in which no request was answered yet and pebble `asked` is asked for.
-    fn new(moves: &'a M, asked: u8) -> LabellerSide<'a, M>
-        requires { IsBestRequest (M.board moves.now) (M.board moves.now).start asked }
+    fn new(moves: &'a GapMoves<'a, V>, asked: u8) -> LabellerSide<'a, V>
+        requires { IsBestRequest moves.now moves.now.start asked }
         ensures { result ≡ record {
-          board = M.board moves.now;
-          at = (M.board moves.now).start;
+          board = moves.now;
+          at = moves.now.start;
           requests = 0;
         } }
     {
-        let configuration = Configuration::of(moves.board().start());
+        let configuration = Places::of(moves.board().start());
         LabellerSide {
             moves,
             configuration,
@@ -266,7 +269,7 @@ impl<'a, M: Moves> LabellerSide<'a, M> {
     }
 }
 
-impl<M: Moves> Play for LabellerSide<'_, M> {
+impl<V: ValueTable> Play for LabellerSide<'_, V> {
     ghost game = { λ s. PersonAnswers s.board };
 
     ghost at = { λ s. s.at };

@@ -3,7 +3,7 @@
 ghost use Rattle.std.specs.Prelude.{◌≡◌, ◌≢◌, ◌+◌, ◌≤◌, ◌<◌, ◌↔◌, [], length, take, drop};
 ghost use Rattle.std.specs.Prelude.{slice_index, true, false, Err, IfOk, IfErr};
 ghost use Rattle.std.specs.Prelude.{OnOk, OnErr, MatchOption};
-ghost use Rattle.std.specs.Io.KnownBytes.{Keeps};
+ghost use Rattle.board_text.specs.Streams.{AreAsBefore, bytes_of};
 ghost use Rattle.player.specs.Words.{HasNoFeed};
 ghost use Rattle.player.specs.Inside.Words.{Spells};
 ghost use Rattle.player.specs.Inside.LineInput.{IsEmptyAtEnd, GivesLine, GivesNoLine, IsFilled};
@@ -65,12 +65,12 @@ impl Lines {
         requires ready { R.has_failed reader.old ≡ false }
         requires ended { R.has_ended reader.old ≡ self.old.has_ended }
         requires end { IsEmptyAtEnd self.old (R.remaining reader.old) }
-        ensures line { IfOk result (GivesLine self.old self.new (R.remaining reader.old)
-            (R.remaining reader.new)) }
+        ensures line { IfOk result (GivesLine self.old self.new
+            (bytes_of R.remaining reader.old reader.new)) }
         ensures unfailed { OnOk result (R.has_failed reader.new ≡ false) }
         ensures ended { OnOk result (R.has_ended reader.new ≡ self.new.has_ended) }
-        ensures fault { IfErr result (GivesNoLine self.old (R.remaining reader.old)
-            (R.remaining reader.new)) }
+        ensures fault { IfErr result (GivesNoLine self.old
+            (bytes_of R.remaining reader.old reader.new)) }
         ensures read { (R.has_failed reader.new ≡ true) ↔ (result ≡ Err Read) }
     {
         if self.has_ended {
@@ -131,11 +131,11 @@ impl Lines {
         requires goes_on { self.old.has_ended ≡ false }
         requires unfailed { R.has_failed reader.old ≡ false }
         requires unended { R.has_ended reader.old ≡ false }
-        ensures filled { IfOk result (IsFilled self.old self.new (R.remaining reader.old)
-            (R.remaining reader.new)) }
+        ensures filled { IfOk result (IsFilled self.old self.new
+            (bytes_of R.remaining reader.old reader.new)) }
         ensures unfailed { OnOk result (R.has_failed reader.new ≡ false) }
         ensures ended { OnOk result (R.has_ended reader.new ≡ self.new.has_ended) }
-        ensures kept { OnErr result (Keeps (R.remaining reader.old) (R.remaining reader.new)) }
+        ensures kept { OnErr result (AreAsBefore (bytes_of R.remaining reader.old reader.new)) }
         ensures read { IfErr result (λ fault. (fault ≡ Read) × (R.has_failed reader.new ≡ true)) }
     {
         self.buffer.copy_within(self.from..self.to, 0);

@@ -2,13 +2,11 @@
 
 ghost use Rattle.std.specs.Prelude.{◌≡◌, ◌↔◌, ◌+◌, ◌≤◌, ◌<◌, ◌^◌, ℕ, List, [], true, false, Err};
 ghost use Rattle.std.specs.Prelude.{IfOk, IfErr, OnOk, OnErr, string_bytes};
-ghost use Rattle.std.specs.Io.KnownBytes.{Appends};
-ghost use Rattle.board_text.specs.Streams.{AppendsPrefix};
+ghost use Rattle.board_text.specs.Streams.{AppendsAll, AppendsPrefix, bytes_of};
 ghost use Rattle.player.specs.Transcript.{Game, Standing, Going, AreResponses, stopped_line};
 ghost use Rattle.player.specs.Inside.Transcript.{standing_of};
-ghost use Rattle.player.specs.Prompts.{AreChoices, BringsAndTells, HasValueIn, IsToldIn};
-ghost use Rattle.player.specs.Prompts.{IsToldLast};
-ghost use Rattle.player.specs.Prompts.{greeting_of, left_words, start_of};
+ghost use Rattle.player.specs.Prompts.{AreChoices, HasValueIn, IsToldIn, greeting_of, left_words};
+ghost use Rattle.player.specs.Prompts.{start_of, told_from};
 ghost use Rattle.console.specs.Showing.{HasNoControl, IsMore, shown};
 ghost use Rattle.player.specs.Play.{HasEnded, BreaksOff, TellsBothStreams};
 ghost use Rattle.player.specs.Inside.Steps.{IsResponseToMeaning, AddsText, Writes, FailsToWrite};
@@ -98,19 +96,17 @@ pub(crate) fn play_on<P: Play, R: Source, W: Sink, E: Sink>(
     requires reader_unended { R.has_ended reader.old ≡ false }
     requires writer_ready { W.has_failed writer.old ≡ false }
     ensures ok { IfOk result (HasEnded (AreResponses (P.game play.old) (Going (P.at play.old) 0))
-        (R.remaining reader.old) (R.remaining reader.new) (W.contents writer.old)
-        (W.contents writer.new)) }
+        (bytes_of R.remaining reader.old reader.new)
+        (bytes_of W.contents writer.old writer.new)) }
     ensures fault { IfErr result (BreaksOff
         (AreResponses (P.game play.old) (Going (P.at play.old) 0))
-        (R.remaining reader.old) (R.remaining reader.new) (W.contents writer.old)
-        (W.contents writer.new)) }
+        (bytes_of R.remaining reader.old reader.new)
+        (bytes_of W.contents writer.old writer.new)) }
     ensures streams { TellsBothStreams result (R.has_failed reader.new) (W.has_failed writer.new) }
     ensures told { (told : List ℕ)
-        × IsToldIn (BringsAndTells shows (P.game play.old) (Going (P.at play.old) 0))
-        (AreResponses (P.game play.old) (Going (P.at play.old) 0))
-        (IsToldLast shows (P.game play.old))
-        (R.remaining reader.old) (R.remaining reader.new)
-        (W.contents writer.old) (W.contents writer.new) result told
+        × IsToldIn (told_from shows (P.game play.old) (Going (P.at play.old) 0))
+        (bytes_of R.remaining reader.old reader.new)
+        (bytes_of W.contents writer.old writer.new) result told
         × IsMore E.contents E.has_failed errors.old errors.new told }
 {
     greet(play, shows, errors);
@@ -147,11 +143,11 @@ fn answer_line<P: Play, W: Sink>(
     ensures count { P.requests play.new ≤ P.requests play.old + 1 }
     ensures empty { OnOk result (string_bytes text.new ≡ []) }
     ensures unfailed { OnOk result (W.has_failed writer.new ≡ false) }
-    ensures written { IfOk result (λ end. Writes (W.contents writer.old) (W.contents writer.new)
+    ensures written { IfOk result (λ end. Writes (bytes_of W.contents writer.old writer.new)
         (λ said. IsResponseToMeaning (P.game play.old)
         (Going (P.at play.old) (P.requests play.old)) meaning said
         (standing_of end (P.at play.new) (P.requests play.new)))) }
-    ensures fault { IfErr result (FailsToWrite (W.contents writer.old) (W.contents writer.new)
+    ensures fault { IfErr result (FailsToWrite (bytes_of W.contents writer.old writer.new)
         (λ said. (to : Standing) × IsResponseToMeaning (P.game play.old)
         (Going (P.at play.old) (P.requests play.old)) meaning said to)) }
     ensures write { (W.has_failed writer.new ≡ true) ↔ (result ≡ Err Write) }
@@ -172,9 +168,9 @@ fn end_play<P: Play, W: Sink>(
     requires empty { string_bytes text.old ≡ [] }
     requires ready { W.has_failed writer.old ≡ false }
     ensures end { IfOk result (λ end. end ≡ Stopped (P.requests play.now)) }
-    ensures written { OnOk result (Appends (W.contents writer.old) (W.contents writer.new)
+    ensures written { OnOk result (AppendsAll (bytes_of W.contents writer.old writer.new)
         (stopped_line (P.requests play.now))) }
-    ensures fault { IfErr result (FailsToWrite (W.contents writer.old) (W.contents writer.new)
+    ensures fault { IfErr result (FailsToWrite (bytes_of W.contents writer.old writer.new)
         (λ said. said ≡ stopped_line (P.requests play.now))) }
     ensures write { (W.has_failed writer.new ≡ true) ↔ (result ≡ Err Write) }
 {
@@ -187,11 +183,11 @@ fn end_play<P: Play, W: Sink>(
 /// Writes `text` to `writer`, and empties it.
 pub(crate) fn flush<W: Sink>(text: &mut String, writer: &mut W) -> Result<(), PlayFault>
     requires { W.has_failed writer.old ≡ false }
-    ensures written { OnOk result (Appends (W.contents writer.old) (W.contents writer.new)
+    ensures written { OnOk result (AppendsAll (bytes_of W.contents writer.old writer.new)
         (string_bytes text.old)) }
     ensures unfailed { OnOk result (W.has_failed writer.new ≡ false) }
     ensures empty { OnOk result (string_bytes text.new ≡ []) }
-    ensures front { OnErr result (AppendsPrefix (W.contents writer.old) (W.contents writer.new)
+    ensures front { OnErr result (AppendsPrefix (bytes_of W.contents writer.old writer.new)
         (string_bytes text.old)) }
     ensures fault { IfErr result (λ fault. (fault ≡ Write) × (W.has_failed writer.new ≡ true)) }
 {

@@ -1,13 +1,14 @@
 -- Sets of labels as bits.
-use Rattle.std.proofs.Common.{◌≡◌, ◌≢◌, ℕ, zero, suc, ◌+◌, ◌-◌, ◌*◌, ◌/◌, ◌%◌, ◌^◌, ◌<◌, ◌≤◌, ◌↔◌, min, nat_eq, bit_and}
-use Rattle.std.proofs.Common.{bit_or, ◌⊎◌, true, List, [], ◌∷◌, length, get_or, set, Some, refl, sym, ap, ◌∙◌, subst}
+use Rattle.std.proofs.Common.{◌≡◌, ◌≢◌, ℕ, ◌+◌, ◌-◌, ◌*◌, ◌/◌, ◌%◌, ◌^◌, ◌<◌, ◌≤◌, ◌↔◌, min, max, nat_eq, bit_and}
+use Rattle.std.proofs.Common.{bit_or, ◌⊎◌, true, List, length, get_or, set, replicate, Some, refl, sym, ap, ◌∙◌, subst}
 use Rattle.std.proofs.Common.{inl}
 use Rattle.std.proofs.Common.{inr, arith}
 use Rattle.std.specs.Int.{bit_at, bit_not, w64, trailing_zeros}
 use Rattle.std.specs.Int.Count.{ones}
 use Rattle.std.proofs.lemmas.Bool.{cases_eq, cases_lt, eqb-true, eq-eqb}
-use Rattle.std.proofs.lemmas.List.{get_or-set_same, get_or-set_other, length-set}
-use Rattle.std.proofs.lemmas.Nat.Bits.{bit_at_set_same, bit_at_set_other, bit_at-zero, bit_at_and, bit_at-lt}
+use Rattle.std.proofs.lemmas.List.{get_or_past, get_or-replicate, get_or-set_same, get_or-set_other, length-set}
+use Rattle.std.proofs.lemmas.List.{length-replicate}
+use Rattle.std.proofs.lemmas.Nat.Bits.{bit_at_set_same, bit_at_set_other, bit_at-zero, bit_at_and, bit_at_or, bit_at-lt}
 use Rattle.std.proofs.lemmas.Nat.Bits.{bit_at_not}
 use Rattle.std.proofs.lemmas.Nat.Bits.{bit_at_ones, bit_at_mask_inside, bit_at_mask_below, bit_at-trailing_zeros}
 use Rattle.std.proofs.lemmas.Nat.Bits.{ones_shl}
@@ -46,14 +47,44 @@ has_bit-set_other words label x inside other =
           ∙ ap (λ (k : ℕ). nat_eq (bit_at (get_or words k 0) (x % 64)) 1) (sym same)))
     ]
 
--- the bits of the labels below a number are set
-pub record HasBelow (words : List ℕ) (bound : ℕ) : Type 0 where
-  pub size : length words ≡ 4
+-- a bit behind the words is not set
+past-bit : (words : List ℕ) (x : ℕ) → length words ≤ x / 64 → has_bit words x ≡ true → ⊥
+past-bit words x past set =
+    let bit : bit_at (get_or words (x / 64) 0) (x % 64) ≡ 1 =
+    eqb-true (bit_at (get_or words (x / 64) 0) (x % 64)) 1 set in
+    let cleared : bit_at (get_or words (x / 64) 0) (x % 64) ≡ 0 =
+    ap (λ w. bit_at w (x % 64)) (get_or_past words (x / 64) 0 past) ∙ bit_at-zero (x % 64) in
+    omega arith
+
+get_or-zeros : (count k : ℕ) → get_or {A = ℕ} (replicate count 0) k 0 ≡ 0
+get_or-zeros count k = elim (cases_lt k count) [
+  | inl low ↦ get_or-replicate count k 0 0 low
+  | inr past ↦ get_or_past (replicate count 0) k 0 (omega (arith, past, length-replicate {A = ℕ} count 0))
+]
+
+-- in so many words the bits of the labels below a number are set
+pub record HasBelow (count : ℕ) (words : List ℕ) (bound : ℕ) : Type 0 where
+  pub size : length words ≡ count
   pub each : (x : ℕ) → x < MAX_LABELS → (has_bit words x ≡ true) ↔ (x < bound)
 
-pub below_more : (words : List ℕ) (bound : ℕ) → bound < MAX_LABELS → HasBelow words bound
-    → HasBelow (with_bit words bound) (bound + 1)
-below_more words bound small has = record {
+pub below_none : (count : ℕ) → HasBelow count (replicate count 0) 0
+below_none count = record {
+  size = length-replicate count 0;
+  each = λ x low. (
+    λ set. (
+        let bit : bit_at (get_or (replicate count 0) (x / 64) 0) (x % 64) ≡ 1 =
+        eqb-true (bit_at (get_or (replicate count 0) (x / 64) 0) (x % 64)) 1 set in
+        let cleared : bit_at (get_or (replicate count 0) (x / 64) 0) (x % 64) ≡ 0 =
+        ap (λ w. bit_at w (x % 64)) (get_or-zeros count (x / 64)) ∙ bit_at-zero (x % 64) in
+        absurd (omega arith)
+        ),
+    λ less. absurd (omega arith),
+  );
+}
+
+pub below_more : (count : ℕ) (words : List ℕ) (bound : ℕ) → bound < 64 * count → HasBelow count words bound
+    → HasBelow count (with_bit words bound) (bound + 1)
+below_more count words bound small has = record {
   size =
       length-set words (bound / 64) (bit_or (get_or words (bound / 64) 0) (1 * 2 ^ (bound % 64) % 2 ^ 64)) ∙ has.size;
   each = λ x low. elim (cases_eq x bound) [
@@ -67,6 +98,30 @@ below_more words bound small has = record {
       λ less. has_bit-set_other words bound x (omega (arith, has.size, small)) other ∙ (has.each x low).1 (omega arith),
     )
   ];
+}
+
+-- ---- words that are made one after the other
+
+-- the words before a number are made, and the others are those of `first`
+pub record AreMadeTo (made : ℕ → ℕ) (first new : List ℕ) (end : ℕ) : Type 0 where
+  pub size : length new ≡ length first
+  pub before : (k : ℕ) → k < end → get_or new k 0 ≡ made k
+  pub behind : (k : ℕ) → end ≤ k → get_or new k 0 ≡ get_or first k 0
+
+pub made-none : (made : ℕ → ℕ) (first : List ℕ) → AreMadeTo made first first 0
+made-none made first = record { size = refl; before = λ k low. absurd (omega arith); behind = λ k high. refl }
+
+pub made-more : (made : ℕ → ℕ) (first new : List ℕ) (end word : ℕ) → end < length first → word ≡ made end
+    → AreMadeTo made first new end → AreMadeTo made first (set new end word) (end + 1)
+made-more made first new end word inside is are = record {
+  size = length-set new end word ∙ are.size;
+  before = λ k low. elim (cases_eq k end) [
+    | inl same ↦ ap (λ j. get_or (set new end word) j 0) same
+        ∙ (get_or-set_same new end word 0 (omega (arith, inside, are.size)) ∙ (is ∙ ap made (sym same)))
+    | inr other ↦ get_or-set_other new end k word 0 other ∙ are.before k (omega (arith, low, other))
+  ];
+  behind = λ k high. get_or-set_other new end k word 0 (λ same. omega (arith, high, same))
+      ∙ are.behind k (omega (arith, high));
 }
 
 -- ---- bits that two rows share
@@ -86,27 +141,23 @@ bit_of_both a b i =
           eq-eqb (bit_at (bit_and a b) i) 1 (omega arith),
     )
 
--- the words of the bits that two rows share
-abbrev pub both_of : List ℕ → List ℕ → List ℕ
-both_of first second =
-    bit_and (get_or first 0 0) (get_or second 0 0) ∷ bit_and (get_or first 1 0) (get_or second 1 0)
-    ∷ bit_and (get_or first 2 0) (get_or second 2 0) ∷ bit_and (get_or first 3 0) (get_or second 3 0) ∷ []
+-- a word of the bits that two rows share
+abbrev pub both_of : List ℕ → List ℕ → ℕ → ℕ
+both_of first second k = bit_and (get_or first k 0) (get_or second k 0)
 
-word_of_both : (first second : List ℕ) (k : ℕ) → k < 4
-    → get_or (both_of first second) k 0 ≡ bit_and (get_or first k 0) (get_or second k 0)
-word_of_both first second zero low = refl
-word_of_both first second (suc zero) low = refl
-word_of_both first second (suc (suc zero)) low = refl
-word_of_both first second (suc (suc (suc zero))) low = refl
-word_of_both first second (suc (suc (suc (suc k)))) low = absurd (omega arith)
-
-pub has_bit-both : (first second : List ℕ) (x : ℕ) → x < MAX_LABELS
-    → (has_bit (both_of first second) x ≡ true) ↔ ((has_bit first x ≡ true) × (has_bit second x ≡ true))
-has_bit-both first second x small =
-    let word = word_of_both first second (x / 64) (omega arith) in
-    subst (λ w. (nat_eq (bit_at w (x % 64)) 1 ≡ true) ↔ ((has_bit first x ≡ true) × (has_bit second x ≡ true)))
-    (sym word)
-    (bit_of_both (get_or first (x / 64) 0) (get_or second (x / 64) 0) (x % 64))
+pub has_bit-both : (first second new : List ℕ) (end : ℕ) → end ≡ length first
+    → AreMadeTo (both_of first second) first new end
+    → (x : ℕ) → (has_bit new x ≡ true) ↔ ((has_bit first x ≡ true) × (has_bit second x ≡ true))
+has_bit-both first second new end all are x = elim (cases_lt (x / 64) end) [
+  | inl inside ↦ subst (λ w. (nat_eq (bit_at w (x % 64)) 1 ≡ true)
+      ↔ ((has_bit first x ≡ true) × (has_bit second x ≡ true)))
+      (sym (are.before (x / 64) inside))
+      (bit_of_both (get_or first (x / 64) 0) (get_or second (x / 64) 0) (x % 64))
+  | inr past ↦ (
+    λ set. absurd (past-bit new x (omega (arith, past, all, are.size)) set),
+    λ each. absurd (past-bit first x (omega (arith, past, all)) each.0),
+  )
+]
 
 -- ---- the bits of a row that another has not
 
@@ -135,33 +186,69 @@ bit_of_one a b i fits low =
           ],
     )
 
--- the words of the bits that only the first of two rows has
-abbrev pub one_of : List ℕ → List ℕ → List ℕ
-one_of first second =
-    bit_and (get_or first 0 0) (bit_not w64 (get_or second 0 0))
-    ∷ bit_and (get_or first 1 0) (bit_not w64 (get_or second 1 0))
-    ∷ bit_and (get_or first 2 0) (bit_not w64 (get_or second 2 0))
-    ∷ bit_and (get_or first 3 0) (bit_not w64 (get_or second 3 0)) ∷ []
+-- a word of the bits that only the first of two rows has
+abbrev pub one_of : List ℕ → List ℕ → ℕ → ℕ
+one_of first second k = bit_and (get_or first k 0) (bit_not w64 (get_or second k 0))
 
-word_of_one : (first second : List ℕ) (k : ℕ) → k < 4
-    → get_or (one_of first second) k 0 ≡ bit_and (get_or first k 0) (bit_not w64 (get_or second k 0))
-word_of_one first second zero low = refl
-word_of_one first second (suc zero) low = refl
-word_of_one first second (suc (suc zero)) low = refl
-word_of_one first second (suc (suc (suc zero))) low = refl
-word_of_one first second (suc (suc (suc (suc k)))) low = absurd (omega arith)
+pub has_bit-one : (first second new : List ℕ) (end : ℕ) → end ≡ length first
+    → ((k : ℕ) → k < end → get_or second k 0 < 2 ^ 64)
+    → AreMadeTo (one_of first second) first new end
+    → (x : ℕ) → (has_bit new x ≡ true) ↔ ((has_bit first x ≡ true) × (has_bit second x ≡ true → ⊥))
+has_bit-one first second new end all fits are x = elim (cases_lt (x / 64) end) [
+  | inl inside ↦ subst (λ w. (nat_eq (bit_at w (x % 64)) 1 ≡ true)
+      ↔ ((has_bit first x ≡ true) × (has_bit second x ≡ true → ⊥)))
+      (sym (are.before (x / 64) inside))
+      (bit_of_one (get_or first (x / 64) 0) (get_or second (x / 64) 0) (x % 64) (fits (x / 64) inside) (omega arith))
+  | inr past ↦ (
+    λ set. absurd (past-bit new x (omega (arith, past, all, are.size)) set),
+    λ each. absurd (past-bit first x (omega (arith, past, all)) each.0),
+  )
+]
 
-pub has_bit-one : (first second : List ℕ) → ((k : ℕ) → k < 4 → get_or second k 0 < 2 ^ 64)
-    → (x : ℕ) → x < MAX_LABELS
-    → (has_bit (one_of first second) x ≡ true)
-    ↔ ((has_bit first x ≡ true) × (has_bit second x ≡ true → ⊥))
-has_bit-one first second fits x small =
-    let word = word_of_one first second (x / 64) (omega arith) in
-    subst (λ w. (nat_eq (bit_at w (x % 64)) 1 ≡ true)
-    ↔ ((has_bit first x ≡ true) × (has_bit second x ≡ true → ⊥)))
-    (sym word)
-    (bit_of_one (get_or first (x / 64) 0) (get_or second (x / 64) 0) (x % 64) (fits (x / 64) (omega arith))
-    (omega arith))
+-- ---- the bits of a row or of another
+
+pub bit_of_either : (a b i : ℕ)
+    → (nat_eq (bit_at (bit_or a b) i) 1 ≡ true) ↔ ((nat_eq (bit_at a i) 1 ≡ true) ⊎ (nat_eq (bit_at b i) 1 ≡ true))
+bit_of_either a b i =
+    let same : bit_at (bit_or a b) i ≡ max (bit_at a i) (bit_at b i) = bit_at_or a b i in
+    let one : bit_at a i < 2 = bit_at-lt a i in
+    let other : bit_at b i < 2 = bit_at-lt b i in (
+      λ either.
+          let set : bit_at (bit_or a b) i ≡ 1 = eqb-true (bit_at (bit_or a b) i) 1 either in
+          elim (cases_eq (bit_at a i) 1) [
+            | inl first ↦ inl (eq-eqb (bit_at a i) 1 first)
+            | inr none ↦ inr (eq-eqb (bit_at b i) 1 (omega (arith, none)))
+          ],
+      λ some. elim some [
+        | inl held ↦
+            let first : bit_at a i ≡ 1 = eqb-true (bit_at a i) 1 held in
+            eq-eqb (bit_at (bit_or a b) i) 1 (omega arith)
+        | inr held ↦
+            let second : bit_at b i ≡ 1 = eqb-true (bit_at b i) 1 held in
+            eq-eqb (bit_at (bit_or a b) i) 1 (omega arith)
+      ],
+    )
+
+-- a word of the bits of two rows
+abbrev pub either_of : List ℕ → List ℕ → ℕ → ℕ
+either_of first second k = bit_or (get_or first k 0) (get_or second k 0)
+
+pub has_bit-either : (first second new : List ℕ) (end : ℕ) → end ≡ length first → length second ≡ length first
+    → AreMadeTo (either_of first second) first new end
+    → (x : ℕ) → (has_bit new x ≡ true) ↔ ((has_bit first x ≡ true) ⊎ (has_bit second x ≡ true))
+has_bit-either first second new end all same are x = elim (cases_lt (x / 64) end) [
+  | inl inside ↦ subst (λ w. (nat_eq (bit_at w (x % 64)) 1 ≡ true)
+      ↔ ((has_bit first x ≡ true) ⊎ (has_bit second x ≡ true)))
+      (sym (are.before (x / 64) inside))
+      (bit_of_either (get_or first (x / 64) 0) (get_or second (x / 64) 0) (x % 64))
+  | inr past ↦ (
+    λ set. absurd (past-bit new x (omega (arith, past, all, are.size)) set),
+    λ some. elim some [
+      | inl held ↦ absurd (past-bit first x (omega (arith, past, all)) held)
+      | inr held ↦ absurd (past-bit second x (omega (arith, past, all, same)) held)
+    ],
+  )
+]
 
 -- ---- one bit more
 
@@ -187,15 +274,17 @@ has_bit-with words label inside x small = elim (cases_eq x label) [
 abbrev pub AreNone : List ℕ → ℕ → Type 0
 AreNone words number = (k : ℕ) → k < number → get_or words k 0 ≡ 0
 
-pub none_set : (words : List ℕ) (number : ℕ) → 4 ≤ number → AreNone words number
-    → (x : ℕ) → x < MAX_LABELS → has_bit words x ≡ true → ⊥
-none_set words number all none x small set =
-    let zero_word : get_or words (x / 64) 0 ≡ 0 = none (x / 64) (omega arith) in
-    let bit : bit_at (get_or words (x / 64) 0) (x % 64) ≡ 1 =
-    eqb-true (bit_at (get_or words (x / 64) 0) (x % 64)) 1 set in
-    let cleared : bit_at (get_or words (x / 64) 0) (x % 64) ≡ 0 =
-    ap (λ w. bit_at w (x % 64)) zero_word ∙ bit_at-zero (x % 64) in
-    omega arith
+pub none_set : (words : List ℕ) (number : ℕ) → length words ≤ number → AreNone words number
+    → (x : ℕ) → has_bit words x ≡ true → ⊥
+none_set words number all none x set = elim (cases_lt (x / 64) number) [
+  | inr past ↦ past-bit words x (omega (arith, past, all)) set
+  | inl inside ↦
+      let bit : bit_at (get_or words (x / 64) 0) (x % 64) ≡ 1 =
+      eqb-true (bit_at (get_or words (x / 64) 0) (x % 64)) 1 set in
+      let cleared : bit_at (get_or words (x / 64) 0) (x % 64) ≡ 0 =
+      ap (λ w. bit_at w (x % 64)) (none (x / 64) inside) ∙ bit_at-zero (x % 64) in
+      omega arith
+]
 
 -- ---- the number of bits that are set
 
@@ -233,12 +322,18 @@ bits_more words k count small is =
 pub bits_few : (words : List ℕ) (bound count : ℕ) → count ≡ count_below (has_bit words) bound → count ≤ bound
 bits_few words bound count is = let few = count_below-le (has_bit words) bound in omega arith
 
-pub size_of_bits : (words : List ℕ) (bound count : ℕ) → bound ≡ MAX_LABELS → count ≡ count_below (has_bit words) bound
-    → HasSize (λ x. (x < MAX_LABELS) × (has_bit words x ≡ true)) count
-size_of_bits words bound count all is =
-    let same : count_below (has_bit words) MAX_LABELS ≡ count = ap (count_below (has_bit words)) (sym all) ∙ sym is in
+pub size_of_bits : (words : List ℕ) (bound count : ℕ) → bound ≡ 64 * length words → length words ≤ 4
+    → count ≡ count_below (has_bit words) bound → HasSize (λ x. (x < MAX_LABELS) × (has_bit words x ≡ true)) count
+size_of_bits words bound count all few is =
+    let same : count_below (has_bit words) bound ≡ count = sym is in
     subst (HasSize (λ x. (x < MAX_LABELS) × (has_bit words x ≡ true))) same
-    (size_of (λ x. (x < MAX_LABELS) × (has_bit words x ≡ true)) (has_bit words) MAX_LABELS (λ x. (λ h. h, λ h. h)))
+    (size_of (λ x. (x < MAX_LABELS) × (has_bit words x ≡ true)) (has_bit words) bound (λ x. (
+      λ h. (elim (cases_lt x bound) [
+        | inl low ↦ (low, h.1)
+        | inr high ↦ absurd (past-bit words x (omega (arith, high, all)) h.1)
+      ]),
+      λ h. (omega (arith, h.0, all, few), h.1),
+    )))
 
 -- ---- the first bit from a bound on
 

@@ -11,15 +11,18 @@ use crate::label_walk::LabelWalk;
 use board_text::{MAX_LABELS, ROW_WORDS};
 use std::marker::Model;
 
-/// A set of labels, which are found once and then read one after the other.
+/// A set of labels below `64 * WORDS`, which are found once and then read one after the other.
 ///
 /// Contracts see it as words of bits: the label x is bit `x % 64` of word `x / 64`.
 #[derive(Clone, Copy)]
-pub struct LabelSet {
-    words: [u64; ROW_WORDS],
+pub struct Labels<const WORDS: usize> {
+    words: [u64; WORDS],
 }
 
-impl Model for LabelSet {
+/// A set of labels of any board.
+pub type LabelSet = Labels<ROW_WORDS>;
+
+impl<const WORDS: usize> Model for Labels<WORDS> {
     ghost use Rattle.std.specs.Prelude.{ℕ, List};
 
     ghost Value = { List ℕ };
@@ -29,73 +32,73 @@ impl Model for LabelSet {
     ghost inverse = { λ words. record { words = words } };
 }
 
-impl LabelSet {
-    /// The labels whose bits are set in `words`.
-    pub(crate) fn new(words: [u64; ROW_WORDS]) -> LabelSet
-        ensures { result ≡ words }
-    {
-        LabelSet { words }
-    }
-
+impl<const WORDS: usize> Labels<WORDS> {
     /// The labels below `labels`.
-    pub fn below(labels: u16) -> LabelSet
-        requires { labels ≤ MAX_LABELS }
+    pub fn below(labels: u16) -> Labels<WORDS>
+        requires { labels ≤ 64 * WORDS }
         ensures { (x : ℕ) → x < MAX_LABELS → (has_bit result x ≡ true) ↔ (x < labels) }
     {
-        let mut words = [0; ROW_WORDS];
+        let mut words = [0; WORDS];
         for label in 0..labels {
             words[label as usize / 64] |= 1 << (label % 64);
         }
-        LabelSet { words }
+        Labels { words }
     }
 
     /// The labels that are both in this set and in the bits `row`.
-    pub fn intersection(self, row: &[u64]) -> LabelSet
-        requires { length row.now ≡ ROW_WORDS }
-        ensures { (x : ℕ) → x < MAX_LABELS
-            → (has_bit result x ≡ true) ↔ ((has_bit self x ≡ true) × (has_bit row.now x ≡ true)) }
+    pub fn intersection(&self, row: &[u64]) -> Labels<WORDS>
+        requires { WORDS ≤ length row.now }
+        ensures { (x : ℕ) → x < MAX_LABELS → (has_bit result x ≡ true)
+            ↔ ((has_bit self.now x ≡ true) × (has_bit row.now x ≡ true)) }
     {
-        LabelSet {
-            words: [
-                self.words[0] & row[0],
-                self.words[1] & row[1],
-                self.words[2] & row[2],
-                self.words[3] & row[3],
-            ],
+        let mut words = self.words;
+        for number in 0..WORDS {
+            words[number] &= row[number];
         }
+        Labels { words }
     }
 
     /// The labels of this set that are not in `other`.
-    pub fn without(self, other: &LabelSet) -> LabelSet
+    pub fn without(&self, other: &Labels<WORDS>) -> Labels<WORDS>
         ensures { (x : ℕ) → x < MAX_LABELS → (has_bit result x ≡ true)
-            ↔ ((has_bit self x ≡ true) × (has_bit other.now x ≡ true → ⊥)) }
+            ↔ ((has_bit self.now x ≡ true) × (has_bit other.now x ≡ true → ⊥)) }
     {
-        LabelSet {
-            words: [
-                self.words[0] & !other.words[0],
-                self.words[1] & !other.words[1],
-                self.words[2] & !other.words[2],
-                self.words[3] & !other.words[3],
-            ],
+        let mut words = self.words;
+        for number in 0..WORDS {
+            words[number] &= !other.words[number];
         }
+        Labels { words }
+    }
+
+    /// The labels of this set and those of `other`.
+    pub fn union(&self, other: &Labels<WORDS>) -> Labels<WORDS>
+        ensures { (x : ℕ) → x < MAX_LABELS → (has_bit result x ≡ true)
+            ↔ ((has_bit self.now x ≡ true) ⊎ (has_bit other.now x ≡ true)) }
+    {
+        let mut words = self.words;
+        for number in 0..WORDS {
+            words[number] |= other.words[number];
+        }
+        Labels { words }
     }
 
     /// The labels of this set, and `label`.
-    pub fn with(self, label: u16) -> LabelSet
-        requires { label < MAX_LABELS }
+    pub fn with(&self, label: u16) -> Labels<WORDS>
+        requires { label < 64 * WORDS }
         ensures { (x : ℕ) → x < MAX_LABELS
-            → (has_bit result x ≡ true) ↔ ((x ≡ label) ⊎ (has_bit self x ≡ true)) }
+            → (has_bit result x ≡ true) ↔ ((x ≡ label) ⊎ (has_bit self.now x ≡ true)) }
     {
         let mut words = self.words;
         words[label as usize / 64] |= 1 << (label % 64);
-        LabelSet { words }
+        Labels { words }
     }
 
     /// Whether no label is in the set.
     pub fn is_empty(&self) -> bool
+        requires { WORDS ≤ ROW_WORDS }
         ensures { IsTrue result ↔ ((x : ℕ) → x < MAX_LABELS → has_bit self.now x ≡ true → ⊥) }
     {
-        for number in 0..ROW_WORDS {
+        for number in 0..WORDS {
             if self.words[number] != 0 {
                 return false;
             }
@@ -103,17 +106,9 @@ impl LabelSet {
         true
     }
 
-    /// The bits of the labels from `64 * number` on.
-    pub(crate) fn word(self, number: usize) -> u64
-        requires { number < ROW_WORDS }
-        ensures { result ≡ slice_index self number }
-    {
-        self.words[number]
-    }
-
     /// Whether `label` is in the set.
     pub fn contains(&self, label: u16) -> bool
-        requires { label < MAX_LABELS }
+        requires { label < 64 * WORDS }
         ensures { result ≡ has_bit self.now label }
     {
         let word = self.words[label as usize / 64];
@@ -122,6 +117,7 @@ impl LabelSet {
 
     /// How many labels are in the set.
     pub fn len(&self) -> u32
+        requires { WORDS ≤ ROW_WORDS }
         ensures { HasSize (λ x. (x < MAX_LABELS) × (has_bit self.now x ≡ true)) result }
     {
         let mut count = 0;
@@ -129,6 +125,23 @@ impl LabelSet {
             count += word.count_ones();
         }
         count
+    }
+}
+
+impl LabelSet {
+    /// The labels whose bits are set in `words`.
+    pub(crate) fn new(words: [u64; ROW_WORDS]) -> LabelSet
+        ensures { result ≡ words }
+    {
+        Labels { words }
+    }
+
+    /// The bits of the labels from `64 * number` on.
+    pub(crate) fn word(self, number: usize) -> u64
+        requires { number < ROW_WORDS }
+        ensures { result ≡ slice_index self number }
+    {
+        self.words[number]
     }
 
     /// A walk over the labels.

@@ -22,7 +22,7 @@ mod value;
 mod writing;
 
 pub use claim::Claim;
-pub use label_set::LabelSet;
+pub use label_set::{LabelSet, Labels};
 pub use label_walk::LabelWalk;
 pub use laws::{
     lasts_less, limits, one_dominator, one_has_a_tree, one_value_at_most, shown_claims_hold,
@@ -34,7 +34,7 @@ pub use laws_of_gaps::{
 pub use laws_of_ranks::{ranks_and_configurations, ranks_are_in_order};
 pub use legal::legal_labels;
 pub use members::Members;
-pub use moves::Moves;
+pub use moves::LegalMoves;
 pub use side::Side;
 pub use slow::{is_legal, labeller_lasts, value_of};
 pub use space::{MAX_CONFIGURATIONS, Space, is_small};

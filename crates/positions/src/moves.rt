@@ -17,7 +17,7 @@ use std::marker::Model;
 ///
 /// Contracts see the board and the configuration.
 #[derive(Drop)]
-pub struct Moves<'a> {
+pub struct LegalMoves<'a> {
     board: &'a Board,
     space: &'a Space,
     rank: u32,
@@ -25,7 +25,7 @@ pub struct Moves<'a> {
     places: [u16; MAX_PEBBLES],
 }
 
-impl<'a> Model for Moves<'a> {
+impl<'a> Model for LegalMoves<'a> {
     ghost use Rattle.positions.specs.Position.{Position, position_at};
     ghost use Rattle.positions.specs.Inside.Position.{HasPlaces};
 
@@ -40,7 +40,7 @@ impl Space {
     /// The moves from the configuration of `rank`.
     ///
     /// The board is the one that the space was made for.
-    pub fn moves<'a>(&'a self, board: &'a Board, rank: u32) -> Moves<'a>
+    pub fn moves<'a>(&'a self, board: &'a Board, rank: u32) -> LegalMoves<'a>
         requires same_board { self.now ≡ board.now }
         requires rank { rank < configurations self.now }
         ensures { result ≡ position_at board.now rank }
@@ -52,7 +52,7 @@ impl Space {
             places[pebble as usize] = (rest / weight) as u16;
             rest %= weight;
         }
-        Moves {
+        LegalMoves {
             board,
             space: self,
             rank,
@@ -61,7 +61,7 @@ impl Space {
     }
 }
 
-impl<'a> Moves<'a> {
+impl<'a> LegalMoves<'a> {
     /// Whether a request of `pebble` may be answered with `label`.
     pub fn is_legal(&self, pebble: u8, label: u16) -> bool
         ensures { IsTrue result ↔ Legal self.now.board self.now.configuration pebble label }

@@ -21,9 +21,9 @@ use Rattle.symmetries.specs.Elements.{least_by}
 use Rattle.proof_text.specs.declared.symmetry_proof.Images.{Images}
 use Rattle.proof_check.specs.Inside.ClassChecker.{IsClassReady, IsClassAnswering, IsClassRequesting, refusals_by}
 use Rattle.proof_check.specs.Inside.FoundRow.{IsRowFor, IsUnservedBelow}
-use Rattle.proof_check.specs.ClassNumbers.{places_of}
+use Rattle.proof_check.specs.RowNumbers.{places_of}
 use Rattle.proof_check.specs.Inside.RowSearch.{AreClassesInOrder, HasNoClass, IsTheRow}
-use Rattle.proof_check.specs.declared.row_numbers.ClassNumbers.{ClassNumbers}
+use Rattle.proof_check.specs.declared.row_numbers.RowNumbers.{RowNumbers}
 use Rattle.proof_check.specs.declared.class_fault.ClassFault.{ClassFault}
 use Rattle.proof_check.specs.declared.class_fault.ClassFault.TheVariants as faults
 use Rattle.proof_check.proofs.FoundRows.{Contains-map, Contains-map_cases}
@@ -68,7 +68,7 @@ module _ (board : PlainBoard) (proof : ClassProof) (is : IsClassDocument board p
       proof.adversary.items (λ r. refl) (λ x row. row.at) is.is_proof.adversary.each
       is.is_proof.adversary.ascending
 
-  pub answering : (numbers : ClassNumbers) (alike : AlikeBy) → IsClassReady board proof numbers alike
+  pub answering : (numbers : RowNumbers) (alike : AlikeBy) → IsClassReady board proof numbers alike
       → All (IsClassAnswering board proof numbers alike) proof.labeller.items
   answering numbers alike ready = λ k d low.
       let row = get_or proof.labeller.items k d in
@@ -87,7 +87,7 @@ module _ (board : PlainBoard) (proof : ClassProof) (is : IsClassDocument board p
             subst (λ n. n < board.labels) (get_or-take board.pebbles row.take pebble 0 below) label;
       }
 
-  pub requesting : (numbers : ClassNumbers) (alike : AlikeBy) → IsClassReady board proof numbers alike
+  pub requesting : (numbers : RowNumbers) (alike : AlikeBy) → IsClassReady board proof numbers alike
       → All (IsClassRequesting board proof numbers alike) proof.adversary.items
   requesting numbers alike ready = λ k d low.
       let shown : IsClassRequestRow board (class_request_row board (get_or proof.adversary.items k d)) =

@@ -1,4 +1,4 @@
-pub mod IndexedRows
+pub mod RowCounts
 pub mod RankSearch
 pub mod FoundRows
 pub mod RowTests
@@ -15,6 +15,7 @@ pub mod DocumentFaults
 pub mod RankFaults
 pub mod FirstRow
 pub mod RowSearch
+pub mod PartedNumbers
 pub mod CheckedRows
 pub mod ClassClaims
 pub mod ClassDocumentFaults

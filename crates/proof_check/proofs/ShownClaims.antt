@@ -17,7 +17,7 @@ use Rattle.proof_text.specs.declared.proof.AdversaryRow.{AdversaryRow}
 use Rattle.proof_text.specs.Documents.{IsProof, IsClassProof}
 use Rattle.proof_text.specs.Proof.{PlainProof, IsAnswerRow, IsRequestRow, IsBefore, AreTurns, answer_row}
 use Rattle.proof_text.specs.Proof.{request_row, answer_rows, request_rows}
-use Rattle.proof_text.specs.Arranged.{order_number}
+use Rattle.proof_text.specs.Arranged.{document_number}
 use Rattle.proof_text.specs.RowForm.{AreRows}
 use Rattle.proof_text.specs.Versions.{answers_by_configurations, requests_by_configurations}
 use Rattle.positions.specs.declared.space.TheConstants.{MAX_CONFIGURATIONS}
@@ -94,8 +94,8 @@ pub shows_normally : (normal : List ℕ → List ℕ) (board : PlainBoard) (proo
     → BreaksNoRule (normal_positions normal) board proof
     → ShowsOver (normal_positions normal) board proof.labeller proof.adversary proof.claim
 shows_normally normal board proof is rules = shows_over (normal_positions normal) board proof (record {
-  labeller = apart (order_number board.labels) (λ r. r.at) proof.labeller is.labeller.ascending;
-  adversary = apart (order_number board.labels) (λ r. r.at) proof.adversary is.adversary.ascending;
+  labeller = apart (document_number board.labels) (λ r. r.at) proof.labeller is.labeller.ascending;
+  adversary = apart (document_number board.labels) (λ r. r.at) proof.adversary is.adversary.ascending;
   turns = always board proof.claim proof.labeller is.labeller.each;
   places = λ k d lt. (is.adversary.each k d lt).at;
 }) rules

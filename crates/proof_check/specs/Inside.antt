@@ -3,5 +3,7 @@ pub mod Checker
 pub mod ClassChecker
 pub mod FoundRow
 pub mod GapBounds
+pub mod RowCounts
 pub mod RowIndex
 pub mod RowSearch
+pub mod PartedNumbers

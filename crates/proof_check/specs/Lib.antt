@@ -4,5 +4,6 @@ pub mod Refusals
 pub mod ClassFaults
 pub mod SymmetryFaults
 pub mod PositionTables
-pub mod ClassNumbers
+pub mod NumberLists
+pub mod RowNumbers
 pub mod Inside

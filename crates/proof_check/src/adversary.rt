@@ -10,12 +10,27 @@ ghost use Rattle.proof_check.specs.CheckFaults.{rank_refusals};
 ghost use Rattle.proof_check.specs.Refusals.{IsWrongAfter, IsWrongRequest, IsWrongBound};
 ghost use Rattle.proof_check.specs.Inside.Checker.{IsRequesting, HoldsAtRank};
 ghost use Rattle.proof_check.specs.Inside.FoundRow.{IsUnservedBelow};
+ghost use Rattle.proof_check.specs.Inside.RowCounts.{count_of_left};
 
 use crate::checked_row::CheckedRow;
 use crate::checker::Checker;
 use crate::fault::CheckFault;
+use crate::gap_bounds::NO_BOUND;
+use crate::row_index::Counted;
 use positions::Side;
 use proof_text::{AdversaryRow, Claim};
+
+impl Counted for AdversaryRow {
+    ghost count = { λ row. count_of_left row.left };
+
+    fn count(&self) -> u32 {
+        if self.left == NO_BOUND {
+            NO_BOUND
+        } else {
+            self.left + 1
+        }
+    }
+}
 
 impl<'a> CheckedRow<Checker<'a>, CheckFault> for AdversaryRow {
     ghost is_ready = { λ c row. IsRequesting c.board row };

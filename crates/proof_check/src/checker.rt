@@ -11,7 +11,7 @@ ghost use Rattle.proof_check.specs.Inside.GapBounds.{AreBounds};
 
 use crate::row_index::RowIndex;
 use board_text::Board;
-use positions::{MAX_CONFIGURATIONS, Moves, Space};
+use positions::{LegalMoves, MAX_CONFIGURATIONS, Space};
 use proof_text::{AdversaryRow, Claim, LabellerRow, Proof};
 use std::alloc::{AllocError, Global};
 use std::marker::Model;
@@ -90,7 +90,7 @@ impl<'a> Checker<'a> {
     }
 
     /// The moves from the configuration of `rank`.
-    pub(crate) fn moves(&self, rank: u32) -> Moves<'_>
+    pub(crate) fn moves(&self, rank: u32) -> LegalMoves<'_>
         requires { rank < configurations self.now.board }
         ensures { result ≡ position_at self.now.board rank }
     {

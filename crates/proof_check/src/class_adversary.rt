@@ -6,7 +6,7 @@ ghost use Rattle.positions.specs.Game.{Legal};
 ghost use Rattle.proof_text.specs.Positions as positions_of;
 ghost use Rattle.proof_text.specs.Positions.{normal_positions};
 ghost use Rattle.proof_text.specs.Rules.{IsListedBelow, MeetsAnswer, MeetsAnswers, StartIsBelow};
-ghost use Rattle.proof_text.specs.Arranged.{order_number};
+ghost use Rattle.proof_text.specs.Arranged.{document_number};
 ghost use Rattle.proof_text.specs.ClassProof.{plain_class_proof};
 ghost use Rattle.proof_text.specs.ClassProof.{class_request_row, class_request_rows};
 ghost use Rattle.symmetries.specs.Elements.{least_by};
@@ -76,7 +76,7 @@ fn label_fault(
 ) -> Option<ClassFault>
     requires row { IsClassRequesting checker.now.board.now checker.now.proof.now
         checker.now.numbers.now checker.now.alike.now row.now }
-    requires at { at ≡ order_number checker.now.board.now.labels (class_request_row
+    requires at { at ≡ document_number checker.now.board.now.labels (class_request_row
         checker.now.board.now row.now).at }
     requires pebble { pebble ≡ positions_of.asked_pebble (class_request_row checker.now.board.now
         row.now) }
@@ -144,7 +144,7 @@ fn number_fault(
     requires ready { IsClassReady checker.now.board.now checker.now.proof.now
         checker.now.numbers.now checker.now.alike.now }
     ensures { (places : List ℕ) → IsConfiguration checker.now.board.now places
-        → number ≡ order_number checker.now.board.now.labels places
+        → number ≡ document_number checker.now.board.now.labels places
         → MatchOption result
         (IsListedBelow (class_request_rows checker.now.board.now
         checker.now.proof.now.adversary.items) places (suc most))

@@ -10,7 +10,7 @@ ghost use Rattle.proof_text.specs.ClassProof.{plain_class_proof};
 ghost use Rattle.proof_text.specs.Positions.{class_positions, normal_positions};
 ghost use Rattle.proof_text.specs.Rules.{BreaksNoRule};
 ghost use Rattle.symmetries.specs.Elements.{least_by};
-ghost use Rattle.proof_check.specs.ClassNumbers.{AreNumbersOfRows};
+ghost use Rattle.proof_check.specs.RowNumbers.{AreNumbersOfRows};
 ghost use Rattle.proof_check.specs.ClassFaults.{IsFirstClassFault, NamesClass};
 ghost use Rattle.proof_check.specs.Inside.ClassChecker.{refusals_by};
 ghost use Rattle.proof_check.specs.Refusals.{IsFirstFault};
@@ -19,7 +19,7 @@ use crate::checked_row::first_fault;
 use crate::class_adversary::bound_fault;
 use crate::class_fault::ClassFault;
 use crate::class_labeller::start_fault;
-use crate::row_numbers::ClassNumbers;
+use crate::row_numbers::RowNumbers;
 use board_text::Board;
 use proof_text::ClassProof;
 use std::thread::Threads;
@@ -32,7 +32,7 @@ pub(crate) struct ClassChecker<'a> {
     pub(crate) board: &'a Board,
     pub(crate) alike: &'a Alike,
     pub(crate) proof: &'a ClassProof,
-    pub(crate) numbers: &'a ClassNumbers,
+    pub(crate) numbers: &'a RowNumbers,
 }
 
 /// Whether the rows of `proof`, which have these `numbers`, break no rule, or the first fault in
@@ -41,7 +41,7 @@ pub fn check_classes(
     rt: &(impl Threads + Sync),
     board: &Board,
     proof: &ClassProof,
-    numbers: &ClassNumbers,
+    numbers: &RowNumbers,
 ) -> Result<(), ClassFault>
     requires document { IsClassDocument board.now proof.now }
     requires numbers { AreNumbersOfRows board.now proof.now numbers.now }
@@ -78,7 +78,7 @@ pub(crate) fn document_fault(
     board: &Board,
     alike: &Alike,
     proof: &ClassProof,
-    numbers: &ClassNumbers,
+    numbers: &RowNumbers,
 ) -> Option<ClassFault>
     requires alike { alike.now.labels ≡ board.now.labels }
     requires document { IsClassDocument board.now proof.now }
@@ -90,8 +90,6 @@ pub(crate) fn document_fault(
         (plain_class_proof board.now proof.now)) }
     ensures start { IsConfiguration board.now board.now.start }
 {
-    // That this is a configuration is the clause `start`.
-    let _ = board.start();
     let checker = ClassChecker {
         board,
         alike,

@@ -5,7 +5,7 @@ ghost use Rattle.board_text.specs.PlainBoard.{IsConfiguration};
 ghost use Rattle.proof_text.specs.Positions.{normal_positions};
 ghost use Rattle.proof_text.specs.Rules as rules;
 ghost use Rattle.proof_text.specs.Rules.{MeetsRequest, MeetsRequests, Serves};
-ghost use Rattle.proof_text.specs.Arranged.{order_number};
+ghost use Rattle.proof_text.specs.Arranged.{document_number};
 ghost use Rattle.proof_text.specs.ClassProof.{plain_class_proof};
 ghost use Rattle.proof_text.specs.ClassProof.{class_answer_row, class_answer_rows};
 ghost use Rattle.symmetries.specs.Elements.{least_by};
@@ -56,7 +56,7 @@ fn answer_fault(
 ) -> Option<ClassFault>
     requires row { IsClassAnswering checker.now.board.now checker.now.proof.now
         checker.now.numbers.now checker.now.alike.now row.now }
-    requires at { at ≡ order_number checker.now.board.now.labels (class_answer_row
+    requires at { at ≡ document_number checker.now.board.now.labels (class_answer_row
         checker.now.board.now row.now).at }
     requires pebble { pebble < checker.now.board.now.pebbles }
     ensures { MatchOption result
@@ -91,7 +91,8 @@ fn answer_fault(
 pub(crate) fn start_fault(checker: &ClassChecker<'_>) -> Option<ClassFault>
     requires { IsClassReady checker.now.board.now checker.now.proof.now checker.now.numbers.now
         checker.now.alike.now }
-    ensures { MatchOption result
+    ensures start { IsConfiguration checker.now.board.now checker.now.board.now.start }
+    ensures fault { MatchOption result
         (Serves (class_answer_rows checker.now.board.now checker.now.proof.now.labeller.items)
         (least_by checker.now.board.now.labels checker.now.alike.now.group
         checker.now.board.now.start)
@@ -124,7 +125,7 @@ fn turns_fault(
     requires ready { IsClassReady checker.now.board.now checker.now.proof.now
         checker.now.numbers.now checker.now.alike.now }
     ensures { (places : List ℕ) → IsConfiguration checker.now.board.now places
-        → number ≡ order_number checker.now.board.now.labels places
+        → number ≡ document_number checker.now.board.now.labels places
         → MatchOption result
         (Serves (class_answer_rows checker.now.board.now checker.now.proof.now.labeller.items)
         places wanted)

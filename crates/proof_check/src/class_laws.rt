@@ -8,7 +8,7 @@ ghost use Rattle.proof_text.specs.Documents.{IsClassProof};
 ghost use Rattle.proof_text.specs.Positions.{class_positions};
 ghost use Rattle.proof_text.specs.Proof.{PlainProof};
 ghost use Rattle.proof_text.specs.Rules.{BreaksNoRule};
-ghost use Rattle.proof_text.specs.Arranged.{arranged_at, order_number};
+ghost use Rattle.proof_text.specs.Arranged.{arranged_at, document_number};
 ghost use Rattle.proof_check.specs.ClassFaults.{IsFirstClassFault};
 ghost use Rattle.proof_check.specs.PositionTables.{ShowsOver};
 ghost use Rattle.proof_check.specs.declared.class_fault.ClassFault.{ClassFault as Fault};
@@ -47,5 +47,5 @@ pub fn one_class_fault()
 /// fault names by its number is the row with the places that are written for it.
 pub fn classes_are_told_by_their_numbers()
     ensures { (board : PlainBoard) → (at : List ℕ) → IsConfiguration board at
-        → arranged_at board (order_number board.labels at) ≡ at }
+        → arranged_at board (document_number board.labels at) ≡ at }
 {}

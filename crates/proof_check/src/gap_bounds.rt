@@ -1,7 +1,7 @@
-//! Numbers above those of the rows of all results of a request, by its gap: the answers to a request
-//! and their results are those of its gap, which many rows ask.
+//! Numbers above those of the rows of all results of a request, by its gap: the answers to it and
+//! their results are those of its gap, which many rows ask.
 
-ghost use Rattle.std.specs.Prelude.{◌≡◌, ◌<◌, ◌≤◌, true, IfOk};
+ghost use Rattle.std.specs.Prelude.{◌≡◌, ◌≤◌, true, IfOk};
 ghost use Rattle.positions.specs.Gaps.{gap_of};
 ghost use Rattle.positions.specs.Ranks.{configuration_at};
 ghost use Rattle.proof_text.specs.Positions.{configuration_positions};
@@ -51,10 +51,11 @@ impl Checker<'_> {
         let results = moves.results(row.ask);
         let mut bound = 0;
         while let Some(label) = answers.take_next() {
-            let Some(found) = self.adversary().find(results.rank(label)) else {
+            let above = self.adversary().count(results.rank(label));
+            if above == 0 {
                 return NO_BOUND;
-            };
-            bound = raised(bound, found.left);
+            }
+            bound = raised(bound, above);
         }
         bound
     }
@@ -74,14 +75,10 @@ impl Checker<'_> {
     }
 }
 
-/// The `bound`, raised above `left` if it isn't.
-fn raised(bound: u32, left: u32) -> u32
+/// The `bound`, raised to `above` if it is less.
+fn raised(bound: u32, above: u32) -> u32
     ensures kept { bound ≤ result }
-    ensures above { result < NO_BOUND → left < result }
+    ensures above { above ≤ result }
 {
-    if left < bound {
-        bound
-    } else {
-        left.saturating_add(1)
-    }
+    if bound < above { above } else { bound }
 }

@@ -1,6 +1,6 @@
 //! The labeller's rows of a document, checked.
 
-ghost use Rattle.std.specs.Prelude.{◌≡◌, ◌<◌, MatchOption};
+ghost use Rattle.std.specs.Prelude.{◌≡◌, ◌<◌, true, MatchOption};
 ghost use Rattle.positions.specs.Position.{position_at};
 ghost use Rattle.proof_text.specs.Positions.{configuration_positions};
 ghost use Rattle.proof_text.specs.Proof.{answer_row};
@@ -10,13 +10,23 @@ ghost use Rattle.proof_check.specs.CheckFaults.{rank_refusals};
 ghost use Rattle.proof_check.specs.Refusals.{IsWrongAnswer, IsWrongAt, IsWrongStart};
 ghost use Rattle.proof_check.specs.Inside.Checker.{IsAnswering, HoldsAtRank};
 ghost use Rattle.proof_check.specs.Inside.FoundRow.{IsUnservedFor};
+ghost use Rattle.proof_check.specs.Inside.RowCounts.{count_of_turns};
 
 use crate::checked_row::CheckedRow;
 use crate::checker::Checker;
 use crate::fault::CheckFault;
-use crate::turns::{after_one, wanted_of};
-use positions::{Moves, Side, Turns};
+use crate::row_index::Counted;
+use crate::turns::{after_one, count_of, least_count, wanted_of};
+use positions::{LegalMoves, Side, Turns};
 use proof_text::LabellerRow;
+
+impl Counted for LabellerRow {
+    ghost count = { λ row. count_of_turns row.turns };
+
+    fn count(&self) -> u32 {
+        count_of(self.turns)
+    }
+}
 
 impl<'a> CheckedRow<Checker<'a>, CheckFault> for LabellerRow {
     ghost is_ready = { λ c row. IsAnswering c.board row };
@@ -30,8 +40,9 @@ impl<'a> CheckedRow<Checker<'a>, CheckFault> for LabellerRow {
     /// The fault of the row's first faulty pebble, if it has one.
     fn fault(&self, checker: &Checker<'a>) -> Option<CheckFault> {
         let moves = checker.moves(self.at);
+        let left = after_one(self.turns);
         for pebble in 0..checker.pebbles() {
-            if let Some(fault) = checker.answer_fault(self, &moves, pebble) {
+            if let Some(fault) = checker.answer_fault(self, &moves, left, pebble) {
                 return Some(fault);
             }
         }
@@ -41,10 +52,17 @@ impl<'a> CheckedRow<Checker<'a>, CheckFault> for LabellerRow {
 
 impl Checker<'_> {
     /// The fault of the answer of `row` to a request of `pebble`, if it has one. The `moves` are
-    /// those from the row's configuration.
-    fn answer_fault(&self, row: &LabellerRow, moves: &Moves<'_>, pebble: u8) -> Option<CheckFault>
+    /// those from the row's configuration, and `left` are the turns that it leaves.
+    fn answer_fault(
+        &self,
+        row: &LabellerRow,
+        moves: &LegalMoves<'_>,
+        left: Turns,
+        pebble: u8,
+    ) -> Option<CheckFault>
         requires row { IsAnswering self.now.board row.now }
         requires moves { moves.now ≡ position_at self.now.board row.now.at }
+        requires left { left ≡ rules.one_less row.now.turns }
         requires pebble { pebble < self.now.board.pebbles }
         ensures { MatchOption result
             (MeetsRequest configuration_positions self.now.board self.now.proof.labeller
@@ -56,14 +74,17 @@ impl Checker<'_> {
         if !moves.is_legal(pebble, label) {
             return Some(CheckFault::IllegalAnswer { at: row.at, pebble });
         }
+        let result = moves.after(pebble, label);
+        if self.serves(result, left) {
+            return None;
+        }
         let missing = CheckFault::Unlisted {
             side: Side::Labeller,
             at: row.at,
             turn: pebble as u16,
         };
         let short = CheckFault::TooSmall { at: row.at, pebble };
-        let left = after_one(row.turns);
-        self.turns_fault(moves.after(pebble, label), left, missing, short)
+        self.turns_fault(result, left, missing, short)
     }
 
     /// The fault of the start's number in the labeller's rows, if it has one.
@@ -81,6 +102,8 @@ impl Checker<'_> {
 
     /// The fault if the labeller's rows don't serve the `wanted` turns at `rank`: `missing` if no
     /// row has the rank, `short` if its row has too few turns.
+    #[cold]
+    #[inline(never)]
     fn turns_fault(
         &self,
         rank: u32,
@@ -99,5 +122,13 @@ impl Checker<'_> {
             return Some(missing);
         };
         (row.turns < wanted).then_some(short)
+    }
+
+    /// Whether the count of the row of `rank` shows that it serves the `wanted` turns, if any are.
+    fn serves(&self, rank: u32, wanted: Turns) -> bool
+        ensures { result ≡ true → HoldsAtRank self.now.board rank (λ configuration.
+            Serves self.now.proof.labeller configuration wanted) }
+    {
+        least_count(wanted) <= self.labeller().count(rank)
     }
 }

@@ -1,28 +1,34 @@
 //! The rows of a document by the ranks of their configurations.
 
-ghost use Rattle.std.specs.Prelude.{◌≡◌, List, IfOk, MatchOption};
-ghost use Rattle.proof_check.specs.Inside.RowIndex.{AreAscending, AreRanked, IsIndex, HasNone};
-ghost use Rattle.proof_check.specs.Inside.RowIndex.{IsRowOf};
+ghost use Rattle.std.specs.Prelude.{◌≡◌, ℕ, ◌<◌, List, IfOk, MatchOption};
+ghost use Rattle.proof_check.specs.Inside.RowIndex.{AreAscending, AreCounts, AreRanked, HasNone};
+ghost use Rattle.proof_check.specs.Inside.RowIndex.{IsCountOf, IsRowOf};
 
 use proof_text::Ranked;
 use std::alloc::{AllocError, Global};
 use std::marker::Model;
 
-/// The entry of an index at a rank that no row has. It is the number of no row.
-const NO_ROW: u32 = u32::MAX;
+/// A row that has a count, by which it is told whether it serves.
+pub(crate) trait Counted: Ranked {
+    ghost count: { Self → ℕ };
 
-/// Below one row per 64 configurations rows are found by binary search, not by an index.
+    /// The count of the row.
+    fn count(&self) -> u32
+        ensures { result ≡ count self.now };
+}
+
+/// Below one row per 64 configurations counts are found by binary search, not by a table.
 const SEARCHED: usize = 64;
 
 /// Rows that are found by their ranks. Contracts see the rows.
 #[derive(Drop)]
-pub(crate) struct RowIndex<'a, R: Ranked> {
+pub(crate) struct RowIndex<'a, R: Counted> {
     rows: &'a [R],
-    /// At each row's rank its number in `rows`; elsewhere `NO_ROW`. Empty if the rows are searched.
-    numbers: Vec<u32>,
+    /// At each row's rank its count; elsewhere 0. Empty if the rows are searched.
+    counts: Vec<u32>,
 }
 
-impl<'a, R: Ranked> Model for RowIndex<'a, R> {
+impl<'a, R: Counted> Model for RowIndex<'a, R> {
     ghost use Rattle.std.specs.Prelude.{List};
     ghost use Rattle.proof_check.specs.Inside.RowIndex.{AreFound};
 
@@ -30,10 +36,10 @@ impl<'a, R: Ranked> Model for RowIndex<'a, R> {
 
     ghost view = { λ index. index.rows.now };
 
-    ghost invariant = { λ index. AreFound R.rank index.rows.now index.numbers.items };
+    ghost invariant = { λ index. AreFound R.rank R.count index.rows.now index.counts.items };
 }
 
-impl<'a, R: Ranked> RowIndex<'a, R> {
+impl<'a, R: Counted> RowIndex<'a, R> {
     /// The index of `rows`, whose ranks ascend and are below `size`.
     pub(crate) fn new(
         alloc: Global,
@@ -43,12 +49,12 @@ impl<'a, R: Ranked> RowIndex<'a, R> {
         requires { AreRanked R.rank size rows.now }
         ensures { IfOk result (λ index. index ≡ rows.now) }
     {
-        let numbers = if rows.len() < size as usize / SEARCHED {
+        let counts = if rows.len() < size as usize / SEARCHED {
             Vec::new(alloc)
         } else {
-            numbers_of(alloc, size, rows)?
+            counts_of(alloc, size, rows)?
         };
-        Ok(RowIndex { rows, numbers })
+        Ok(RowIndex { rows, counts })
     }
 
     /// All rows.
@@ -58,15 +64,35 @@ impl<'a, R: Ranked> RowIndex<'a, R> {
         self.rows
     }
 
+    /// The count of the row of `rank`; 0 if there is none.
+    #[inline(always)]
+    pub(crate) fn count(&self, rank: u32) -> u32
+        ensures { 0 < result → IsCountOf R.rank R.count self.now rank result }
+    {
+        match self.counts.get(rank as usize) {
+            Some(count) => *count,
+            None => self.searched_count(rank),
+        }
+    }
+
+    /// The same by a search.
+    #[cold]
+    #[inline(never)]
+    fn searched_count(&self, rank: u32) -> u32
+        ensures { 0 < result → IsCountOf R.rank R.count self.now rank result }
+    {
+        match self.find(rank) {
+            Some(row) => row.count(),
+            None => 0,
+        }
+    }
+
     /// The row of `rank`, if there is one.
     pub(crate) fn find(&self, rank: u32) -> Option<&'a R>
         ensures { MatchOption result (HasNone R.rank self.now rank)
             (λ row. IsRowOf R.rank self.now rank row.now) }
     {
-        match self.numbers.get(rank as usize) {
-            Some(number) => self.rows.get(*number as usize),
-            None => search(self.rows, rank),
-        }
+        search(self.rows, rank)
     }
 }
 
@@ -82,14 +108,14 @@ fn search<R: Ranked>(rows: &[R], rank: u32) -> Option<&R>
     }
 }
 
-/// The number of each of `rows` at its rank, and elsewhere `NO_ROW`.
-fn numbers_of<R: Ranked>(alloc: Global, size: u32, rows: &[R]) -> Result<Vec<u32>, AllocError>
+/// The count of each of `rows` at its rank, and elsewhere 0.
+fn counts_of<R: Counted>(alloc: Global, size: u32, rows: &[R]) -> Result<Vec<u32>, AllocError>
     requires { AreRanked R.rank size rows.now }
-    ensures { IfOk result (λ numbers. IsIndex R.rank rows.now numbers.items) }
+    ensures { IfOk result (λ counts. AreCounts R.rank R.count rows.now counts.items) }
 {
-    let mut numbers = vec![in alloc; NO_ROW; size as usize]?;
-    for (number, row) in rows.iter().enumerate() {
-        numbers[row.rank() as usize] = number as u32;
+    let mut counts = vec![in alloc; 0; size as usize]?;
+    for row in rows {
+        counts[row.rank() as usize] = row.count();
     }
-    Ok(numbers)
+    Ok(counts)
 }

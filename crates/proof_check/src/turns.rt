@@ -1,8 +1,10 @@
 //! The turns that a claim wants of the start, and that a row leaves.
 
-ghost use Rattle.std.specs.Prelude.{◌≡◌};
+ghost use Rattle.std.specs.Prelude.{◌≡◌, ◌≤◌};
+ghost use Rattle.positions.specs.declared.turns.Turns.{Turns as TurnsData};
 ghost use Rattle.proof_text.specs.Rules as rules;
-ghost use Rattle.proof_text.specs.Rules.{one_less};
+ghost use Rattle.proof_text.specs.Rules.{IsEnough, IsWanted, one_less};
+ghost use Rattle.proof_check.specs.Inside.RowCounts.{count_of_turns};
 
 use positions::{Claim, Turns};
 
@@ -24,5 +26,27 @@ pub(crate) fn wanted_of(claim: Claim) -> Turns
         Claim::Exactly(number) | Claim::AtLeast(number) => Turns::Count(number),
         Claim::AtMost(_) => Turns::Count(0),
         Claim::Forever => Turns::Always,
+    }
+}
+
+/// The count of a row of `turns`: their number, and `u32::MAX` for turns without end alone.
+pub(crate) fn count_of(turns: Turns) -> u32
+    ensures { result ≡ count_of_turns turns }
+{
+    match turns {
+        Turns::Count(turns) if turns < u32::MAX => turns,
+        Turns::Count(_) => u32::MAX - 1,
+        Turns::Always => u32::MAX,
+    }
+}
+
+/// The least count of rows that have the `wanted` turns.
+pub(crate) fn least_count(wanted: Turns) -> u32
+    ensures enough { (turns : TurnsData) → result ≤ count_of_turns turns → IsEnough wanted turns }
+    ensures none { result ≡ 0 → ¬ IsWanted wanted }
+{
+    match wanted {
+        Turns::Count(turns) => turns,
+        Turns::Always => u32::MAX,
     }
 }

@@ -18,7 +18,7 @@ use Rattle.positions.specs.declared.claim.Claim.{Claim}
 use Rattle.positions.specs.Table.{RequestRow}
 use Rattle.proof_text.specs.declared.class_proof.AdversaryClassRow.{AdversaryClassRow}
 use Rattle.proof_text.specs.declared.fault.ProofKind.TheVariants as kinds
-use Rattle.proof_text.specs.declared.proof.TheConstants.{MOST_TURNS}
+use Rattle.proof_text.specs.declared.proof.TheConstants.{MAX_TURNS}
 use Rattle.proof_text.specs.declared.row_words.ClassRequestValues.{ClassRequestValues}
 use Rattle.proof_text.specs.ClassProof.{IsClassRequestRow, class_request_row}
 use Rattle.proof_text.specs.ProofText.{class_request_line}
@@ -170,15 +170,15 @@ module _ {board : PlainBoard} {values : ClassRequestValues} {at asked old new : 
           all_spelled board.labels (places board) taken.words.ask asked ask_read,
         ),
         asked_stands,
-        subst (λ (n : Option ℕ). NumberOf (MOST_TURNS + 1) taken.words.left n) none taken.spell.number,
+        subst (λ (n : Option ℕ). NumberOf (MAX_TURNS + 1) taken.words.left n) none taken.spell.number,
       )
 
       request_read : (left : ℕ) → values.left ≡ Some left
           → IsClassRequestRow board (record { at = at; left = left; request = get_or asked 0 0 })
           × (old ≡ class_request_line board (record { at = at; left = left; request = get_or asked 0 0 }) ++ new)
       request_read left some =
-          let n : NumberOf (MOST_TURNS + 1) taken.words.left (Some left) =
-          subst (λ (m : Option ℕ). NumberOf (MOST_TURNS + 1) taken.words.left m) some taken.spell.number in
+          let n : NumberOf (MAX_TURNS + 1) taken.words.left (Some left) =
+          subst (λ (m : Option ℕ). NumberOf (MAX_TURNS + 1) taken.words.left m) some taken.spell.number in
           let asks : spaced_texts taken.words.ask ≡ spaced_places board.labels (get_or asked 0 0 ∷ []) =
           ap spaced_texts (ask_read.1 ∙ ap (map (place_word board.labels)) ask_is) in (
             record { at = class_request_position; left = omega (arith, n.0); request = held },

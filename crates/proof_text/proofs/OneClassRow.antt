@@ -15,7 +15,7 @@ use Rattle.board_text.proofs.Cited.{texts_unique, words_are_texts, words_spell}
 use Rattle.positions.specs.Table.{RequestRow}
 use Rattle.proof_text.specs.declared.fault.ProofKind.{ProofKind}
 use Rattle.proof_text.specs.declared.fault.ProofKind.TheVariants as kinds
-use Rattle.proof_text.specs.declared.proof.TheConstants.{MOST_TURNS}
+use Rattle.proof_text.specs.declared.proof.TheConstants.{MAX_TURNS}
 use Rattle.proof_text.specs.RowFaults.{SpellConfiguration, ClassRequestMisread, IsAskedAmong}
 use Rattle.proof_text.specs.ProofFaults.{requests_read, read_by_classes}
 use Rattle.proof_text.proofs.OneRow.{RowLaws, row_laws, same_places, few_all, position_texts, position_spelled}
@@ -59,7 +59,7 @@ RequestRead board rest found =
     (Some kinds.Row)
     (λ words more. Unless (Some kinds.Label) (SpellConfiguration board words.at × SpellConfiguration board words.ask)
     (Unless (Some kinds.Pebble) (IsAskedAmong words)
-    (Unless (Some kinds.Number) (SpellsBelow (MOST_TURNS + 1) words.left) (λ v. v ≡ None))))
+    (Unless (Some kinds.Number) (SpellsBelow (MAX_TURNS + 1) words.left) (λ v. v ≡ None))))
     found
 
 request_misread : (board : PlainBoard) (rest : List ℕ) (kind : ProofKind) → ClassRequestMisread board rest kind

@@ -16,7 +16,7 @@ use Rattle.positions.specs.declared.turns.Turns.TheVariants.{Count, Always}
 use Rattle.positions.specs.Table.{AnswerRow, RequestRow}
 use Rattle.proof_text.specs.declared.fault.ProofKind.{ProofKind}
 use Rattle.proof_text.specs.declared.fault.ProofKind.TheVariants as kinds
-use Rattle.proof_text.specs.declared.proof.TheConstants.{MOST_TURNS}
+use Rattle.proof_text.specs.declared.proof.TheConstants.{MAX_TURNS}
 use Rattle.proof_text.specs.Proof.{AreTurns, IsAnswerRow, IsRequestRow}
 use Rattle.proof_text.specs.ProofText.{turns_text, answer_line, request_line}
 use Rattle.proof_text.specs.RowWords.{AnswerWords, RequestWords, IsTurnsText, AreAnswerWords, AreRequestWords}
@@ -269,7 +269,7 @@ RequestRead board rest found =
     Line (AreRequestWords board.pebbles board.labels (places board)) request_words_line rest (Some kinds.Row)
     (λ words more. Unless (Some kinds.Label) (SpellConfiguration board words.at)
     (Unless (Some kinds.Pebble) (SpellsBelow board.pebbles words.ask)
-    (Unless (Some kinds.Number) (SpellsBelow (MOST_TURNS + 1) words.left) (λ v. v ≡ None))))
+    (Unless (Some kinds.Number) (SpellsBelow (MAX_TURNS + 1) words.left) (λ v. v ≡ None))))
     found
 
 request_misread : (board : PlainBoard) (rest : List ℕ) (kind : ProofKind) → RequestMisread board rest kind

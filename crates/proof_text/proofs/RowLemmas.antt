@@ -19,7 +19,7 @@ use Rattle.positions.specs.Ranks.{rank_of, configuration_at}
 use Rattle.positions.proofs.Cited.{configuration_at-rank_of}
 use Rattle.proof_text.specs.declared.class_proof.LabellerClassRow.{LabellerClassRow}
 use Rattle.proof_text.specs.declared.fault.ProofKind.TheVariants as kinds
-use Rattle.proof_text.specs.declared.proof.TheConstants.{MOST_TURNS}
+use Rattle.proof_text.specs.declared.proof.TheConstants.{MAX_TURNS}
 use Rattle.proof_text.specs.declared.row_words.AnswerValues.{AnswerValues}
 use Rattle.proof_text.specs.declared.row_words.RequestValues.{RequestValues}
 use Rattle.proof_text.specs.ClassProof.{class_answer_row}
@@ -281,7 +281,7 @@ module _ {board : PlainBoard} {values : RequestValues} {at old new : List ℕ}
         (taken.are, new, taken.stands),
         all_spelled board.labels (places board) taken.words.at at place_read,
         (ask, pebble_read.0, pebble_read.1),
-        subst (λ (n : Option ℕ). NumberOf (MOST_TURNS + 1) taken.words.left n) none taken.spell.number,
+        subst (λ (n : Option ℕ). NumberOf (MAX_TURNS + 1) taken.words.left n) none taken.spell.number,
       )
 
       request_read : (left : ℕ) → values.left ≡ Some left
@@ -289,8 +289,8 @@ module _ {board : PlainBoard} {values : RequestValues} {at old new : List ℕ}
           × (old ≡ request_line board (record { at = at; left = left; request = ask }) ++ new)
       request_read left some =
           let is_at = places_count board.labels (places board) taken.words.at at place_read taken.are.at.0 in
-          let n : NumberOf (MOST_TURNS + 1) taken.words.left (Some left) =
-          subst (λ (m : Option ℕ). NumberOf (MOST_TURNS + 1) taken.words.left m) some taken.spell.number in (
+          let n : NumberOf (MAX_TURNS + 1) taken.words.left (Some left) =
+          subst (λ (m : Option ℕ). NumberOf (MAX_TURNS + 1) taken.words.left m) some taken.spell.number in (
             record {
               at = record { each_pebble = is_at.0; each_place = is_at.1 };
               left = omega (arith, n.0);

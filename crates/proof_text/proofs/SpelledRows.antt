@@ -19,10 +19,10 @@ use Rattle.positions.specs.declared.turns.Turns.TheVariants.{Count, Always}
 use Rattle.proof_text.specs.Proof.{AreTurns}
 use Rattle.proof_text.specs.ProofText.{turns_text}
 use Rattle.proof_text.specs.Inside.Reading.{TurnsOf, NumberOf}
-use Rattle.proof_text.specs.declared.proof.TheConstants.{MOST_TURNS}
+use Rattle.proof_text.specs.declared.proof.TheConstants.{MAX_TURNS}
 use Rattle.proof_text.proofs.RowWords.{no_star}
 
-pub count_small : (claim : Claim) (n : ℕ) → AreTurns claim (Count n) → n < MOST_TURNS + 1
+pub count_small : (claim : Claim) (n : ℕ) → AreTurns claim (Count n) → n < MAX_TURNS + 1
 count_small Forever n are = absurd are
 count_small claim n are = omega (arith, are.1)
 
@@ -31,7 +31,7 @@ pub no_star_turns : (claim : Claim) → claim ≢ Forever → AreTurns claim Alw
 no_star_turns Forever not are = not refl
 no_star_turns claim not are = are
 
-pub are_turns : (claim : Claim) (n : ℕ) → claim ≢ Forever → InRange 1 MOST_TURNS n → AreTurns claim (Count n)
+pub are_turns : (claim : Claim) (n : ℕ) → claim ≢ Forever → InRange 1 MAX_TURNS n → AreTurns claim (Count n)
 are_turns Forever n not is = absurd (not refl)
 are_turns claim n not is = is
 

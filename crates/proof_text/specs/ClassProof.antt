@@ -4,7 +4,7 @@ use Rattle.std.specs.Prelude.{Contains}
 use Rattle.board_text.specs.PlainBoard.{PlainBoard, IsConfiguration}
 use Rattle.positions.specs.Table.{AnswerRow, RequestRow}
 use Rattle.proof_text.specs.Proof.{PlainProof}
-use Rattle.proof_text.specs.declared.proof.TheConstants.{MOST_TURNS}
+use Rattle.proof_text.specs.declared.proof.TheConstants.{MAX_TURNS}
 use Rattle.proof_text.specs.declared.class_proof.LabellerClassRow.{LabellerClassRow}
 use Rattle.proof_text.specs.declared.class_proof.AdversaryClassRow.{AdversaryClassRow}
 use Rattle.proof_text.specs.declared.class_proof.ClassProof.{ClassProof}
@@ -12,7 +12,7 @@ use Rattle.proof_text.specs.declared.class_proof.ClassProof.{ClassProof}
 -- an adversary's row; its request is the place of a pebble that is asked
 pub record IsClassRequestRow (board : PlainBoard) (row : RequestRow) : Type 0 where
   pub at : IsConfiguration board row.at
-  pub left : row.left ≤ MOST_TURNS
+  pub left : row.left ≤ MAX_TURNS
   pub request : Contains row.at row.request
 
 -- ---- rows with room for the most pebbles

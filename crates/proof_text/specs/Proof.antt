@@ -12,7 +12,7 @@ use Rattle.positions.specs.Ranks.{rank_of, configuration_at}
 use Rattle.proof_text.specs.declared.proof.LabellerRow.{LabellerRow}
 use Rattle.proof_text.specs.declared.proof.AdversaryRow.{AdversaryRow}
 use Rattle.proof_text.specs.declared.proof.Proof.{Proof}
-use Rattle.proof_text.specs.declared.proof.TheConstants.{MOST_TURNS}
+use Rattle.proof_text.specs.declared.proof.TheConstants.{MAX_TURNS}
 
 -- a claim, and the rows of both sides
 pub record Sections (X Y : Type 0) : Type 0 where
@@ -26,9 +26,9 @@ PlainProof = Sections AnswerRow RequestRow
 
 -- the number of the claim is in range
 abbrev pub IsClaim : Claim → Type 0
-IsClaim (Exactly number) = number ≤ MOST_TURNS
-IsClaim (AtLeast number) = number ≤ MOST_TURNS
-IsClaim (AtMost number) = number ≤ MOST_TURNS
+IsClaim (Exactly number) = number ≤ MAX_TURNS
+IsClaim (AtLeast number) = number ≤ MAX_TURNS
+IsClaim (AtMost number) = number ≤ MAX_TURNS
 IsClaim Forever = Unit {0}
 
 -- whether a document with the claim has a labeller's section
@@ -51,7 +51,7 @@ abbrev pub AreTurns : Claim → Turns → Type 0
 AreTurns Forever Always = Unit {0}
 AreTurns Forever (Count number) = ⊥
 AreTurns claim Always = ⊥
-AreTurns claim (Count number) = InRange 1 MOST_TURNS number
+AreTurns claim (Count number) = InRange 1 MAX_TURNS number
 
 -- a labeller's row in a document with the claim
 pub record IsAnswerRow (board : PlainBoard) (claim : Claim) (row : AnswerRow) : Type 0 where
@@ -62,7 +62,7 @@ pub record IsAnswerRow (board : PlainBoard) (claim : Claim) (row : AnswerRow) : 
 -- an adversary's row
 pub record IsRequestRow (board : PlainBoard) (row : RequestRow) : Type 0 where
   pub at : IsConfiguration board row.at
-  pub left : row.left ≤ MOST_TURNS
+  pub left : row.left ≤ MAX_TURNS
   pub request : row.request < board.pebbles
 
 -- one configuration comes before another, in rank

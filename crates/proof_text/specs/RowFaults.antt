@@ -8,7 +8,7 @@ use Rattle.positions.specs.declared.claim.Claim.{Claim}
 use Rattle.positions.specs.declared.turns.Turns.{Turns}
 use Rattle.proof_text.specs.declared.fault.ProofKind.{ProofKind}
 use Rattle.proof_text.specs.declared.fault.ProofKind.TheVariants as kinds
-use Rattle.proof_text.specs.declared.proof.TheConstants.{MOST_TURNS}
+use Rattle.proof_text.specs.declared.proof.TheConstants.{MAX_TURNS}
 use Rattle.proof_text.specs.Proof.{AreTurns}
 use Rattle.proof_text.specs.ProofText.{turns_text}
 use Rattle.proof_text.specs.RowWords.{AnswerWords, RequestWords, AreAnswerWords, AreRequestWords}
@@ -66,7 +66,7 @@ RequestMisread board rest kinds.Pebble =
 RequestMisread board rest kinds.Number =
     (words : RequestWords) × HasRequestWords board rest words × SpellConfiguration board words.at
     × SpellsBelow board.pebbles words.ask
-    × ¬ SpellsBelow (MOST_TURNS + 1) words.left
+    × ¬ SpellsBelow (MAX_TURNS + 1) words.left
 RequestMisread board rest kind = ⊥
 
 -- an adversary's row by classes with these words stands here
@@ -94,7 +94,7 @@ ClassRequestMisread board rest kinds.Pebble =
 ClassRequestMisread board rest kinds.Number =
     (words : ClassRequestWords) × HasClassRequestWords board rest words
     × (SpellConfiguration board words.at × SpellConfiguration board words.ask)
-    × IsAskedAmong words × ¬ SpellsBelow (MOST_TURNS + 1) words.left
+    × IsAskedAmong words × ¬ SpellsBelow (MAX_TURNS + 1) words.left
 ClassRequestMisread board rest kind = ⊥
 
 -- the fault of the words in the place of a map

@@ -8,7 +8,7 @@ use Rattle.positions.specs.Ranks.{rank_of}
 use Rattle.positions.specs.Table.{AnswerRow, RequestRow}
 use Rattle.proof_text.specs.declared.class_proof.TheConstants.{MAX_CLASS_ROWS}
 use Rattle.proof_text.specs.declared.symmetry_proof.TheConstants.{MAX_MAPS}
-use Rattle.proof_text.specs.Arranged.{arranged, order_number}
+use Rattle.proof_text.specs.Arranged.{arranged, document_number}
 use Rattle.proof_text.specs.ClassProof.{IsClassRequestRow}
 use Rattle.proof_text.specs.Images.{IsMap}
 use Rattle.proof_text.specs.Proof.{IsAnswerRow, IsRequestRow, asks_labeller, asks_adversary}
@@ -86,7 +86,7 @@ answers_by_classes board claim = record {
   IsRow = IsAnswerRow board claim;
   at = λ row. row.at;
   AreInOrder = λ places. arranged board.labels places ≡ places;
-  number = order_number board.labels;
+  number = document_number board.labels;
   strict = true;
   line = answer_line board;
 }
@@ -100,7 +100,7 @@ requests_by_classes board claim = record {
   IsRow = IsClassRequestRow board;
   at = λ row. row.at;
   AreInOrder = λ places. arranged board.labels places ≡ places;
-  number = order_number board.labels;
+  number = document_number board.labels;
   strict = true;
   line = class_request_line board;
 }

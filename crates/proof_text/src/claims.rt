@@ -5,7 +5,7 @@ ghost use Rattle.std.specs.Prelude.{◌≡◌, ◌++◌, OnOk, string_bytes};
 ghost use Rattle.proof_text.specs.Proof.{IsClaim};
 ghost use Rattle.proof_text.specs.ProofText.{claim_line, claim_words};
 
-use crate::proof::MOST_TURNS;
+use crate::proof::MAX_TURNS;
 use board_text::line_reader::LineReader;
 use positions::Claim;
 use std::alloc::AllocError;
@@ -16,13 +16,13 @@ pub(crate) fn read_claim(text: &mut LineReader<'_>) -> Option<Claim>
     ensures { Takes IsClaim claim_line result text.old text.new }
 {
     if text.begins_with(b'v') {
-        return Some(Claim::Exactly(text.number_line(b"value", 0, MOST_TURNS)?));
+        return Some(Claim::Exactly(text.number_line(b"value", 0, MAX_TURNS)?));
     }
     if text.begins_with(b'l') {
-        return Some(Claim::AtLeast(text.number_line(b"least", 0, MOST_TURNS)?));
+        return Some(Claim::AtLeast(text.number_line(b"least", 0, MAX_TURNS)?));
     }
     if text.begins_with(b'm') {
-        return Some(Claim::AtMost(text.number_line(b"most", 0, MOST_TURNS)?));
+        return Some(Claim::AtMost(text.number_line(b"most", 0, MAX_TURNS)?));
     }
     text.take(b"forever\n")?;
     Some(Claim::Forever)

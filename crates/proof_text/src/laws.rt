@@ -16,7 +16,7 @@ ghost use Rattle.proof_text.specs.declared.proof.LabellerRow.{LabellerRow as Lab
 ghost use Rattle.proof_text.specs.declared.proof.AdversaryRow.{AdversaryRow as AdversaryRowData};
 
 use crate::class_proof::MAX_CLASS_ROWS;
-use crate::proof::MOST_TURNS;
+use crate::proof::MAX_TURNS;
 use crate::symmetry_proof::MAX_MAPS;
 
 /// For one board a text is that of one document at most. So the text that is printed for a
@@ -138,7 +138,7 @@ pub fn one_row_of_a_rank()
 /// maps of one up to symmetries.
 /// CONTRIBUTING.md lists what else says these numbers.
 pub fn limits()
-    ensures turns { MOST_TURNS ≡ 1000000000 }
+    ensures turns { MAX_TURNS ≡ 1000000000 }
     ensures class_rows { MAX_CLASS_ROWS ≡ 16777216 }
     ensures maps { MAX_MAPS ≡ 64 }
 {}

@@ -37,7 +37,7 @@ pub use positions::{Claim, Turns};
 pub use printing::{
     first_lines, print, print_classes, print_classes_in_parts, print_symmetric, size_of_lines,
 };
-pub use proof::{AdversaryRow, LabellerRow, MOST_TURNS, Proof, Ranked};
+pub use proof::{AdversaryRow, LabellerRow, MAX_TURNS, Proof, Ranked};
 pub use row_text::{PlaceWords, RowText};
 pub use symmetries_text::parse_symmetries;
 pub use symmetry_proof::{Images, MAX_MAPS, SymmetryProof};

@@ -6,7 +6,7 @@ use board_text::MAX_PEBBLES;
 use positions::{Claim, Turns};
 
 /// The greatest number of a claim or a row.
-pub const MOST_TURNS: u32 = 1_000_000_000;
+pub const MAX_TURNS: u32 = 1_000_000_000;
 
 /// A row of either side, which names its configuration by its rank.
 pub trait Ranked {

@@ -8,7 +8,7 @@ ghost use Rattle.proof_text.specs.Proof.{AreTurns};
 ghost use Rattle.proof_text.specs.Inside.Reading.{TakesConfiguration, TakesTurns, TakesAnswerWords};
 ghost use Rattle.proof_text.specs.Inside.Reading.{TakesRequestWords, TakesClassRequestWords};
 
-use crate::proof::MOST_TURNS;
+use crate::proof::MAX_TURNS;
 use board_text::line_reader::{LineReader, Numeral};
 use positions::{Claim, Turns};
 
@@ -86,7 +86,7 @@ pub(crate) fn request_words(
     ensures { TakesRequestWords pebbles labels places result at.new text.old text.new }
 {
     let are_places = configuration(text, labels, places, at)?;
-    let left = text.numeral()?.within(0, MOST_TURNS);
+    let left = text.numeral()?.within(0, MAX_TURNS);
     text.take(b" ask ")?;
     let ask = text.numeral()?.below(pebbles as u16);
     text.take(b"\n")?;
@@ -113,7 +113,7 @@ pub(crate) fn class_request_words(
         (length at.old) labels places result at.new ask.new text.old text.new }
 {
     let are_places = configuration(text, labels, places, at)?;
-    let left = text.numeral()?.within(0, MOST_TURNS);
+    let left = text.numeral()?.within(0, MAX_TURNS);
     text.take(b" ask")?;
     let is_place = text.places(ask, labels, places)?;
     text.take(b"\n")?;
@@ -172,6 +172,6 @@ fn count(claim: Claim, numeral: Numeral) -> Option<Turns>
 {
     match claim {
         Claim::Forever => None,
-        _ => Some(Turns::Count(numeral.within(1, MOST_TURNS)?)),
+        _ => Some(Turns::Count(numeral.within(1, MAX_TURNS)?)),
     }
 }

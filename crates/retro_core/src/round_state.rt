@@ -123,7 +123,7 @@ impl<'a, S: ListStore> RoundState<'a, S> {
             return Err(StepFault::NothingToStrike);
         }
         let config = todo[0];
-        let Some(gap) = self.solver.graph().struck(config) else {
+        let Some(gap) = self.solver.graph().answered_gap(config) else {
             // A configuration to strike is an answer in a gap.
             unreachable!()
         };

@@ -12,7 +12,7 @@ use fakes::{build_board, is_configuration};
 use gap_values::{GapValues, ValueTable};
 use index_lists::PlainLists;
 use positions::is_small;
-use round_workers::{Gate, MIN_SHARED, solve_classes};
+use round_workers::{Gate, SHARED_FROM, solve_classes};
 use solved_boards::{class_solver_of, values_of};
 use solver::{Progress, SolveFault, Values};
 use std::alloc::{AllocError, Global};
@@ -22,12 +22,14 @@ use std::sync::atomic::AtomicU64;
 use std::sync::atomic::Ordering::SeqCst;
 use std::thread::Threads;
 
-/// The labels of the board of two layers, and of its upper one.
-const LABELS: u16 = 101;
+/// The labels of the chain.
+const LABELS: u16 = 24;
 
-const UPPER: u16 = 50;
+/// How many rounds of the chain strike enough classes to be shared. A class whose greatest label is
+/// m lasts 23 - m requests, so that 2600, 2300, 2024 and then 1771 of all 17,550 are filed.
+const SHARED: u32 = 3;
 
-/// A gate that counts how often workers pass in the first round, and in all later ones.
+/// A gate that counts how often workers pass in the first three rounds, and in all later ones.
 #[derive(Drop)]
 struct Passes {
     first: AtomicU64,
@@ -45,28 +47,32 @@ impl Passes {
 
 impl Gate for Passes {
     fn pass(&self, _worker: u32, round: u32, _seat: &RoundSeat) {
-        let passes = if round == 0 { &self.first } else { &self.later };
+        let passes = if round < SHARED {
+            &self.first
+        } else {
+            &self.later
+        };
         passes.fetch_add(1, SeqCst);
     }
 
     fn leave(&self, _worker: u32, _round: u32, _seat: &RoundSeat) {}
 }
 
-/// The pairs of a board of two layers: each label of the upper one dominates each of the lower one.
-fn layered_pairs(alloc: Global) -> Result<Vec<(u16, u16)>, AllocError> {
+/// The pairs of the chain: each label dominates each smaller one.
+fn chain_pairs(alloc: Global) -> Result<Vec<(u16, u16)>, AllocError> {
     let mut pairs = Vec::new(alloc);
-    for upper in 0..UPPER {
-        for lower in UPPER..LABELS {
+    for upper in 0..LABELS {
+        for lower in 0..upper {
             pairs.push((upper, lower))?;
         }
     }
     Ok(pairs)
 }
 
-/// The board of two layers and three pebbles.
-fn layered(alloc: Global) -> Option<Board> {
-    let pairs = layered_pairs(alloc).or_else(|_| layered_pairs(alloc)).ok()?;
-    build_board(alloc, LABELS, 3, &[0, 0, 0], &pairs).ok()
+/// The chain with four pebbles.
+fn chain(alloc: Global) -> Option<Board> {
+    let pairs = chain_pairs(alloc).or_else(|_| chain_pairs(alloc)).ok()?;
+    build_board(alloc, LABELS, 4, &[0, 0, 0, 0], &pairs).ok()
 }
 
 /// The values that this number of workers find by classes, and the gate that counted them.
@@ -101,14 +107,15 @@ fn assert_values(rt: &impl Abort, board: &Board, found: &GapValues, wanted: &Val
     }
 }
 
-/// Asserts that the round which strikes the classes filed at 0 has enough of them to be shared, and
-/// the only later one too few.
+/// Asserts that the first rounds strike enough classes to be shared, and the next one too few.
 fn assert_on_both_sides(rt: &impl Abort, alloc: Global, board: &Board) {
     let mut solver = class_solver_of::<PlainLists>(alloc, board).expect(rt, "a solver");
-    assert_same(rt, "at 0", solver.last_filed() >= MIN_SHARED, true);
-    let filed = matches!(solver.round(), Progress::Filed(_));
-    assert_same(rt, "at 1", filed && solver.last_filed() < MIN_SHARED, true);
-    assert_same(rt, "at 2", solver.round(), Progress::Done);
+    for round in 0..SHARED {
+        assert_same(rt, round, solver.last_filed() >= SHARED_FROM, true);
+        let filed = matches!(solver.round(), Progress::Filed(_));
+        assert_same(rt, round, filed, true);
+    }
+    assert_same(rt, SHARED, solver.last_filed() < SHARED_FROM, true);
 }
 
 /// What `counted` finds, asked for once more if memory was refused.
@@ -129,13 +136,17 @@ fn counted_at_last(
 }
 
 #[test]
-fn one_round_of_two_is_shared(rt: HostRuntime) {
-    let board = layered(rt.alloc()).expect(&rt, "a board");
+fn rounds_of_many_classes_are_shared(rt: HostRuntime) {
+    let board = chain(rt.alloc()).expect(&rt, "a board");
     assert_on_both_sides(&rt, rt.alloc(), &board);
     let wanted = values_of(rt.alloc(), &board).expect(&rt, "values");
     for workers in 1..5 {
         let (found, passes) = counted_at_last(&rt, rt.alloc(), &board, workers);
-        let times = if workers == 1 { 0 } else { u64::from(workers) };
+        let times = if workers == 1 {
+            0
+        } else {
+            u64::from(SHARED * workers)
+        };
         assert_same(&rt, workers, passes.first.load(SeqCst), times);
         assert_same(&rt, workers, passes.later.load(SeqCst), 0);
         assert_values(&rt, &board, &found, &wanted);

@@ -10,4 +10,4 @@ mod worker;
 
 pub use gate::{Gate, NoGate};
 pub use laws::limits;
-pub use solving::{MAX_WORKERS, MIN_SHARED, solve_classes, solve_values};
+pub use solving::{MAX_WORKERS, MIN_SHARED, SHARED_FROM, solve_classes, solve_values};

@@ -23,9 +23,23 @@ use std::thread::Threads;
 /// The largest number of workers that may share a round.
 pub const MAX_WORKERS: u32 = 16;
 
-/// The least number of classes filed last for which `solve_classes` shares a round, if they are
-/// four fifths of all too. bench/performance.md has the times on both sides of it.
+/// The least number of classes filed last for which `solve_classes` shares a round, if they are a
+/// tenth of all too. bench/performance.md has what sharing costs.
+pub const SHARED_FROM: u32 = 2_000;
+
+/// The least number of classes filed last for which `solve_classes` answers that a shared round was
+/// refused a thread or memory. A smaller one is then made alone.
 pub const MIN_SHARED: u32 = 131_072;
+
+/// Which rounds are shared, by how many configurations were filed last.
+#[derive(Clone, Copy, Drop)]
+struct Sharing {
+    /// The least number for which a round is shared.
+    least: u32,
+    /// The least number for which a shared round that is refused a thread or memory isn't made
+    /// alone.
+    needed: u32,
+}
 
 /// Works a round of `solver` to its end by `workers` workers,
 /// each in a thread of its own. Worker 0 is this thread.
@@ -73,7 +87,11 @@ pub fn solve_values<G: Gate, R: Threads + Wait + Sync>(
     ensures worker { result ≡ Err SolveFault.Worker → 1 < workers }
 {
     let solver = Solver::<PlainLists>::open(alloc, board)?;
-    match run_rounds(rt, alloc, solver, workers, gate, 0)?.finish() {
+    let all = Sharing {
+        least: 0,
+        needed: 0,
+    };
+    match run_rounds(rt, alloc, solver, workers, gate, all)?.finish() {
         Ok(values) => Ok(values),
         // The solver is done after all rounds.
         Err(_) => unreachable!(),
@@ -83,10 +101,11 @@ pub fn solve_values<G: Gate, R: Threads + Wait + Sync>(
 /// The values of `board`, which has few classes, found in rounds over classes of configurations:
 /// all that exchanged pebbles give are one.
 ///
-/// A round that strikes those of at least `MIN_SHARED` classes, and of four fifths of all, is shared
-/// by all workers, as each round of `solve_values` is, and a smaller one by none. Of this the
-/// clauses say that `Worker` is answered of no board of fewer classes. The values are those of the
-/// board, whatever the number of workers, the gate and the schedule are.
+/// A round that strikes those of at least `SHARED_FROM` classes, and of a tenth of all, is shared by
+/// all workers, as each round of `solve_values` is, and a smaller one by none. If a shared round of
+/// fewer than `MIN_SHARED` is refused a thread or memory, this thread makes it alone, so that
+/// `Worker` is answered of no board of fewer classes. The values are those of the board, whatever
+/// the number of workers, the gate and the schedule are.
 pub fn solve_classes<G: Gate, R: Threads + Wait + Sync>(
     rt: &R,
     alloc: Global,
@@ -102,8 +121,11 @@ pub fn solve_classes<G: Gate, R: Threads + Wait + Sync>(
     ensures enough { result ≡ Err SolveFault.Worker → MIN_SHARED ≤ class_count board.now }
 {
     let solver = Solver::<PlainLists>::of_classes(alloc, board)?;
-    let least = least_shared(workers, solver.graph().configurations());
-    match run_rounds(rt, alloc, solver, workers, gate, least)?.finish_words() {
+    let many = Sharing {
+        least: least_shared(workers, solver.graph().configurations()),
+        needed: MIN_SHARED,
+    };
+    match run_rounds(rt, alloc, solver, workers, gate, many)?.finish_words() {
         Ok(words) => Ok(GapValues::of_classes(alloc, board, words.as_slice())?),
         // The solver is done after all rounds.
         Err(_) => unreachable!(),
@@ -113,25 +135,23 @@ pub fn solve_classes<G: Gate, R: Threads + Wait + Sync>(
 /// The least number of classes filed last for which a round is shared by this number of `workers`,
 /// if there are as many `classes`. One worker shares none.
 fn least_shared(workers: u32, classes: u32) -> u32
-    ensures { MIN_SHARED ≤ result }
+    ensures { SHARED_FROM ≤ result }
 {
     if workers == 1 {
         return u32::MAX;
     }
     // A shared round opens a table of all classes and gaps, which costs more than to strike few.
-    let most = classes - classes / 5;
-    if most > MIN_SHARED { most } else { MIN_SHARED }
+    (classes / 10).max(SHARED_FROM)
 }
 
-/// The solver after all rounds that its board takes, of which `workers` workers share those before
-/// which at least `least` configurations were filed.
+/// The solver after all rounds that its board takes, of which `workers` workers share some.
 fn run_rounds<G: Gate, R: Threads + Wait + Sync>(
     rt: &R,
     alloc: Global,
     solver: Solver<PlainLists>,
     workers: u32,
     gate: &G,
-    least: u32,
+    sharing: Sharing,
 ) -> Result<Solver<PlainLists>, SolveFault>
     requires kept { IsSolving solver }
     requires workers { (1 ≤ workers) × (workers ≤ MAX_WORKERS) }
@@ -139,24 +159,25 @@ fn run_rounds<G: Gate, R: Threads + Wait + Sync>(
     ensures done { IfOk result (λ ended. ended.is_done ≡ true) }
     ensures fault { IfErr result (λ f. f ≢ SolveFault.TooLarge) }
     ensures worker { result ≡ Err SolveFault.Worker → 1 < workers }
-    ensures shared { IfErr result (λ _. least ≤ (graph_of solver.game).configurations) }
+    ensures shared { IfErr result (λ _.
+        sharing.needed ≤ (graph_of solver.game).configurations) }
 {
     let mut solver = solver;
     while !solver.done() {
-        file_next(rt, alloc, &mut solver, workers, gate, least)?;
+        file_next(rt, alloc, &mut solver, workers, gate, sharing)?;
     }
     Ok(solver)
 }
 
 /// Files all configurations of the next value, or finds that none has it: by `workers` workers if
-/// at least `least` configurations were filed last, and else alone, which needs no memory.
+/// so many were filed last that the round is shared, and else alone, which needs no memory.
 fn file_next<S: ListStore + Sync, G: Gate, R: Threads + Wait + Sync>(
     rt: &R,
     alloc: Global,
     solver: &mut Solver<S>,
     workers: u32,
     gate: &G,
-    least: u32,
+    sharing: Sharing,
 ) -> Result<Progress, SolveFault>
     requires going { solver.old.is_done ≡ false }
     requires workers { (1 ≤ workers) × (workers ≤ MAX_WORKERS) }
@@ -166,13 +187,19 @@ fn file_next<S: ListStore + Sync, G: Gate, R: Threads + Wait + Sync>(
         (λ progress. (n : ℕ) → progress ≡ Progress.Filed n → HasFiled solver.old solver.new n) }
     ensures none { IfOk result
         (λ progress. progress ≡ Progress.Done → HasFoundNone solver.old solver.new) }
-    ensures shared { IfErr result (λ _. least ≤ length (bucket solver.old solver.old.rounds)) }
+    ensures shared { IfErr result (λ _.
+        sharing.needed ≤ length (bucket solver.old solver.old.rounds)) }
     ensures fault { IfErr result (λ f. f ≢ SolveFault.TooLarge) }
     ensures worker { result ≡ Err SolveFault.Worker → 1 < workers }
 {
-    if solver.last_filed() < least {
+    let filed = solver.last_filed();
+    if filed < sharing.least {
         return Ok(solver.round());
     }
-    let closed = work_round(rt, alloc, solver, workers, gate)?;
-    Ok(solver.file_round(&closed))
+    match work_round(rt, alloc, solver, workers, gate) {
+        Ok(closed) => Ok(solver.file_round(&closed)),
+        // A refused round has changed nothing.
+        Err(fault) if filed >= sharing.needed => Err(fault),
+        Err(_) => Ok(solver.round()),
+    }
 }

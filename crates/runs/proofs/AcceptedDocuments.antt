@@ -3,7 +3,7 @@ use Rattle.std.proofs.Common.{◌≡◌, ◌≤◌, ◌++◌, ◌∙◌, ℕ, Li
 use Rattle.board_text.specs.Streams.{GaveAll}
 use Rattle.board_text.specs.PlainBoard.{PlainBoard, IsBoard}
 use Rattle.board_text.specs.BoardText.{board_text}
-use Rattle.board_text.proofs.Cited.{one_board, no_fault as faultless_board}
+use Rattle.board_text.proofs.Cited.{between, one_board, no_fault as faultless_board}
 use Rattle.positions.specs.Ranks.{configurations}
 use Rattle.positions.specs.declared.value.Value.{Value}
 use Rattle.positions.specs.declared.space.TheConstants.{MAX_CONFIGURATIONS}
@@ -19,6 +19,7 @@ use Rattle.positions.specs.Claim.{claim_of}
 use Rattle.strategies.proofs.Cited.{is_formed, breaks_no_rule}
 use Rattle.runs.specs.CheckRun.{RanCheck}
 use Rattle.runs.specs.Verdicts.{IsAcceptance, IsChecked, IsProofOf, IsVerdict, IsVerdictOf, text_of_proof}
+use Rattle.runs.specs.BoardRun.{readers_by}
 use Rattle.runs.specs.Run.{Bytes, Ran}
 use Rattle.runs.specs.SolveRun.{IsSolution, IsSolved}
 use Rattle.runs.specs.Texts.{BeginsAs, HasFaultAs, HasNoBoard, HasNoProof, IsBoardAmong, IsBoardWithin, IsMemory}
@@ -169,7 +170,7 @@ module _ (text written : List ℕ) (value : Value) (solution : IsSolution text v
     no_fault_of_document Limit wrong = absurd wrong
 
 -- bytes that were all given are the text
-known_all : (bytes text : List ℕ) (left : Option (List ℕ)) → GaveAll (Some bytes) left text → bytes ≡ text
+known_all : (bytes text : List ℕ) (left : Option (List ℕ)) → GaveAll (between (Some bytes) left) text → bytes ≡ text
 known_all bytes text None gave = absurd gave.0
 known_all bytes text (Some rest) gave = gave.0 ∙ ap (λ r. text ++ r) gave.1 ∙ append-nil text
 
@@ -182,10 +183,9 @@ as_small text one other small is =
 
 pub runs_agree : (limit board_limit proof_limit : ℕ) (bytes text : List ℕ)
     (solve_left board_left proof_left : Option (List ℕ)) (written : Bytes) (value : Value) (verdict : Verdict)
-    → Ran IsSolution limit (record { old = Some bytes; new = solve_left })
-    (record { old = Some []; new = Some text }) value
-    → RanCheck board_limit proof_limit (record { old = Some bytes; new = board_left })
-    (record { old = Some text; new = proof_left }) written verdict
+    → Ran IsSolution limit (between (Some bytes) solve_left) (between (Some []) (Some text)) value
+    → RanCheck board_limit proof_limit
+    (readers_by (between (Some bytes) board_left) (between (Some text) proof_left)) written verdict
     → IsAcceptance (claim_of value) verdict
 runs_agree limit board_limit proof_limit bytes text solve_left board_left proof_left written value verdict
     (read, gave, (printed, solution, wrote))

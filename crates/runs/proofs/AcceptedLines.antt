@@ -11,7 +11,7 @@ use Rattle.std.proofs.lemmas.List.{append_cancel_right, append_cancel_left}
 use Rattle.positions.proofs.Cited.{lasts_at_most, tree_from_answers, claim_holds as shown_holds}
 use Rattle.proof_text.specs.ProofText.{claim_words}
 use Rattle.proof_text.specs.Proof.{PlainProof, IsClaim}
-use Rattle.proof_text.specs.declared.proof.TheConstants.{MOST_TURNS}
+use Rattle.proof_text.specs.declared.proof.TheConstants.{MAX_TURNS}
 use Rattle.proof_check.specs.declared.checking.Shown.{Shown}
 use Rattle.proof_text.specs.SymmetryProof.{PlainSymmetryProof}
 use Rattle.positions.specs.Game.{LabellerTree}
@@ -28,7 +28,7 @@ use Rattle.runs.specs.declared.verdicts.Verdict.TheVariants.{Accepted, Refused, 
 use Rattle.runs.specs.declared.verdicts.Verdict.TheVariants.{RefusedUpToSymmetries}
 
 -- a line that says `least` is that of a claim `least`
-least_only : (claim : Claim) (number : ℕ) → IsClaim claim → number ≤ MOST_TURNS
+least_only : (claim : Claim) (number : ℕ) → IsClaim claim → number ≤ MAX_TURNS
     → with_line_feed (codes "accepted " ++ claim_words claim)
     ≡ with_line_feed (codes "accepted least " ++ decimal number)
     → claim ≡ AtLeast number
@@ -66,7 +66,7 @@ tree_of_least board number (inl forever) = forever number
 tree_of_least board number (inr (depth, least, value)) =
     lasts_at_most board board.start number depth least value.0
 
-module _ (text : List ℕ) (number : ℕ) (board : PlainBoard) (rest : List ℕ) (few : number ≤ MOST_TURNS)
+module _ (text : List ℕ) (number : ℕ) (board : PlainBoard) (rest : List ℕ) (few : number ≤ MAX_TURNS)
     (begins : BeginsWithBoard text board rest) where
   -- an accepted document whose claim holds, and which isn't by configurations
   accepted_as : (claim : Claim) (shown : Shown) (rows : ℕ) → IsClaim claim → shown.claim ≡ claim → Holds board claim

@@ -7,14 +7,14 @@ use Rattle.std.proofs.lemmas.Grind.{take_at_read}
 use Rattle.std.proofs.lemmas.List.{append-nil, take-append-drop}
 use Rattle.std.proofs.lemmas.List.Concat.{flat_map-append, flat_map-cons}
 use Rattle.board_text.specs.Streams.{AppendsPrefix}
-use Rattle.board_text.proofs.Cited.{Appends-trans, front_taken}
+use Rattle.board_text.proofs.Cited.{Appends-trans, between, front_taken}
 
 regroup : (a b c d : List ℕ) → a ++ ((b ++ c) ++ d) ≡ (a ++ b) ++ (c ++ d)
 regroup a b c d = simp append_assoc
 
 -- a prefix of the next part is, after those before it, a prefix of the whole
 pub prefix_on : (a b c : Option (List ℕ)) (all front part rest : List ℕ) → all ≡ front ++ (part ++ rest)
-    → Appends a b front → AppendsPrefix b c part → AppendsPrefix a c all
+    → Appends a b front → AppendsPrefix (between b c) part → AppendsPrefix (between a c) all
 prefix_on a b c all front part rest e taken (n, low, more) =
     front_taken a c all (front ++ take n part) (drop n part ++ rest)
     (e ∙ ap (λ l. front ++ (l ++ rest)) (sym (take-append-drop n part))

@@ -1,7 +1,7 @@
 -- Runs that read a board first.
-use Rattle.std.specs.Prelude.{ℕ, ◌⊎◌, List}
+use Rattle.std.specs.Prelude.{◌≡◌, ℕ, ◌⊎◌, List, Option}
 use Rattle.board_text.specs.PlainBoard.{PlainBoard}
-use Rattle.runs.specs.Run.{Bytes, Gave, IsUnread}
+use Rattle.runs.specs.Run.{Bytes, Gave, IsUnread, bytes_of}
 use Rattle.runs.specs.Texts.{HasNoneAmong, IsBoardAmong, IsWithinLimit}
 use Rattle.command_line.specs.declared.asked.BoardLimit.{BoardLimit}
 use Rattle.runs.specs.declared.fault.RunFault.{RunFault}
@@ -24,6 +24,26 @@ GaveBoard limit = GaveBoardAmong (IsWithinLimit limit)
 
 abbrev pub GaveNoBoard : BoardLimit → ℕ → Bytes → RunFault → Type 0
 GaveNoBoard limit = GaveNoneAmong (IsWithinLimit limit)
+
+-- the readers of a board and of the text after it: their bytes, and that the second is as it was
+pub record Readers : Type 1 where
+  pub board : Bytes
+  pub text : Bytes
+  pub IsTextKept : Type 0
+
+-- the readers, by what is known of each before and after
+abbrev pub readers_of : {B T : Type 0} → (B → Option (List ℕ)) → B → B → (T → Option (List ℕ)) → T
+    → T → Readers
+readers_of of_board board board_after of_text text text_after = record {
+  board = bytes_of of_board board board_after;
+  text = bytes_of of_text text text_after;
+  IsTextKept = text_after ≡ text;
+}
+
+-- the readers of which nothing but their bytes is known
+abbrev pub readers_by : Bytes → Bytes → Readers
+readers_by board text =
+    record { board = board; text = text; IsTextKept = text.new ≡ text.old }
 
 -- a board that is small enough was read, and this was done with it
 abbrev pub RanOn : (PlainBoard → Type 0) → ℕ → Bytes → (PlainBoard → Type 0) → Type 0

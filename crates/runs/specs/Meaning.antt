@@ -6,7 +6,7 @@ use Rattle.board_text.specs.PlainBoard.{PlainBoard, IsBoard}
 use Rattle.board_text.specs.BoardText.{board_text}
 use Rattle.positions.specs.Game.{LabellerTree}
 use Rattle.positions.specs.Table.{AnswerRow, Answers}
-use Rattle.proof_text.specs.declared.proof.TheConstants.{MOST_TURNS}
+use Rattle.proof_text.specs.declared.proof.TheConstants.{MAX_TURNS}
 use Rattle.runs.specs.Texts.{BeginsAs}
 use Rattle.runs.specs.Verdicts.{IsAnswered}
 use Rattle.runs.specs.declared.verdicts.DocumentVersion.TheVariants.{ByConfigurations}
@@ -15,7 +15,7 @@ use Rattle.runs.specs.declared.verdicts.Verdict.{Verdict}
 -- the text was answered with the line `accepted least k`, k being a number that documents have
 abbrev pub AcceptsLeast : List ℕ → ℕ → Type 0
 AcceptsLeast text number =
-    (number ≤ MOST_TURNS) × (verdict : Verdict)
+    (number ≤ MAX_TURNS) × (verdict : Verdict)
     × IsAnswered text verdict (with_line_feed (codes "accepted least " ++ decimal number))
 
 -- the text begins with a board's; the labeller has a tree of this depth for its start, and if the

@@ -1,20 +1,10 @@
 -- Runs: the bytes read, the answer, and the bytes written.
 use Rattle.std.specs.Prelude.{◌≡◌, ◌≢◌, ◌↔◌, ℕ, ◌<◌, ◌≤◌, ◌⊎◌, Bool, true, List, Option, Result}
 use Rattle.std.specs.Prelude.{Err, IfErr, length}
-use Rattle.std.specs.Io.KnownBytes.{Consumes, Appends}
-use Rattle.board_text.specs.Streams.{GaveAll, AppendsPrefix}
+use Rattle.board_text.specs.Streams.{AppendsAll, AppendsPrefix, GaveAll, GaveNext}
+pub use Rattle.board_text.specs.Streams.{Bytes, bytes_of}
 use Rattle.runs.specs.declared.fault.RunFault.{RunFault}
 use Rattle.runs.specs.declared.fault.RunFault.TheVariants.{Memory, Read, Write, Limit}
-
--- the bytes of a stream before a run and after it, if they are known: those that a reader has left,
--- or that a writer has taken
-pub record Bytes : Type 0 where
-  pub old : Option (List ℕ)
-  pub new : Option (List ℕ)
-
--- the bytes of a stream, by those that are known before and after
-abbrev pub bytes_of : {Stream : Type 0} → (Stream → Option (List ℕ)) → Stream → Stream → Bytes
-bytes_of known before after = record { old = known before; new = known after }
 
 -- a stream before a run and after it: its bytes, that it is as it was, that it has failed
 pub record Stream : Type 1 where
@@ -45,24 +35,22 @@ pub record TellsStreams {Answer : Type 0}
 
 -- the reader gave this text, which is all that it had left, and no longer than the limit
 abbrev pub Gave : ℕ → Bytes → List ℕ → Type 0
-Gave limit read text = GaveAll read.old read.new text × (length text ≤ limit)
+Gave limit read text = GaveAll read text × (length text ≤ limit)
 
 -- the bytes consumed by a read that failed; out of memory may also come after the last of them
 abbrev pub IsUnread : ℕ → Bytes → RunFault → Type 0
-IsUnread limit read Memory = (bytes : List ℕ) × Consumes read.old read.new bytes
-IsUnread limit read Read =
-    (bytes : List ℕ) × (length bytes ≤ limit) × Consumes read.old read.new bytes
-IsUnread limit read Limit =
-    (bytes : List ℕ) × (limit < length bytes) × Consumes read.old read.new bytes
+IsUnread limit read Memory = (bytes : List ℕ) × GaveNext read bytes
+IsUnread limit read Read = (bytes : List ℕ) × (length bytes ≤ limit) × GaveNext read bytes
+IsUnread limit read Limit = (bytes : List ℕ) × (limit < length bytes) × GaveNext read bytes
 IsUnread limit read fault = ⊥
 
 -- such a text was written
 abbrev pub Wrote : (List ℕ → Type 0) → Bytes → Type 0
-Wrote IsIt written = (text : List ℕ) × IsIt text × Appends written.old written.new text
+Wrote IsIt written = (text : List ℕ) × IsIt text × AppendsAll written text
 
 -- a prefix of such a text was written
 abbrev pub WrotePrefix : (List ℕ → Type 0) → Bytes → Type 0
-WrotePrefix IsIt written = (text : List ℕ) × IsIt text × AppendsPrefix written.old written.new text
+WrotePrefix IsIt written = (text : List ℕ) × IsIt text × AppendsPrefix written text
 
 -- ---- a run over one reader, whose text decides the answer and the bytes written
 

@@ -2,6 +2,7 @@
 
 ghost use Rattle.std.specs.Prelude.{◌≡◌, ◌⊎◌, true, false, IfOk, IfErr};
 ghost use Rattle.runs.specs.Verdicts.{CannotAnswer, IsAnswered};
+ghost use Rattle.runs.specs.BoardRun.{readers_of};
 ghost use Rattle.runs.specs.CheckRun.{CheckFails, KeepsText, RanCheck};
 ghost use Rattle.runs.specs.Run.{Ran, Fails, TellsStreams, Wrote, WrotePrefix, bytes_of, stream_of};
 ghost use Rattle.runs.specs.declared.fault.RunFault.TheVariants.{Write};
@@ -41,7 +42,7 @@ pub fn run_joined<R: Source, W: Sink>(
     ensures streams { TellsStreams result (R.has_failed reader.new ≡ true)
         (stream_of W.contents W.has_failed writer.old writer.new) }
 {
-    run_keeping_text(rt, alloc, reader, writer).result
+    run_joined_with_text(rt, alloc, reader, writer).result
 }
 
 /// How a check of a joined input ended, and the bytes that were read: none if they weren't read to
@@ -54,7 +55,7 @@ pub struct JoinedRun {
 
 /// Does what `run_joined` does, and gives the bytes that were read too, by which a fault can be
 /// explained.
-pub fn run_keeping_text<R: Source, W: Sink>(
+pub fn run_joined_with_text<R: Source, W: Sink>(
     rt: &(impl Threads + Sync),
     alloc: Global,
     reader: &mut R,
@@ -124,10 +125,10 @@ pub fn run_check<B: Source, P: Source, W: Sink>(
     requires proof_unended { P.has_ended proof.old ≡ false }
     requires writer_ready { W.has_failed writer.old ≡ false }
     ensures ok { IfOk result (RanCheck MAX_BOARD_BYTES MAX_PROOF_BYTES
-        (bytes_of B.remaining board.old board.new) (bytes_of P.remaining proof.old proof.new)
+        (readers_of B.remaining board.old board.new P.remaining proof.old proof.new)
         (bytes_of W.contents writer.old writer.new)) }
-    ensures fault { IfErr result (CheckFails MAX_BOARD_BYTES MAX_PROOF_BYTES (proof.new ≡ proof.old)
-        (bytes_of B.remaining board.old board.new) (bytes_of P.remaining proof.old proof.new)
+    ensures fault { IfErr result (CheckFails MAX_BOARD_BYTES MAX_PROOF_BYTES
+        (readers_of B.remaining board.old board.new P.remaining proof.old proof.new)
         (bytes_of W.contents writer.old writer.new)) }
     ensures streams { TellsStreams result
         ((B.has_failed board.new ≡ true) ⊎ (P.has_failed proof.new ≡ true))

@@ -25,7 +25,7 @@ use proof_text::print_classes_in_parts;
 use round_workers::MAX_WORKERS;
 use std::alloc::Global;
 use std::thread::Threads;
-use strategies::{DocumentText, GapMoves, MadeDocument, Moves, document_by_classes_in_parts};
+use strategies::{DocumentText, GapMoves, MadeDocument, document_by_classes_in_parts};
 
 impl Work {
     /// Reads a board of at most `MAX_GAPS` gaps, finds the value of its start, and writes its

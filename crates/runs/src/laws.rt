@@ -16,6 +16,7 @@ ghost use Rattle.runs.specs.Verdicts.{IsSymmetryVerdict, IsVerdict};
 ghost use Rattle.runs.specs.Headline.{ShowsValue, IsAccepted};
 ghost use Rattle.strategies.specs.Meaning.{Means};
 ghost use Rattle.runs.specs.Report.{Report as CountReport, IsReport, IsReportOf, IsReportOfText};
+ghost use Rattle.runs.specs.BoardRun.{readers_by};
 ghost use Rattle.runs.specs.Run.{Bytes, Ran};
 ghost use Rattle.runs.specs.SolveRun.{IsSolution, IsSolved};
 ghost use Rattle.positions.specs.declared.side.Side.{Side as SideData};
@@ -145,8 +146,9 @@ pub fn printed_documents_are_accepted()
         → (verdict : VerdictData)
         → Ran IsSolution limit (record { old = Some bytes; new = solve_left })
         (record { old = Some []; new = Some text }) value
-        → RanCheck board_limit proof_limit (record { old = Some bytes; new = board_left })
-        (record { old = Some text; new = proof_left }) written verdict
+        → RanCheck board_limit proof_limit
+        (readers_by (record { old = Some bytes; new = board_left })
+        (record { old = Some text; new = proof_left })) written verdict
         → IsAcceptance (claim_of value) verdict }
 {}
 

@@ -28,7 +28,7 @@ mod writing;
 
 pub use chaining::Chaining;
 pub use checking::{
-    JoinedRun, MAX_JOINED_BYTES, MAX_PROOF_BYTES, run_check, run_joined, run_keeping_text,
+    JoinedRun, MAX_JOINED_BYTES, MAX_PROOF_BYTES, run_check, run_joined, run_joined_with_text,
 };
 pub use fault::{RunFault, SymmetriesFault};
 pub use given_symmetries::MAX_SYMMETRIES_BYTES;

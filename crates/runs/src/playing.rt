@@ -9,14 +9,16 @@ ghost use Rattle.console.specs.Showing.{IsMore};
 ghost use Rattle.player.specs.Transcript.{IsPlayed, PersonClimbs};
 ghost use Rattle.player.specs.declared.end.PlayEnd.{PlayEnd};
 ghost use Rattle.player.specs.declared.end.PlayFault.{PlayFault};
+ghost use Rattle.runs.specs.BoardRun.{readers_of};
 ghost use Rattle.runs.specs.PlayRun.{IsBrokenOff, IsOver, IsToldInRun, IsToldUpTo, PlayFails};
-ghost use Rattle.runs.specs.PlayRun.{PlayFailsUpTo, RanPlay, RanPlayUpTo, game_played, run_of_play};
+ghost use Rattle.runs.specs.PlayRun.{PlayFailsUpTo, RanPlay, RanPlayUpTo, game_played};
+ghost use Rattle.runs.specs.PlayRun.{play_streams, run_of_play};
 ghost use Rattle.runs.specs.Run.{TellsFailures, bytes_of, stream_of};
 
 use crate::fault::RunFault;
 use crate::given_symmetries::{MAX_SYMMETRIES_BYTES, symmetries_of};
 use crate::notices::tell_size;
-use crate::reading::{MAX_BOARD_BYTES, read_board, read_board_up_to, read_text};
+use crate::reading::{read_board, read_board_up_to, read_text};
 use board_text::{Sink, Source, Through};
 use command_line::BoardLimit;
 use gap_values::ValueTable;
@@ -46,13 +48,12 @@ pub fn run_play<B: Source, L: Source, W: Sink>(
     requires lines_ready { L.has_failed lines.old ≡ false }
     requires lines_unended { L.has_ended lines.old ≡ false }
     requires writer_ready { W.has_failed writer.old ≡ false }
-    ensures ok { IfOk result (RanPlay BoardLimit.Small side MAX_BOARD_BYTES
+    ensures ok { IfOk result (RanPlay BoardLimit.Small side
         (bytes_of B.remaining board.old board.new)
-        (bytes_of L.remaining lines.old lines.new) (bytes_of W.contents writer.old writer.new)) }
-    ensures fault { IfErr result (PlayFails BoardLimit.Small side MAX_BOARD_BYTES
-        ((lines.new ≡ lines.old) × (writer.new ≡ writer.old))
-        (bytes_of B.remaining board.old board.new) (bytes_of L.remaining lines.old lines.new)
-        (bytes_of W.contents writer.old writer.new)) }
+        (play_streams L.remaining lines.old lines.new W.contents writer.old writer.new)) }
+    ensures fault { IfErr result (PlayFails BoardLimit.Small side
+        (bytes_of B.remaining board.old board.new)
+        (play_streams L.remaining lines.old lines.new W.contents writer.old writer.new)) }
     ensures streams { TellsFailures result
         ((B.has_failed board.new ≡ true) ⊎ (L.has_failed lines.new ≡ true))
         (stream_of W.contents W.has_failed writer.old writer.new) }
@@ -101,20 +102,19 @@ impl Playing {
         requires lines_ready { L.has_failed lines.old ≡ false }
         requires lines_unended { L.has_ended lines.old ≡ false }
         requires writer_ready { W.has_failed writer.old ≡ false }
-        ensures ok { IfOk result (RanPlay self.limit self.side MAX_BOARD_BYTES
-            (bytes_of B.remaining board.old board.new) (bytes_of L.remaining lines.old lines.new)
-            (bytes_of W.contents writer.old writer.new)) }
-        ensures fault { IfErr result (PlayFails self.limit self.side MAX_BOARD_BYTES
-            ((lines.new ≡ lines.old) × (writer.new ≡ writer.old))
-            (bytes_of B.remaining board.old board.new) (bytes_of L.remaining lines.old lines.new)
-            (bytes_of W.contents writer.old writer.new)) }
+        ensures ok { IfOk result (RanPlay self.limit self.side
+            (bytes_of B.remaining board.old board.new)
+            (play_streams L.remaining lines.old lines.new W.contents writer.old writer.new)) }
+        ensures fault { IfErr result (PlayFails self.limit self.side
+            (bytes_of B.remaining board.old board.new)
+            (play_streams L.remaining lines.old lines.new W.contents writer.old writer.new)) }
         ensures streams { TellsFailures result
             ((B.has_failed board.new ≡ true) ⊎ (L.has_failed lines.new ≡ true))
             (stream_of W.contents W.has_failed writer.old writer.new) }
-        ensures prompts { (told : List ℕ) × IsToldInRun self.limit self.side MAX_BOARD_BYTES
-            ((lines.new ≡ lines.old) × (writer.new ≡ writer.old))
-            (bytes_of B.remaining board.old board.new) (bytes_of L.remaining lines.old lines.new)
-            (bytes_of W.contents writer.old writer.new) self.shows_size self.prompts result told
+        ensures prompts { (told : List ℕ) × IsToldInRun self
+            (bytes_of B.remaining board.old board.new)
+            (play_streams L.remaining lines.old lines.new W.contents writer.old writer.new)
+            result told
             × IsMore E.contents E.has_failed errors.old errors.new told }
     {
         let board = read_board(alloc, self.limit, board)?;
@@ -148,26 +148,18 @@ impl Playing {
         requires lines_unended { L.has_ended lines.old ≡ false }
         requires writer_ready { W.has_failed writer.old ≡ false }
         ensures ok { IfOk result (RanPlayUpTo self.limit self.side
-            (bytes_of B.remaining board.old board.new)
-            (bytes_of S.remaining symmetries.old symmetries.new)
-            (bytes_of L.remaining lines.old lines.new)
-            (bytes_of W.contents writer.old writer.new)) }
+            (readers_of B.remaining board.old board.new S.remaining symmetries.old symmetries.new)
+            (play_streams L.remaining lines.old lines.new W.contents writer.old writer.new)) }
         ensures fault { IfErr result (PlayFailsUpTo self.limit self.side
-            (symmetries.new ≡ symmetries.old)
-            ((lines.new ≡ lines.old) × (writer.new ≡ writer.old))
-            (bytes_of B.remaining board.old board.new)
-            (bytes_of S.remaining symmetries.old symmetries.new)
-            (bytes_of L.remaining lines.old lines.new)
-            (bytes_of W.contents writer.old writer.new)) }
+            (readers_of B.remaining board.old board.new S.remaining symmetries.old symmetries.new)
+            (play_streams L.remaining lines.old lines.new W.contents writer.old writer.new)) }
         ensures streams { TellsFailures result ((B.has_failed board.new ≡ true)
             ⊎ (S.has_failed symmetries.new ≡ true) ⊎ (L.has_failed lines.new ≡ true))
             (stream_of W.contents W.has_failed writer.old writer.new) }
-        ensures prompts { (told : List ℕ) × IsToldUpTo self.limit self.side
-            ((lines.new ≡ lines.old) × (writer.new ≡ writer.old))
-            (bytes_of B.remaining board.old board.new)
-            (bytes_of S.remaining symmetries.old symmetries.new)
-            (bytes_of L.remaining lines.old lines.new)
-            (bytes_of W.contents writer.old writer.new) self.prompts result told
+        ensures prompts { (told : List ℕ) × IsToldUpTo self
+            (readers_of B.remaining board.old board.new S.remaining symmetries.old symmetries.new)
+            (play_streams L.remaining lines.old lines.new W.contents writer.old writer.new)
+            result told
             × IsMore E.contents E.has_failed errors.old errors.new told }
     {
         let board = read_board_up_to(alloc, self.limit, board)?;
@@ -191,17 +183,17 @@ impl Playing {
         requires lines_unended { L.has_ended lines.old ≡ false }
         requires writer_ready { W.has_failed writer.old ≡ false }
         ensures ok { IfOk result (HasEnded (IsPlayed (game_played self.side moves.now))
-            (L.remaining lines.old) (L.remaining lines.new)
-            (W.contents writer.old) (W.contents writer.new)) }
+            (bytes_of L.remaining lines.old lines.new)
+            (bytes_of W.contents writer.old writer.new)) }
         ensures fault { IfErr result (BreaksOff (IsPlayed (game_played self.side moves.now))
-            (L.remaining lines.old) (L.remaining lines.new)
-            (W.contents writer.old) (W.contents writer.new)) }
+            (bytes_of L.remaining lines.old lines.new)
+            (bytes_of W.contents writer.old writer.new)) }
         ensures value { IfOk result (KeepsToValue (game_played self.side moves.now)) }
         ensures streams { TellsBothStreams result (L.has_failed lines.new)
             (W.has_failed writer.new) }
         ensures prompts { (told : List ℕ) × ArePrompts self.prompts
-            (game_played self.side moves.now) (L.remaining lines.old) (L.remaining lines.new)
-            (W.contents writer.old) (W.contents writer.new) result told
+            (game_played self.side moves.now) (bytes_of L.remaining lines.old lines.new)
+            (bytes_of W.contents writer.old writer.new) result told
             × IsMore E.contents E.has_failed errors.old errors.new told }
     {
         match self.side {
@@ -257,8 +249,8 @@ pub fn run_climb<L: Source, W: Sink, E: Sink>(
         (stream_of W.contents W.has_failed writer.old writer.new) }
     ensures prompts { (told : List ℕ) × (played : Result PlayEnd PlayFault)
         × (result ≡ run_of_play played)
-        × ArePrompts shows (PersonClimbs levels) (L.remaining lines.old) (L.remaining lines.new)
-        (W.contents writer.old) (W.contents writer.new) played told
+        × ArePrompts shows (PersonClimbs levels) (bytes_of L.remaining lines.old lines.new)
+        (bytes_of W.contents writer.old writer.new) played told
         × IsMore E.contents E.has_failed errors.old errors.new told }
 {
     let game = AsClimber::of(levels);

@@ -20,13 +20,13 @@ use crate::reading::{MAX_BOARD_BYTES, read_text};
 use crate::writing::write_parts;
 use board_text::{Board, Sink, Source};
 use command_line::BoardLimit;
-use gap_values::{GapValues, MAX_GAPS};
+use gap_values::{GapValues, MAX_GAPS, ValueTable};
 use positions::{MAX_CONFIGURATIONS, Side, Space, Value};
 use round_workers::{MAX_WORKERS, NoGate, solve_classes};
 use std::alloc::Global;
 use std::sync::Wait;
 use std::thread::Threads;
-use strategies::{DocumentText, GapMoves, Moves, document_text, document_text_in_parts};
+use strategies::{DocumentText, GapMoves, document_text, document_text_in_parts};
 
 /// Reads a board, finds the value of its start on this thread and writes the document that shows
 /// it.
@@ -147,18 +147,18 @@ pub(crate) fn solve_text(
 
 /// The value of the start of the board of `moves`, and the text of the board's document, for `side`
 /// alone or for both, with the lines of its rows made in this number of `parts`.
-fn solution_for<M: Moves>(
+fn solution_for(
     rt: &(impl Threads + Sync),
     alloc: Global,
-    moves: &M,
+    moves: &GapMoves<'_, GapValues>,
     side: Option<Side>,
     parts: u8,
 ) -> Result<DocumentText, RunFault>
-    requires few { configurations (M.board moves.now) ≤ MAX_CONFIGURATIONS }
+    requires few { configurations moves.now ≤ MAX_CONFIGURATIONS }
     requires parts { 1 ≤ parts }
-    ensures ok { IfOk result (λ solved. IsSolvedFor side (M.board moves.now) solved.value
+    ensures ok { IfOk result (λ solved. IsSolvedFor side moves.now solved.value
         (flat_map (λ part. part.items) solved.parts.items)) }
-    ensures fault { IfErr result (IsUnmade side (M.board moves.now)) }
+    ensures fault { IfErr result (IsUnmade side moves.now) }
 {
     expect_strategy(moves, side)?;
     let space = Space::new(moves.board());
@@ -168,10 +168,13 @@ fn solution_for<M: Moves>(
 
 /// That `side`, or both, has a strategy on the value of the start: an adversary has none if
 /// requests are answered for ever.
-pub(crate) fn expect_strategy<M: Moves>(moves: &M, side: Option<Side>) -> Result<(), RunFault>
+pub(crate) fn expect_strategy<V: ValueTable>(
+    moves: &GapMoves<'_, V>,
+    side: Option<Side>,
+) -> Result<(), RunFault>
     ensures ok { OnOk result ((value : ValueData)
-        → HasValue (M.board moves.now) (M.board moves.now).start value → HasStrategy side value) }
-    ensures fault { IfErr result (IsUnmade side (M.board moves.now)) }
+        → HasValue moves.now moves.now.start value → HasStrategy side value) }
+    ensures fault { IfErr result (IsUnmade side moves.now) }
 {
     if side != Some(Side::Adversary) {
         return Ok(());

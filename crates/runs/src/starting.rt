@@ -23,7 +23,7 @@ use crate::reporting::write_size;
 use crate::work::Work;
 use crate::writing::write_text;
 use board_text::{Board, MAX_PEBBLES, Memory, Sink, Source};
-use gap_values::MAX_GAPS;
+use gap_values::{MAX_GAPS, ValueTable};
 use positions::{Claim, Value};
 use proof_text::write_claim;
 use round_workers::MAX_WORKERS;
@@ -31,7 +31,7 @@ use std::alloc::{AllocError, Global};
 use std::fmt::Write;
 use std::sync::Wait;
 use std::thread::Threads;
-use strategies::{GapMoves, Moves};
+use strategies::GapMoves;
 
 impl Work {
     /// Reads a board, finds its values and writes the value with all pebbles on each label, and
@@ -117,8 +117,11 @@ impl Work {
 }
 
 /// The values with all pebbles at each place of the board of `moves`.
-pub(crate) fn values_at_places<M: Moves>(alloc: Global, moves: &M) -> Result<Vec<Value>, Memory>
-    ensures { IfOk result (λ values. AreStartValues (M.board moves.now) values.items) }
+pub(crate) fn values_at_places<V: ValueTable>(
+    alloc: Global,
+    moves: &GapMoves<'_, V>,
+) -> Result<Vec<Value>, Memory>
+    ensures { IfOk result (λ values. AreStartValues moves.now values.items) }
 {
     let board = moves.board();
     let mut values = Vec::new(alloc);

@@ -3,6 +3,7 @@
 ghost use Rattle.std.specs.Prelude.{◌≡◌, ◌⊎◌, true, false, IfOk, IfErr, string_bytes};
 ghost use Rattle.board_text.specs.PlainBoard.{IsBoard};
 ghost use Rattle.board_text.specs.Ranges.{InRange};
+ghost use Rattle.runs.specs.BoardRun.{readers_of};
 ghost use Rattle.runs.specs.Report.{IsReportOf};
 ghost use Rattle.runs.specs.Run.{TellsStreams, bytes_of, stream_of};
 ghost use Rattle.runs.specs.StartText.{AreStartsOf};
@@ -60,12 +61,10 @@ impl Work {
         requires symmetries_unended { S.has_ended symmetries.old ≡ false }
         requires writer_ready { W.has_failed writer.old ≡ false }
         ensures ok { IfOk result (RanUpTo (SaysUpTo summary) self.limit
-            (bytes_of B.remaining board.old board.new)
-            (bytes_of S.remaining symmetries.old symmetries.new)
+            (readers_of B.remaining board.old board.new S.remaining symmetries.old symmetries.new)
             (bytes_of W.contents writer.old writer.new)) }
         ensures fault { IfErr result (FailsUpTo (SaysUpTo summary) HasNoFewOrbits self.limit
-            (symmetries.new ≡ symmetries.old) (bytes_of B.remaining board.old board.new)
-            (bytes_of S.remaining symmetries.old symmetries.new)
+            (readers_of B.remaining board.old board.new S.remaining symmetries.old symmetries.new)
             (bytes_of W.contents writer.old writer.new)) }
         ensures streams { TellsStreams result
             ((B.has_failed board.new ≡ true) ⊎ (S.has_failed symmetries.new ≡ true))

@@ -4,6 +4,7 @@ ghost use Rattle.std.specs.Prelude.{◌≡◌, ◌≤◌, ◌⊎◌, ℕ, List, 
 ghost use Rattle.board_text.specs.PlainBoard.{IsBoard};
 ghost use Rattle.board_text.specs.Ranges.{InRange};
 ghost use Rattle.proof_text.specs.Images.{elements_of};
+ghost use Rattle.runs.specs.BoardRun.{readers_of};
 ghost use Rattle.runs.specs.Inside.SolveRun.{IsUnshownUpTo};
 ghost use Rattle.runs.specs.Inside.Symmetries.{AreGiven};
 ghost use Rattle.runs.specs.Run.{TellsStreams, bytes_of, stream_of};
@@ -25,7 +26,7 @@ use proof_text::print_symmetric;
 use round_workers::MAX_WORKERS;
 use std::alloc::Global;
 use std::thread::Threads;
-use strategies::{DocumentText, GapMoves, Moves, SymmetricDocument, document_up_to_symmetries};
+use strategies::{DocumentText, GapMoves, MadeDocument, document_up_to_symmetries};
 
 impl Work {
     /// Reads a board and then symmetries of its domain, and writes the board's document up to what
@@ -52,13 +53,11 @@ impl Work {
         requires symmetries_unended { S.has_ended symmetries.old ≡ false }
         requires writer_ready { W.has_failed writer.old ≡ false }
         ensures ok { IfOk result (RanUpTo (IsSolutionUpTo side) self.limit
-            (bytes_of B.remaining board.old board.new)
-            (bytes_of S.remaining symmetries.old symmetries.new)
+            (readers_of B.remaining board.old board.new S.remaining symmetries.old symmetries.new)
             (bytes_of W.contents writer.old writer.new)) }
         ensures fault { IfErr result (FailsUpTo (IsSolutionUpTo side) (CannotSolveUpTo side)
-            self.limit (symmetries.new ≡ symmetries.old)
-            (bytes_of B.remaining board.old board.new)
-            (bytes_of S.remaining symmetries.old symmetries.new)
+            self.limit
+            (readers_of B.remaining board.old board.new S.remaining symmetries.old symmetries.new)
             (bytes_of W.contents writer.old writer.new)) }
         ensures streams { TellsStreams result
             ((B.has_failed board.new ≡ true) ⊎ (S.has_failed symmetries.new ≡ true))
@@ -124,7 +123,7 @@ fn solution_up_to(
         MAX_PROOF_BYTES,
         parts as u32,
     )?;
-    let SymmetricDocument { value, proof } = made;
+    let MadeDocument { value, proof } = made;
     let text = print_symmetric(alloc, moves.board(), &proof)?;
     if text.len() > MAX_PROOF_BYTES {
         return Err(RunFault::DocumentTooLarge);

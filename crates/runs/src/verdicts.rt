@@ -7,7 +7,7 @@ ghost use Rattle.proof_text.specs.ClassProof.{plain_class_proof};
 ghost use Rattle.proof_text.specs.Proof.{plain_proof};
 ghost use Rattle.proof_text.specs.SymmetryProof.{plain_symmetry_proof};
 ghost use Rattle.positions.specs.Ranks.{configurations};
-ghost use Rattle.proof_check.specs.ClassNumbers.{AreNumbersOfRows};
+ghost use Rattle.proof_check.specs.RowNumbers.{AreNumbersOfRows};
 ghost use Rattle.runs.specs.Verdicts.{CannotAnswer, IsAnswered, IsChecked, IsClassVerdict};
 ghost use Rattle.runs.specs.Verdicts.{IsSymmetryVerdict, IsVerdict};
 ghost use Rattle.runs.specs.Inside.Verdicts.{NamesRows};
@@ -21,8 +21,7 @@ use crate::output::line;
 use board_text::Board;
 use positions::{MAX_CONFIGURATIONS, Space, is_small};
 use proof_check::{
-    CheckFault, ClassFault, ClassNumbers, Shown, SymmetryFault, check, check_classes,
-    check_symmetric,
+    CheckFault, ClassFault, RowNumbers, Shown, SymmetryFault, check, check_classes, check_symmetric,
 };
 use proof_text::{
     ClassProof, MAX_CLASS_ROWS, Proof, SymmetryProof, parse, parse_classes, parse_symmetric,
@@ -128,7 +127,7 @@ fn check_by_classes(
     ensures fault { IfErr result (HasNoProof board.now text.now) }
 {
     let proof = parse_classes(alloc, board, text)?;
-    let numbers = ClassNumbers::of(alloc, board, &proof)?;
+    let numbers = RowNumbers::of(alloc, board, &proof)?;
     let verdict = class_verdict_on(rt, board, &proof, &numbers);
     let line = line(alloc, board, verdict)?;
     Ok(VerdictLine { verdict, line })
@@ -139,7 +138,7 @@ fn class_verdict_on(
     rt: &(impl Threads + Sync),
     board: &Board,
     proof: &ClassProof,
-    numbers: &ClassNumbers,
+    numbers: &RowNumbers,
 ) -> Verdict
     requires document { IsClassDocument board.now proof.now }
     requires numbers { AreNumbersOfRows board.now proof.now numbers.now }
@@ -169,7 +168,7 @@ fn check_up_to_symmetries(
     ensures fault { IfErr result (HasNoProof board.now text.now) }
 {
     let proof = parse_symmetric(alloc, board, text)?;
-    let numbers = ClassNumbers::of(alloc, board, &proof.rows)?;
+    let numbers = RowNumbers::of(alloc, board, &proof.rows)?;
     let verdict = symmetry_verdict_on(rt, alloc, board, &proof, &numbers)?;
     let line = line(alloc, board, verdict)?;
     Ok(VerdictLine { verdict, line })
@@ -181,7 +180,7 @@ fn symmetry_verdict_on(
     alloc: Global,
     board: &Board,
     proof: &SymmetryProof,
-    numbers: &ClassNumbers,
+    numbers: &RowNumbers,
 ) -> Result<Verdict, RunFault>
     requires document { IsSymmetryDocument board.now proof.now }
     requires numbers { AreNumbersOfRows board.now proof.now.rows numbers.now }

@@ -1,8 +1,7 @@
 //! Writing a text that was built whole.
 
 ghost use Rattle.std.specs.Prelude.{◌≡◌, ◌↔◌, true, false, Err, IfErr, OnOk, OnErr, flat_map};
-ghost use Rattle.std.specs.Io.KnownBytes.{Appends};
-ghost use Rattle.board_text.specs.Streams.{AppendsPrefix};
+ghost use Rattle.board_text.specs.Streams.{AppendsAll, AppendsPrefix, bytes_of};
 ghost use Rattle.runs.specs.declared.fault.RunFault.TheVariants.{Write};
 
 use crate::fault::RunFault;
@@ -13,9 +12,9 @@ use board_text::{Failed, Sink, write_all};
 /// both answer `Failed`: by a `From` a failed read would become `write fault` under `?`.
 pub fn write_text<W: Sink>(writer: &mut W, text: &str) -> Result<(), RunFault>
     requires ready { W.has_failed writer.old ≡ false }
-    ensures ok { OnOk result (Appends (W.contents writer.old) (W.contents writer.new) text.now) }
-    ensures prefix { OnErr result (AppendsPrefix (W.contents writer.old)
-        (W.contents writer.new) text.now) }
+    ensures ok { OnOk result (AppendsAll (bytes_of W.contents writer.old writer.new) text.now) }
+    ensures prefix { OnErr result (AppendsPrefix (bytes_of W.contents writer.old writer.new)
+        text.now) }
     ensures fault { IfErr result (λ fault. fault ≡ Write) }
     ensures failed { (W.has_failed writer.new ≡ true) ↔ (result ≡ Err Write) }
 {
@@ -29,10 +28,10 @@ pub fn write_text<W: Sink>(writer: &mut W, text: &str) -> Result<(), RunFault>
 /// before. After a fault a prefix of the text was written.
 pub(crate) fn write_parts<W: Sink>(writer: &mut W, parts: &[Vec<u8>]) -> Result<(), RunFault>
     requires ready { W.has_failed writer.old ≡ false }
-    ensures ok { OnOk result (Appends (W.contents writer.old) (W.contents writer.new)
+    ensures ok { OnOk result (AppendsAll (bytes_of W.contents writer.old writer.new)
         (flat_map (λ part. part.items) parts.now)) }
-    ensures prefix { OnErr result (AppendsPrefix (W.contents writer.old)
-        (W.contents writer.new) (flat_map (λ part. part.items) parts.now)) }
+    ensures prefix { OnErr result (AppendsPrefix (bytes_of W.contents writer.old writer.new)
+        (flat_map (λ part. part.items) parts.now)) }
     ensures fault { IfErr result (λ fault. fault ≡ Write) }
     ensures failed { (W.has_failed writer.new ≡ true) ↔ (result ≡ Err Write) }
 {

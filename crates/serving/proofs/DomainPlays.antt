@@ -7,7 +7,7 @@ use Rattle.command_line.specs.declared.asked.BoardLimit.{BoardLimit}
 use Rattle.player.specs.declared.end.PlayEnd.{PlayEnd}
 use Rattle.positions.specs.declared.side.Side.{Side}
 use Rattle.runs.proofs.Cited.{given_or_lacking, one_lacking}
-use Rattle.runs.specs.BoardRun.{GaveBoardAmong}
+use Rattle.runs.specs.BoardRun.{GaveBoardAmong, readers_by}
 use Rattle.runs.specs.PlayRun.{IsBrokenOff, IsOver, PlayFailsUpTo, RanPlayUpTo, game_played}
 use Rattle.runs.specs.Run.{Bytes, Gave, IsUnread, Stream}
 use Rattle.runs.specs.SymmetricRun.{GaveDomain, GivesFewOrbits, HasNoFewOrbits, LacksFewOrbits}
@@ -17,7 +17,7 @@ use Rattle.runs.specs.declared.fault.RunFault.TheVariants.{Read}
 use Rattle.runs.specs.declared.given_symmetries.TheConstants.{MAX_SYMMETRIES_BYTES}
 use Rattle.runs.specs.declared.reading.TheConstants.{MAX_BOARD_BYTES}
 use Rattle.serving.specs.Folders.{CanFail, Closed, File, Holds, Unknown}
-use Rattle.serving.specs.Jobs.{PlaysUpTo}
+use Rattle.serving.specs.Jobs.{PlaysUpTo, play_over}
 use Rattle.serving.specs.Outcomes.{EndsAs, outcome_of_run}
 use Rattle.serving.specs.declared.outcome.Outcome.{Outcome}
 use Rattle.serving.specs.declared.outcome.Outcome.TheVariants.{Broken}
@@ -89,16 +89,13 @@ module _ (limit : BoardLimit) (side : Side) (input output : Stream) (lines taken
         (then_ends MAX_SYMMETRIES_BYTES (LacksFewOrbits board) (GivenAndPlayed side lines board) two given two_old
         output taken outcome domain.text domain.gave (end.0, end.1, (domain.few, end.2)))
 
-    played_up_to : EndsAs outcome_of_run (RanPlayUpTo limit side one two input.bytes output.bytes)
-        (PlayFailsUpTo limit side (two.new ≡ two.old) (input.IsKept × output.IsKept) one two input.bytes
-        output.bytes) outcome
-        → OnDomain
+    played_up_to : EndsAs outcome_of_run (RanPlayUpTo limit side (readers_by one two) (play_over input output))
+        (PlayFailsUpTo limit side (readers_by one two) (play_over input output)) outcome → OnDomain
     played_up_to (result, match, same) = go result match same
       where
         go : (result : Result PlayEnd RunFault) → MatchResult result
-            (RanPlayUpTo limit side one two input.bytes output.bytes)
-            (PlayFailsUpTo limit side (two.new ≡ two.old) (input.IsKept × output.IsKept) one two input.bytes
-            output.bytes)
+            (RanPlayUpTo limit side (readers_by one two) (play_over input output))
+            (PlayFailsUpTo limit side (readers_by one two) (play_over input output))
             → outcome ≡ outcome_of_run result → OnDomain
         go (Ok end) (board, domain, over) same = domain_played board domain (Ok end, over, same)
         go (Err fault) (inl (inl (none, untouched), stays)) same =
@@ -110,7 +107,7 @@ module _ (limit : BoardLimit) (side : Side) (input output : Stream) (lines taken
 
   pub domain_play_ends : (first second : File) → first ≢ Unknown → second ≢ Unknown
       → (outcome ≡ Broken Read → (CanFail first ⊎ CanFail second) ⊎ input.HasFailed) → (input.HasFailed → ⊥)
-      → PlaysUpTo side limit first second input output outcome
+      → PlaysUpTo side limit first second (play_over input output) outcome
       → EndsBy output taken (PairEnds (DomainPlayEnds limit side lines) first second) outcome
   domain_play_ends Unknown second known known_too unread sound opens = absurd (known refl)
   domain_play_ends Closed second known known_too unread sound (inl (can, stays, same)) =

@@ -1,5 +1,5 @@
 -- The outcomes of runs, by their results.
-use Rattle.std.proofs.Common.{◌≡◌, ◌≢◌, ◌↔◌, sym, ap, subst, ◌∙◌, inl, inr}
+use Rattle.std.proofs.Common.{◌≡◌, ◌≢◌, ◌↔◌, ℕ, List, sym, ap, subst, ◌∙◌, inl, inr}
 use Rattle.std.proofs.lemmas.Result.{MatchResult-from_both, IfErr-at_err, IfErr-weaker}
 use Rattle.std.specs.Prelude.{Result, Ok, Err, IfOk, IfErr}
 use Rattle.board_text.specs.PlainBoard.{PlainBoard}
@@ -9,12 +9,14 @@ use Rattle.positions.specs.declared.side.Side.{Side}
 use Rattle.serving.specs.Folders.{File, OpensWith}
 use Rattle.serving.specs.Jobs.{Plays, PlaysUpTo, WritesAlone, WritesBoth, WritesWhole}
 use Rattle.serving.specs.Outcomes.{EndsAs, outcome_of_check, outcome_of_run}
-use Rattle.runs.specs.BoardRun.{FailsOn, RanOn}
-use Rattle.runs.specs.PlayRun.{PlayFails, PlayFailsUpTo, RanPlay, RanPlayUpTo}
+use Rattle.runs.specs.BoardRun.{FailsOn, RanOn, Readers, readers_by}
+use Rattle.runs.specs.PlayRun.{IsToldUpTo, PlayFails, PlayFailsUpTo, PlayStreams, RanPlay, RanPlayUpTo}
+use Rattle.runs.specs.SymmetricRun.{GaveNoDomain}
 use Rattle.runs.specs.Run.{Bytes, Stream}
 use Rattle.runs.specs.declared.reading.TheConstants.{MAX_BOARD_BYTES}
 use Rattle.runs.specs.declared.fault.RunFault.{RunFault}
 use Rattle.runs.specs.declared.fault.RunFault.TheVariants.{Write}
+use Rattle.runs.specs.declared.playing.Playing.{Playing}
 use Rattle.serving.specs.declared.outcome.Outcome.{Outcome}
 use Rattle.serving.specs.declared.outcome.Outcome.TheVariants.{Broken}
 use Rattle.runs.specs.declared.verdicts.Verdict.{Verdict}
@@ -65,8 +67,9 @@ module _ (output : Stream) (ran outcome : Outcome) (is : outcome ≡ ran) where
   wrote_alone Writes file read opens done entire =
       subst (λ o. WritesAlone Writes file output o) (sym is) (inr (read, opens, done), entire)
 
-  pub wrote_both : (Writes : Bytes → Bytes → Stream → Outcome → Type 0) (first second : File) (one two : Bytes)
-      → OpensWith first one.old → OpensWith second two.old → Writes one two output ran → WritesWhole output ran
+  pub wrote_both : (Writes : Readers → Stream → Outcome → Type 0) (first second : File) (one two : Bytes)
+      → OpensWith first one.old → OpensWith second two.old → Writes (readers_by one two) output ran
+      → WritesWhole output ran
       → WritesBoth Writes first second output outcome
   wrote_both Writes first second one two opens opens_too done entire =
       subst (λ o. WritesBoth Writes first second output o) (sym is) (inr (one, two, opens, opens_too, done), entire)
@@ -94,43 +97,50 @@ module _ {A : Type 0} (told : Result A RunFault → Outcome) (IsSmall : PlainBoa
       (untouched Untouched (two.new ≡ two.old) to) fault)
 
 module _ (limit : BoardLimit) (side : Side) (file : File) (read : Bytes) (opens : OpensWith file read.old)
-    (input output : Stream)
-    (r : Result PlayEnd RunFault) (outcome : Outcome) (is : outcome ≡ outcome_of_run r) where
-  pub opened_play : IfOk r (RanPlay limit side MAX_BOARD_BYTES read input.bytes output.bytes)
-      → IfErr r (PlayFails limit side MAX_BOARD_BYTES
-      (input.IsKept × output.IsKept) read input.bytes output.bytes)
-      → Plays side limit file input output outcome
+    (play : PlayStreams) (r : Result PlayEnd RunFault) (outcome : Outcome) (is : outcome ≡ outcome_of_run r) where
+  pub opened_play : IfOk r (RanPlay limit side read play) → IfErr r (PlayFails limit side read play)
+      → Plays side limit file play outcome
   opened_play ok fault = inr (
     read,
     opens,
-    ends outcome_of_run r (RanPlay limit side MAX_BOARD_BYTES read input.bytes output.bytes)
-        (PlayFails limit side MAX_BOARD_BYTES (input.IsKept × output.IsKept) read input.bytes output.bytes)
-        outcome is ok fault,
+    ends outcome_of_run r (RanPlay limit side read play) (PlayFails limit side read play) outcome is ok fault,
   )
 
 -- of a play with values up to symmetries in another file
 module _ (limit : BoardLimit) (side : Side) (first second : File) (one two : Bytes) (opens : OpensWith first one.old)
-    (opens_too : OpensWith second two.old) (input output : Stream) (r : Result PlayEnd RunFault) (outcome : Outcome)
-    (is : outcome ≡ outcome_of_run r) where
-  abbrev FailsWith : Type 0 → RunFault → Type 0
-  FailsWith Untouched =
-      PlayFailsUpTo limit side Untouched (input.IsKept × output.IsKept) one two input.bytes output.bytes
+    (opens_too : OpensWith second two.old) (play : PlayStreams) (r : Result PlayEnd RunFault) (outcome : Outcome)
+    (is : outcome ≡ outcome_of_run r) (Kept : Type 0) (to : Kept → two.new ≡ two.old) where
+  -- the readers of a run, whose second is as it was, and not its bytes alone
+  abbrev readers : Readers
+  readers = record { board = one; text = two; IsTextKept = Kept }
 
-  untouched_too : (Old New : Type 0) → (Old → New) → (fault : RunFault) → FailsWith Old fault → FailsWith New fault
-  untouched_too Old New to fault (inl (inl (none, kept), stays)) = inl (inl (none, to kept), stays)
-  untouched_too Old New to fault (inl (inr rest, stays)) = inl (inr rest, stays)
-  untouched_too Old New to fault (inr rest) = inr rest
+  not_given : (fault : RunFault) → GaveNoDomain limit readers fault → GaveNoDomain limit (readers_by one two) fault
+  not_given fault (inl (none, kept)) = inl (none, to kept)
+  not_given fault (inr rest) = inr rest
 
-  pub opened_play_up_to : IfOk r (RanPlayUpTo limit side one two input.bytes output.bytes)
-      → (Untouched : Type 0) → (Untouched → two.new ≡ two.old) → IfErr r (FailsWith Untouched)
-      → PlaysUpTo side limit first second input output outcome
-  opened_play_up_to ok Untouched to fault = inr (
+  fails_so : (fault : RunFault) → PlayFailsUpTo limit side readers play fault
+      → PlayFailsUpTo limit side (readers_by one two) play fault
+  fails_so fault (inl (none, stays)) = inl (not_given fault none, stays)
+  fails_so fault (inr rest) = inr rest
+
+  pub opened_play_up_to : IfOk r (RanPlayUpTo limit side readers play) → IfErr r (PlayFailsUpTo limit side readers play)
+      → PlaysUpTo side limit first second play outcome
+  opened_play_up_to ok fault = inr (
     one,
     two,
     opens,
     opens_too,
-    ends outcome_of_run r (RanPlayUpTo limit side one two input.bytes output.bytes) (FailsWith (two.new ≡ two.old))
-        outcome is ok
-        (IfErr-weaker r (FailsWith Untouched) (FailsWith (two.new ≡ two.old))
-        (untouched_too Untouched (two.new ≡ two.old) to) fault),
+    ends outcome_of_run r (RanPlayUpTo limit side (readers_by one two) play)
+        (PlayFailsUpTo limit side (readers_by one two) play) outcome is ok
+        (IfErr-weaker r (PlayFailsUpTo limit side readers play) (PlayFailsUpTo limit side (readers_by one two) play)
+        fails_so fault),
   )
+
+-- what a person is told in such a play
+module _ (playing : Playing) (one two : Bytes) (play : PlayStreams) (Kept : Type 0) (to : Kept → two.new ≡ two.old)
+    (result : Result PlayEnd RunFault) (told : List ℕ) where
+  pub told_up_to : IsToldUpTo playing (record { board = one; text = two; IsTextKept = Kept }) play result told
+      → IsToldUpTo playing (readers_by one two) play result told
+  told_up_to (inl (fault, broke, inl (none, kept), stays, is)) = inl (fault, broke, inl (none, to kept), stays, is)
+  told_up_to (inl (fault, broke, inr rest, stays, is)) = inl (fault, broke, inr rest, stays, is)
+  told_up_to (inr played) = inr played

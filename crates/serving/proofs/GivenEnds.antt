@@ -10,7 +10,8 @@ use Rattle.runs.specs.Run.{Stream}
 use Rattle.runs.specs.declared.fault.RunFault.TheVariants.{Read, Write}
 use Rattle.serving.specs.FaultLines.{line_of_fault}
 use Rattle.serving.specs.Folders.{File}
-use Rattle.serving.specs.Jobs.{IsDone}
+use Rattle.serving.specs.Consoles.{Serving}
+use Rattle.serving.specs.Jobs.{IsDone, play_over}
 use Rattle.serving.specs.Outcomes.{status_of}
 use Rattle.serving.specs.Serving.{AnswersWords, EndsWith, IsEnding, IsExplained, IsHelped, IsRefusedWith, IsWritten}
 use Rattle.serving.specs.Serving.{WordsAskFor}
@@ -44,13 +45,6 @@ wrote : (stream : Stream) (bytes text : List ℕ) → Had stream bytes → IsWri
     (bytes ++ text)
 wrote stream bytes text had (inl (sound, appends)) = took stream bytes text had appends
 wrote stream bytes text had (inr (failed, cut)) = absurd (had.sound failed)
-
--- the streams of a serving, and its exit status
-pub record Serving : Type 1 where
-  pub input : Stream
-  pub output : Stream
-  pub errors : Stream
-  pub status : ℕ
 
 module _ (before : BytesBefore) where
   -- the streams had these bytes and haven't failed, and neither memory nor a worker was refused
@@ -87,7 +81,7 @@ module _ (at : List ℕ → File) (known : AreKnown at) (terminals : Terminals) 
   abbrev Left : ℕ → List ℕ → List ℕ → Type 0
   Left = Leaves before explains s
 
-  said_is : (outcome : Outcome) → EndsWith at terminals explains s.input s.output s.errors s.status [] outcome
+  said_is : (outcome : Outcome) → EndsWith explains s [] outcome
       → explains ≡ false → s.errors.bytes.new ≡ Some (before.errors ++ ending outcome)
   said_is outcome ((said, is, (written, quiet)), same) plain =
       wrote s.errors before.errors said gives.had_errors written ∙ ap (λ t. Some (before.errors ++ t))
@@ -109,8 +103,8 @@ module _ (at : List ℕ → File) (known : AreKnown at) (terminals : Terminals) 
     pub leaves : Left (status_of outcome) text (ending outcome)
 
   pub job_done : (words : List Text) (job : Job) (told : List ℕ) (outcome : Outcome) → WordsAskFor words job
-      → IsDone at s.input s.output job outcome → IsToldInJob at terminals s.input s.output outcome job told
-      → EndsWith at terminals explains s.input s.output s.errors s.status told outcome
+      → IsDone at s.input s.output job outcome → IsToldInJob at terminals (play_over s.input s.output) outcome job told
+      → EndsWith explains s told outcome
       → IsJobDone words job outcome
   job_done words job told outcome asks done tells ends =
       let end = job_ends at before.input known s.input s.output before.output gives.had_input gives.had_output outcome
@@ -123,13 +117,13 @@ module _ (at : List ℕ → File) (known : AreKnown at) (terminals : Terminals) 
           status_is = ends.1;
           output_is = end.1;
           errors_are = said_is outcome (subst
-              (λ g. EndsWith at terminals explains s.input s.output s.errors s.status g outcome)
-              (nothing_in_job at terminals off s.input s.output outcome job told tells) ends);
+              (λ g. EndsWith explains s g outcome)
+              (nothing_in_job at terminals off (play_over s.input s.output) outcome job told tells) ends);
         };
       }
 
   -- help or the version was written
-  pub helped_is : (text : List ℕ) → IsHelped at terminals explains s.input s.output s.errors s.status text
+  pub helped_is : (text : List ℕ) → IsHelped explains s text
       → Left 0 text []
   helped_is text (written, kept, inl (sound, ends)) = record {
     status_is = ends.1;
@@ -138,7 +132,7 @@ module _ (at : List ℕ → File) (known : AreKnown at) (terminals : Terminals) 
   }
   helped_is text (written, kept, inr (failed, ends)) = absurd (gives.had_output.sound failed)
 
-  pub refused_is : (text : List ℕ) → IsRefusedWith at terminals explains s.input s.output s.errors s.status text
+  pub refused_is : (text : List ℕ) → IsRefusedWith explains s text
       → Left 2 [] text
   refused_is text ((said, is, written), kept, kept_too, same) = record {
     status_is = same;
@@ -149,7 +143,7 @@ module _ (at : List ℕ → File) (known : AreKnown at) (terminals : Terminals) 
 
   -- the job lacked its input
   pub lacked_is : s.output.IsKept
-      → EndsWith at terminals explains s.input s.output s.errors s.status [] (Broken Read)
+      → EndsWith explains s [] (Broken Read)
       → Left (status_of (Broken Read)) [] (ending (Broken Read))
   lacked_is kept ends = record {
     status_is = ends.1;
@@ -158,8 +152,8 @@ module _ (at : List ℕ → File) (known : AreKnown at) (terminals : Terminals) 
   }
 
   -- memory for the words wasn't refused
-  pub no_memory : (fault : JobFault) → AnswersWords at terminals explains s.input s.output s.errors s.status fault
+  pub no_memory : (fault : JobFault) → AnswersWords explains s fault
       → fault ≢ NoMemory
   no_memory fault answers same =
-      let none = subst (λ f. AnswersWords at terminals explains s.input s.output s.errors s.status f) same answers in
+      let none = subst (λ f. AnswersWords explains s f) same answers in
       gives.given none.2.1

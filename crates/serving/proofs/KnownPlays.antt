@@ -9,6 +9,7 @@ use Rattle.std.proofs.lemmas.Fmt.{decimal_nonempty}
 use Rattle.std.proofs.lemmas.List.{append_cancel_left, append_cancel_right, nil_from_length, same_from_push}
 use Rattle.std.proofs.lemmas.List.{take-append-le}
 use Rattle.std.proofs.lemmas.List.Elements.{recursion_from_All}
+use Rattle.board_text.proofs.Cited.{between}
 use Rattle.board_text.specs.LineForms.{with_line_feed}
 use Rattle.player.specs.Laws.{IsGame}
 use Rattle.player.specs.Play.{FullLinesCame, LinesCame, LinesWereAll}
@@ -104,14 +105,14 @@ abbrev pub Leaves : List ℕ → Option (List ℕ) → List ℕ → Type 0
 Leaves rest left tail = ((more : List ℕ) × (tail ≡ rest ++ more)) × (IsAtEnd left → rest ≡ [] → length tail ≤ 1)
 
 pub cuts : (bytes : List ℕ) (left : Option (List ℕ)) (lines : List (List ℕ)) (rest : List ℕ) → LinesCame
-    (Some bytes) left lines rest
+    (between (Some bytes) left) lines rest
     → (tail : List ℕ) × Cuts bytes lines tail × Leaves rest left tail
 cuts bytes left lines rest came = go left came.came
   where
     each : AreLines lines
     each = recursion_from_All IsLine lines came.each
 
-    whole : (left : Option (List ℕ)) → rest ≡ [] → LinesWereAll (Some bytes) left lines → (tail : List ℕ)
+    whole : (left : Option (List ℕ)) → rest ≡ [] → LinesWereAll (between (Some bytes) left) lines → (tail : List ℕ)
         × Cuts bytes lines tail × Leaves rest left tail
     whole None none all = absurd all.read.0
     whole (Some over) none all =
@@ -127,8 +128,8 @@ cuts bytes left lines rest came = go left came.came
           ((([], rw none refl), λ end e. omega arith)),
         )
 
-    go : (left : Option (List ℕ)) → FullLinesCame (Some bytes) left lines rest ⊎
-        ((rest ≡ []) × LinesWereAll (Some bytes) left lines)
+    go : (left : Option (List ℕ)) → FullLinesCame (between (Some bytes) left) lines rest ⊎
+        ((rest ≡ []) × LinesWereAll (between (Some bytes) left) lines)
         → (tail : List ℕ) × Cuts bytes lines tail × Leaves rest left tail
     go left (inr (none, all)) = whole left none all
     go None (inl full) = absurd full

@@ -3,7 +3,8 @@ use Rattle.std.proofs.Common.{◌≡◌, ◌≢◌, ◌∙◌, ℕ, ◌<◌, ◌
 use Rattle.std.proofs.Common.{refl, sym, ap, subst, arith, append-nil, length-append}
 use Rattle.std.specs.Prelude.{Result, Ok, Err, MatchResult}
 use Rattle.std.specs.Io.KnownBytes.{Appends, Consumes}
-use Rattle.board_text.specs.Streams.{GaveAll}
+use Rattle.board_text.specs.Streams.{AppendsAll, GaveAll, GaveNext}
+use Rattle.board_text.proofs.Cited.{between}
 use Rattle.serving.specs.Jobs.{WritesWhole}
 use Rattle.serving.specs.Outcomes.{EndsAs}
 use Rattle.runs.specs.Run.{Bytes, Fails, Gave, IsUnread, Ran, Stream}
@@ -25,7 +26,7 @@ appends_is : (bytes text : List ℕ) (new : Option (List ℕ)) → Appends (Some
 appends_is bytes text None h = absurd h
 appends_is bytes text (Some ys) h = ap Some h
 
-pub took : (stream : Stream) (bytes text : List ℕ) → Had stream bytes → Appends stream.bytes.old stream.bytes.new text
+pub took : (stream : Stream) (bytes text : List ℕ) → Had stream bytes → AppendsAll stream.bytes text
     → stream.bytes.new ≡ Some (bytes ++ text)
 took stream bytes text had h =
     appends_is bytes text stream.bytes.new (subst (λ (o : Option (List ℕ)). Appends o stream.bytes.new text) had.old h)
@@ -35,14 +36,13 @@ pub stayed : (stream : Stream) (bytes : List ℕ) → Had stream bytes → strea
 stayed stream bytes had kept = had.kept kept ∙ had.old ∙ ap Some (sym (append-nil bytes))
 
 -- bytes that were all given are the text
-all_given : (bytes text : List ℕ) (new : Option (List ℕ)) → GaveAll (Some bytes) new text → bytes ≡ text
+all_given : (bytes text : List ℕ) (new : Option (List ℕ)) → GaveAll (between (Some bytes) new) text → bytes ≡ text
 all_given bytes text None gave = absurd gave.0
 all_given bytes text (Some rest) gave = gave.0 ∙ ap (λ r. text ++ r) gave.1 ∙ append-nil text
 
-pub gave_all : (read : Bytes) (bytes text : List ℕ) → read.old ≡ Some bytes → GaveAll read.old read.new text
-    → text ≡ bytes
+pub gave_all : (read : Bytes) (bytes text : List ℕ) → read.old ≡ Some bytes → GaveAll read text → text ≡ bytes
 gave_all read bytes text old gave = sym (all_given bytes text read.new
-    (subst (λ (o : Option (List ℕ)). GaveAll o read.new text) old gave))
+    (subst (λ (o : Option (List ℕ)). GaveAll (between o read.new) text) old gave))
 
 consumed_fewer : (bytes taken : List ℕ) (new : Option (List ℕ)) → Consumes (Some bytes) new taken
     → length taken ≤ length bytes
@@ -50,7 +50,7 @@ consumed_fewer bytes taken None h = absurd h
 consumed_fewer bytes taken (Some rest) h =
     let size : length bytes ≡ length (taken ++ rest) = ap length h in omega (arith, size, length-append taken rest)
 
-pub read_fewer : (read : Bytes) (bytes taken : List ℕ) → read.old ≡ Some bytes → Consumes read.old read.new taken
+pub read_fewer : (read : Bytes) (bytes taken : List ℕ) → read.old ≡ Some bytes → GaveNext read taken
     → length taken ≤ length bytes
 read_fewer read bytes taken old h = consumed_fewer bytes taken read.new
     (subst (λ (o : Option (List ℕ)). Consumes o read.new taken) old h)

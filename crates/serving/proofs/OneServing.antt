@@ -26,7 +26,8 @@ use Rattle.serving.specs.declared.outcome.Outcome.{Outcome}
 use Rattle.serving.specs.declared.outcome.Outcome.TheVariants.{Broken}
 use Rattle.serving.specs.declared.serving.Words.{Words}
 use Rattle.serving.specs.declared.serving.Words.TheVariants.{Given, NotText, OutOfMemory}
-use Rattle.serving.proofs.GivenEnds.{AreSame, Gives, IsJobDone, Leaves, Serving, ending, helped_is, job_done, lacked_is}
+use Rattle.serving.specs.Consoles.{Serving}
+use Rattle.serving.proofs.GivenEnds.{AreSame, Gives, IsJobDone, Leaves, ending, helped_is, job_done, lacked_is}
 use Rattle.serving.proofs.GivenEnds.{leave_same, no_memory, refused_is}
 use Rattle.serving.proofs.JobEnds.{JobEnds, one_job_end}
 use Rattle.serving.proofs.OneJob.{asked_in_range, one_job, settled, typed_alike}
@@ -84,8 +85,8 @@ module _ (at : List ℕ → File) (known : AreKnown at) (terminals : Terminals) 
 
     both_faults : (words : List Text) (fault next : JobFault) → ShowsWords words fault → ShowsWords words next
         → fault ≢ NoMemory → next ≢ NoMemory
-        → AnswersWords at terminals explains s.input s.output s.errors s.status fault
-        → AnswersWords at terminals explains t.input t.output t.errors t.status next
+        → AnswersWords explains s fault
+        → AnswersWords explains t next
         → (s.status ≡ t.status) × (AsksForVersion words → AreSame before explains s t)
     both_faults words NoMemory next shows shows_too not not_too is also = absurd (not refl)
     both_faults words (Help text) NoMemory shows shows_too not not_too is also = absurd (not_too refl)
@@ -108,8 +109,8 @@ module _ (at : List ℕ → File) (known : AreKnown at) (terminals : Terminals) 
         )
 
     both_served : (words : List Text)
-        → ServesWords at terminals explains s.input s.output s.errors s.status words
-        → ServesWords at terminals explains t.input t.output t.errors t.status words
+        → ServesWords at terminals explains s words
+        → ServesWords at terminals explains t words
         → (s.status ≡ t.status)
         × ((length words ≤ 1) ⊎ (fault_of program words ≡ []) ⊎ AsksForVersion words → AreSame before explains s t)
     both_served words (inl (job, asks, inl (has, outcome, told, done, tells, ends)))
@@ -148,8 +149,8 @@ module _ (at : List ℕ → File) (known : AreKnown at) (terminals : Terminals) 
           ],
         )
 
-  pub both_given : (words : Words) → ServesAnyWords at terminals s.input s.output s.errors s.status words
-      → ServesAnyWords at terminals t.input t.output t.errors t.status words
+  pub both_given : (words : Words) → ServesAnyWords at terminals s words
+      → ServesAnyWords at terminals t words
       → (s.status ≡ t.status) × (HaveOwnText words → (s.output.bytes.new ≡ t.output.bytes.new)
       × (AskForNoExplanation words → s.errors.bytes.new ≡ t.errors.bytes.new))
   both_given (Given words) is also =

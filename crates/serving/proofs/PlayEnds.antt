@@ -3,6 +3,7 @@ use Rattle.std.proofs.Common.{◌≡◌, ◌≢◌, ◌∙◌, ℕ, ◌≤◌, �
 use Rattle.std.proofs.Common.{ap, refl, subst, sym}
 use Rattle.std.specs.Prelude.{Err, MatchResult, Ok, Result}
 use Rattle.board_text.specs.PlainBoard.{IsBoard, PlainBoard}
+use Rattle.board_text.proofs.Cited.{between}
 use Rattle.command_line.specs.declared.asked.BoardLimit.{BoardLimit}
 use Rattle.player.specs.Laws.{IsGame}
 use Rattle.player.specs.Play.{BreaksOff, Ends as PlayEndsBy, HasEnded, LinesCame}
@@ -22,7 +23,7 @@ use Rattle.runs.specs.declared.fault.RunFault.{RunFault}
 use Rattle.runs.specs.declared.fault.RunFault.TheVariants.{Limit, Read}
 use Rattle.runs.specs.declared.reading.TheConstants.{MAX_BOARD_BYTES}
 use Rattle.serving.specs.Folders.{CanFail, Closed, File, Holds, Unknown}
-use Rattle.serving.specs.Jobs.{Plays}
+use Rattle.serving.specs.Jobs.{Plays, play_over}
 use Rattle.serving.specs.Outcomes.{EndsAs, outcome_of_run}
 use Rattle.serving.specs.declared.outcome.Outcome.{Outcome}
 use Rattle.serving.specs.declared.outcome.Outcome.TheVariants.{Broken, Done}
@@ -60,13 +61,13 @@ module _ (game : Game) (input output : Stream) (bytes taken : List ℕ) (old : i
   abbrev Ended : Type 0
   Ended = EndsBy output taken (PlayEnds game bytes) outcome
 
-  came_known : (lines : List (List ℕ)) (rest : List ℕ) → LinesCame input.bytes.old input.bytes.new lines rest
-      → LinesCame (Some bytes) input.bytes.new lines rest
-  came_known lines rest came = subst (λ (o : Option (List ℕ)). LinesCame o input.bytes.new lines rest) old came
+  came_known : (lines : List (List ℕ)) (rest : List ℕ) → LinesCame input.bytes lines rest
+      → LinesCame (between (Some bytes) input.bytes.new) lines rest
+  came_known lines rest came =
+      subst (λ (o : Option (List ℕ)). LinesCame (between o input.bytes.new) lines rest) old came
 
-  play_over : (end : PlayEnd) → outcome ≡ Done → HasEnded
-      (IsPlayed game) input.bytes.old input.bytes.new output.bytes.old output.bytes.new end → Ended
-  play_over end same (lines, rest, text, came, ends, appends) =
+  played_to_end : (end : PlayEnd) → outcome ≡ Done → HasEnded (IsPlayed game) input.bytes output.bytes end → Ended
+  played_to_end end same (lines, rest, text, came, ends, appends) =
       let cut = cuts bytes input.bytes.new lines rest (came_known lines rest came) in
       (text, took output taken text had appends, inl (lines, cut.0, came.few, ended cut.0 cut.1 cut.2 ends, same))
     where
@@ -78,7 +79,7 @@ module _ (game : Game) (input output : Stream) (bytes taken : List ℕ) (old : i
           record { cut = cut; end = end; transcript = inr stops; ends = inr (leaves.1 finished none, less) }
 
   play_broken : (why : PlayFault) → outcome ≡ Broken (fault_of_play why)
-      → BreaksOff (IsPlayed game) input.bytes.old input.bytes.new output.bytes.old output.bytes.new why → Ended
+      → BreaksOff (IsPlayed game) input.bytes output.bytes why → Ended
   play_broken play_faults.Read same breaks = absurd (plain.read same)
   play_broken play_faults.Write same breaks = absurd (plain.write same)
   play_broken play_faults.Memory same breaks = absurd (plain.memory same)
@@ -112,7 +113,7 @@ module _ (game : Game) (input output : Stream) (bytes taken : List ℕ) (old : i
       go : (result : Result PlayEnd RunFault) → MatchResult result (IsOver game input.bytes output.bytes)
           (IsBrokenOff game input.bytes output.bytes)
           → outcome ≡ outcome_of_run result → Ended
-      go (Ok end) (ended, keeps) same = play_over end same ended
+      go (Ok end) (ended, keeps) same = played_to_end end same ended
       go (Err fault) (why, breaks, told) same = play_broken why (same ∙ ap Broken told) breaks
 
 -- the outcome and the transcript for the texts of a board and of a play
@@ -135,9 +136,9 @@ module _ (limit : BoardLimit) (side : Side) (input output : Stream) (lines taken
   Then board = PlayEnds (game_played side board) lines
 
   played : (read : Bytes) (bytes : List ℕ) → read.old ≡ Some bytes → IsPlain outcome
-      → EndsAs outcome_of_run (RanPlay limit side MAX_BOARD_BYTES read input.bytes output.bytes)
-      (PlayFails limit side MAX_BOARD_BYTES (input.IsKept × output.IsKept) read input.bytes output.bytes)
-      outcome → EndsBy output taken (BoardPlayEnds limit side lines bytes) outcome
+      → EndsAs outcome_of_run (RanPlay limit side read (play_over input output))
+      (PlayFails limit side read (play_over input output)) outcome
+      → EndsBy output taken (BoardPlayEnds limit side lines bytes) outcome
   played read bytes board_old plain (result, match, same) = go result match same
     where
       on_board : (board : PlainBoard) → GaveBoard limit MAX_BOARD_BYTES read board
@@ -149,9 +150,7 @@ module _ (limit : BoardLimit) (side : Side) (input output : Stream) (lines taken
           (play_known (game_played side board) input output lines taken old had outcome plain run)
 
       go : (result : Result PlayEnd RunFault) → MatchResult result
-          (RanPlay limit side MAX_BOARD_BYTES read input.bytes output.bytes)
-          (PlayFails limit side MAX_BOARD_BYTES
-          (input.IsKept × output.IsKept) read input.bytes output.bytes)
+          (RanPlay limit side read (play_over input output)) (PlayFails limit side read (play_over input output))
           → outcome ≡ outcome_of_run result → EndsBy output taken (BoardPlayEnds limit side lines bytes) outcome
       go (Ok end) (board, gave, over) same = on_board board gave (Ok end, over, same)
       go (Err fault) (inl (none, stays)) same =
@@ -160,7 +159,7 @@ module _ (limit : BoardLimit) (side : Side) (input output : Stream) (lines taken
       go (Err fault) (inr (board, gave, breaks)) same = on_board board gave (Err fault, breaks, same)
 
   pub board_play_ends : (file : File) → file ≢ Unknown → (outcome ≡ Broken Read → CanFail file ⊎ input.HasFailed)
-      → (input.HasFailed → ⊥) → Plays side limit file input output outcome
+      → (input.HasFailed → ⊥) → Plays side limit file (play_over input output) outcome
       → EndsBy output taken (FileEnds (BoardPlayEnds limit side lines) file) outcome
   board_play_ends Unknown known unread sound opens = absurd (known refl)
   board_play_ends Closed known unread sound (inl (can, stays, same)) =

@@ -5,7 +5,7 @@ use Rattle.std.specs.Prelude.{Err, MatchResult, Ok, Result}
 use Rattle.board_text.specs.PlainBoard.{IsBoard, PlainBoard}
 use Rattle.board_text.proofs.Cited.{one_board}
 use Rattle.runs.proofs.Cited.{not_wrong_among, one_wrong_among}
-use Rattle.runs.specs.BoardRun.{FailsOn, GaveBoardAmong, GaveNoneAmong, RanOn}
+use Rattle.runs.specs.BoardRun.{FailsOn, GaveBoardAmong, GaveNoneAmong, RanOn, Readers, readers_by}
 use Rattle.runs.specs.Run.{Bytes, Fails, Ran, Stream}
 use Rattle.runs.specs.Texts.{HasNoneAmong, IsBoardAmong, IsWrongAmong}
 use Rattle.runs.specs.declared.fault.RunFault.{RunFault}
@@ -82,14 +82,14 @@ module _ {Answer : Type 0} (IsSmall : PlainBoard → Type 0) (outcome_of : Resul
       (wrong : (board : PlainBoard) (text : List ℕ) (fault : RunFault) → Cannot board text fault
       → IsRefusedOr (IsWrong board text) fault)
       (output : Stream) (taken : List ℕ) (had : Had output taken) (outcome : Outcome) (fair : IsFair outcome) where
-    abbrev RanBoth : Bytes → Bytes → Answer → Type 0
-    RanBoth b p answer =
-        RanOn IsSmall MAX_BOARD_BYTES b (λ board. Ran (Says board) limit p output.bytes answer)
+    abbrev RanBoth : Readers → Answer → Type 0
+    RanBoth read answer =
+        RanOn IsSmall MAX_BOARD_BYTES read.board (λ board. Ran (Says board) limit read.text output.bytes answer)
 
-    abbrev BothFail : Bytes → Bytes → RunFault → Type 0
-    BothFail b p fault =
-        FailsOn IsSmall MAX_BOARD_BYTES b (p.new ≡ p.old)
-        (λ board. Fails (Says board) (Cannot board) limit p output.bytes) fault
+    abbrev BothFail : Readers → RunFault → Type 0
+    BothFail read fault =
+        FailsOn IsSmall MAX_BOARD_BYTES read.board read.IsTextKept
+        (λ board. Fails (Says board) (Cannot board) limit read.text output.bytes) fault
 
     module _ (whole : WritesWhole output outcome) where
       kept_by : (fault : RunFault) → outcome ≡ Broken fault → fault ≢ Write → output.bytes.new ≡ Some (taken ++ [])
@@ -109,11 +109,12 @@ module _ {Answer : Type 0} (IsSmall : PlainBoard → Type 0) (outcome_of : Resul
             (ends outcome_of (Says board) breaks (Cannot board) (IsWrong board) (wrong board) limit p more_bytes old_too
             output taken had outcome plain whole run)
 
-        both_ended : EndsAs outcome_of (RanBoth b p) (BothFail b p) outcome
+        both_ended : EndsAs outcome_of (RanBoth (readers_by b p)) (BothFail (readers_by b p)) outcome
             → EndsBy output taken (BothEnd board_bytes more_bytes) outcome
         both_ended (result, match, same) = go result match same
           where
-            go : (result : Result Answer RunFault) → MatchResult result (RanBoth b p) (BothFail b p)
+            go : (result : Result Answer RunFault)
+                → MatchResult result (RanBoth (readers_by b p)) (BothFail (readers_by b p))
                 → outcome ≡ outcome_of result → EndsBy output taken (BothEnd board_bytes more_bytes) outcome
             go (Ok answer) (board, gave, ran) same = on_board board gave (Ok answer, ran, same)
             go (Err fault) (inl (none, untouched)) same =
@@ -124,7 +125,7 @@ module _ {Answer : Type 0} (IsSmall : PlainBoard → Type 0) (outcome_of : Resul
 
       both_opened : (first second : File) → first ≢ Unknown → second ≢ Unknown
           → (outcome ≡ Broken Read → CanFail first ⊎ CanFail second)
-          → OpeningBoth first second (λ b p. EndsAs outcome_of (RanBoth b p) (BothFail b p)) outcome
+          → OpeningBoth first second (λ read. EndsAs outcome_of (RanBoth read) (BothFail read)) outcome
           → EndsBy output taken (PairEnds BothEnd first second) outcome
       both_opened Unknown second known known_too unread is = absurd (known refl)
       both_opened Closed second known known_too unread (inl (can, same)) =
@@ -142,7 +143,7 @@ module _ {Answer : Type 0} (IsSmall : PlainBoard → Type 0) (outcome_of : Resul
 
     pub both_ends : (first second : File) → first ≢ Unknown → second ≢ Unknown
         → (outcome ≡ Broken Read → CanFail first ⊎ CanFail second)
-        → OpeningBoth first second (λ b p. EndsAs outcome_of (RanBoth b p) (BothFail b p)) outcome
+        → OpeningBoth first second (λ read. EndsAs outcome_of (RanBoth read) (BothFail read)) outcome
         × WritesWhole output outcome
         → EndsBy output taken (PairEnds BothEnd first second) outcome
     both_ends first second known known_too unread is =

@@ -4,10 +4,9 @@ use Rattle.std.proofs.lemmas.Bool.{cases_lt}
 use Rattle.std.proofs.lemmas.List.{length-map}
 use Rattle.std.specs.Prelude.{Result, Ok, Err, IfErr, OnOk, OnErr}
 use Rattle.std.specs.Borrow.{Bor}
-use Rattle.std.specs.Io.KnownBytes.{Appends}
 use Rattle.clap.specs.Walk.{Text, texts}
 use Rattle.clap.specs.Words.{fault_of, subcommand_of}
-use Rattle.board_text.specs.Streams.{AppendsPrefix}
+use Rattle.board_text.specs.Streams.{AppendsAll, AppendsPrefix}
 use Rattle.command_line.specs.Commands.{program}
 use Rattle.command_line.specs.Reading.{IsReadAs}
 use Rattle.command_line.specs.declared.asked.Job.{Job}
@@ -23,8 +22,7 @@ use Rattle.serving.specs.declared.outcome.Outcome.TheVariants.{Broken, Done}
 
 -- after a write the text is written, or the stream has failed
 pub written : (stream : Stream) (text : List ℕ) (r : Result (Unit {0}) RunFault)
-    → OnOk r (Appends stream.bytes.old stream.bytes.new text)
-    → OnErr r (AppendsPrefix stream.bytes.old stream.bytes.new text) → IfErr r (λ f. f ≡ Write)
+    → OnOk r (AppendsAll stream.bytes text) → OnErr r (AppendsPrefix stream.bytes text) → IfErr r (λ f. f ≡ Write)
     → (stream.HasFailed ↔ (r ≡ Err Write)) → IsWritten stream text
 written stream text (Ok done) appends front told failed =
     inl ((λ has. let bad : Ok done ≡ Err Write = failed.0 has in cc), appends)

@@ -14,14 +14,16 @@ use Rattle.player.specs.Transcript.{PersonClimbs}
 use Rattle.player.specs.declared.end.PlayEnd.{PlayEnd}
 use Rattle.player.proofs.Cited.{nothing_told}
 use Rattle.positions.specs.declared.side.Side.{Side}
+use Rattle.runs.specs.BoardRun.{readers_by}
 use Rattle.runs.specs.CheckRun.{RanCheck}
 use Rattle.console.specs.Watching.{lines_of}
 use Rattle.runs.specs.Notices.{IsNoticed, IsNoticedInRun, IsToldOfChains, notice_of_length}
-use Rattle.runs.specs.PlayRun.{IsToldInRun, game_played}
-use Rattle.runs.specs.Run.{Bytes, Ran, Stream}
+use Rattle.runs.specs.PlayRun.{IsToldInRun, PlayStreams, game_played}
+use Rattle.runs.specs.Run.{Bytes, Ran}
 use Rattle.runs.specs.Verdicts.{IsAnswered}
 use Rattle.runs.specs.declared.checking.TheConstants.{MAX_JOINED_BYTES, MAX_PROOF_BYTES}
 use Rattle.runs.specs.declared.fault.RunFault.{RunFault}
+use Rattle.runs.specs.declared.playing.Playing.{Playing}
 use Rattle.runs.specs.declared.reading.TheConstants.{MAX_BOARD_BYTES}
 use Rattle.runs.specs.declared.verdicts.Verdict.{Verdict}
 use Rattle.runs.specs.declared.verdicts.Verdict.TheVariants.{Accepted, Refused, RefusedByClasses}
@@ -29,7 +31,7 @@ use Rattle.runs.specs.declared.verdicts.Verdict.TheVariants.{RefusedUpToSymmetri
 use Rattle.serving.specs.Folders.{File}
 use Rattle.runs.specs.declared.summaries.Summary.TheVariants as summaries
 use Rattle.serving.specs.Telling.{AnswerOf, IsToldAfterCheck, IsToldInJob, IsToldOfValues, OpensAndTells, rows_line}
-use Rattle.serving.specs.Telling.{rows_told, types_and_sees}
+use Rattle.serving.specs.Telling.{playing_at, rows_told, types_and_sees}
 use Rattle.serving.specs.declared.value_texts.ValueText.{ValueText}
 use Rattle.serving.specs.declared.value_texts.ValueText.TheVariants as texts
 use Rattle.serving.proofs.Greetings.{ungreeted}
@@ -48,17 +50,19 @@ untold_of IsGiven IsMissing false off result told (inl (board, given, rounds, in
 untold_of IsGiven IsMissing false off result told (inl (board, given, rounds, inr none, is)) = is ∙ none
 untold_of IsGiven IsMissing false off result told (inr (fault, broke, missing, none)) = none
 
-unprompted : (limit : BoardLimit) (side : Side) (most_bytes : ℕ) (Untouched : Type 0) (board lines written : Bytes)
+-- how a play is run where nobody sees it
+abbrev unseen_play : Side → BoardLimit → Playing
+unseen_play side limit = record { side = side; limit = limit; shows_size = false; prompts = false }
+
+unprompted : (limit : BoardLimit) (side : Side) (board : Bytes) (play : PlayStreams)
     (result : Result PlayEnd RunFault) (told : List ℕ)
-    → IsToldInRun limit side most_bytes Untouched board lines written false false result told → told ≡ []
-unprompted limit side most_bytes Untouched board lines written result told (inl none) = none.4
-unprompted limit side most_bytes Untouched board lines written result told
-    (inr (b, gave, later, is, inl (refused, kept, none))) =
-    is ∙ none
-unprompted limit side most_bytes Untouched board lines written result told
-    (inr (b, gave, later, is, inr (rounds, prompts, both, none, played, same, are))) =
+    → IsToldInRun (unseen_play side limit) board play result told → told ≡ []
+unprompted limit side board play result told (inl none) = none.4
+unprompted limit side board play result told (inr (b, gave, later, is, inl (refused, kept, none))) = is ∙ none
+unprompted limit side board play result told
+    (inr (b, gave, later, is, inr (rounds, prompts, both, none, (played, same, are)))) =
     is ∙ both ∙ ap (λ r. r ++ prompts) none
-    ∙ nothing_told (game_played side b) prompts lines.old lines.new written.old written.new played are
+    ∙ nothing_told (game_played side b) prompts play.lines play.written played are
 
 -- nor of lengths of many chains
 no_lines : (shows : Bool) → shows ≡ false → (step : ℕ) (counts : List ℕ)
@@ -92,10 +96,13 @@ unopened : {Answer : Type 0} (file : File) (Tells : Bytes → Result Answer RunF
 unopened file Tells outcome told none (inl (fails, is)) = is
 unopened file Tells outcome told none (inr (read, opens, (result, same, tells))) = none read result tells
 
-module _ (at : List ℕ → File) (terminals : Terminals) (off : terminals.errors ≡ false) (input output : Stream)
+module _ (at : List ℕ → File) (terminals : Terminals) (off : terminals.errors ≡ false) (play : PlayStreams)
     (outcome : Outcome) where
   unseen_here : types_and_sees terminals ≡ false
   unseen_here = unseen terminals.input terminals.errors off
+
+  unseen_as : (side : Side) (limit : BoardLimit) → playing_at terminals side limit ≡ unseen_play side limit
+  unseen_as side limit = rw (unseen_here, off) refl
 
   -- of the size of a board
   size_untold : (text : ValueText) (limit : BoardLimit) (symmetries : Option (Bor Text)) (board : Bor Text)
@@ -105,13 +112,14 @@ module _ (at : List ℕ → File) (terminals : Terminals) (off : terminals.error
       told (λ read result tells. untold_of _ _ terminals.errors off result told tells) is
   size_untold text limit (Some symmetries) board told is = is
 
-  pub nothing_in_job : (job : Job) (told : List ℕ) → IsToldInJob at terminals input output outcome job told → told ≡ []
+  pub nothing_in_job : (job : Job) (told : List ℕ) → IsToldInJob at terminals play outcome job told → told ≡ []
   nothing_in_job Joined told (rows, after, is) =
       is ∙ ap (λ greeting. greeting ++ rows) (ungreeted terminals unseen_here)
-      ∙ uncounted terminals.errors off (Ran IsAnswered MAX_JOINED_BYTES input.bytes output.bytes) outcome rows after
+      ∙ uncounted terminals.errors off (Ran IsAnswered MAX_JOINED_BYTES play.lines play.written) outcome rows after
   nothing_in_job (Check board proof) told (inl (fails, is)) = is
   nothing_in_job (Check board proof) told (inr (b, p, opens, opens_too, after)) =
-      uncounted terminals.errors off (RanCheck MAX_BOARD_BYTES MAX_PROOF_BYTES b p output.bytes) outcome told after
+      uncounted terminals.errors off (RanCheck MAX_BOARD_BYTES MAX_PROOF_BYTES (readers_by b p) play.written) outcome
+      told after
   nothing_in_job (Nested levels pebbles) told is = is
   nothing_in_job (Solve workers side limit symmetries board) told is =
       size_untold (texts.Document side) limit symmetries board told is
@@ -124,24 +132,16 @@ module _ (at : List ℕ → File) (terminals : Terminals) (off : terminals.error
       (λ read result tells. no_lengths most read terminals.errors off result told tells) is
   nothing_in_job (Play side limit None board) told is =
       unopened {Answer = PlayEnd} (at board.now)
-      (λ read. IsToldInRun limit side MAX_BOARD_BYTES (input.IsKept × output.IsKept) read input.bytes output.bytes
-      terminals.errors (types_and_sees terminals)) outcome told
-      (λ read result tells. unprompted limit side MAX_BOARD_BYTES (input.IsKept × output.IsKept) read input.bytes
-      output.bytes result told
-      (subst (λ prompts. IsToldInRun limit side MAX_BOARD_BYTES (input.IsKept × output.IsKept) read input.bytes
-      output.bytes false prompts result told) unseen_here
-      (subst (λ sees. IsToldInRun limit side MAX_BOARD_BYTES (input.IsKept × output.IsKept) read input.bytes
-      output.bytes sees (types_and_sees terminals) result told) off tells))) is
+      (λ read. IsToldInRun (playing_at terminals side limit) read play) outcome told
+      (λ read result tells. unprompted limit side read play result told
+      (subst (λ p. IsToldInRun p read play result told) (unseen_as side limit) tells)) is
   nothing_in_job (Play side limit (Some symmetries) board) told (inl (fails, is)) = is
   nothing_in_job (Play side limit (Some symmetries) board) told
       (inr (b, s, opens, opens_too, (result, same, inl (fault, broke, none, stays, is)))) = is
   nothing_in_job (Play side limit (Some symmetries) board) told
-      (inr (b, s, opens, opens_too, (result, same, inr (given, domain, played, run, are)))) =
-      nothing_told (game_played side given) told input.bytes.old input.bytes.new output.bytes.old output.bytes.new
-      played
-      (subst (λ shows. ArePrompts shows (game_played side given) input.bytes.old input.bytes.new output.bytes.old
-      output.bytes.new played told) unseen_here are)
+      (inr (b, s, opens, opens_too, (result, same, inr (given, domain, (played, run, are))))) =
+      nothing_told (game_played side given) told play.lines play.written played
+      (subst (λ shows. ArePrompts shows (game_played side given) play.lines play.written played told) unseen_here are)
   nothing_in_job (Climb levels) told (played, same, are) =
-      nothing_told (PersonClimbs levels) told input.bytes.old input.bytes.new output.bytes.old output.bytes.new played
-      (subst (λ shows. ArePrompts shows (PersonClimbs levels) input.bytes.old input.bytes.new output.bytes.old
-      output.bytes.new played told) unseen_here are)
+      nothing_told (PersonClimbs levels) told play.lines play.written played
+      (subst (λ shows. ArePrompts shows (PersonClimbs levels) play.lines play.written played told) unseen_here are)

@@ -12,7 +12,9 @@ use Rattle.runs.specs.CheckRun.{RanCheck, CheckFails}
 use Rattle.serving.specs.Folders.{File, OpensWith, CanFail}
 use Rattle.runs.specs.NestedText.{IsNestedText}
 use Rattle.serving.specs.Outcomes.{EndsAs, outcome_of_check, outcome_of_run}
-use Rattle.runs.specs.PlayRun.{IsBrokenOff, IsOver, PlayFails, PlayFailsUpTo, RanPlay, RanPlayUpTo}
+use Rattle.runs.specs.BoardRun.{Readers, readers_by}
+use Rattle.runs.specs.PlayRun.{IsBrokenOff, IsOver, PlayFails, PlayFailsUpTo, PlayStreams, RanPlay}
+use Rattle.runs.specs.PlayRun.{RanPlayUpTo}
 use Rattle.runs.specs.ChainText.{CannotCountChains, SaysChains}
 use Rattle.runs.specs.Report.{Reports}
 use Rattle.runs.specs.StartText.{SaysStarts}
@@ -41,11 +43,11 @@ Opening file IsUntouched Then outcome =
     ⊎ ((read : Bytes) × OpensWith file read.old × Then read outcome)
 
 -- both files were opened and this was done with them; or one can't be opened
-abbrev pub OpeningBoth : File → File → (Bytes → Bytes → Outcome → Type 0) → Outcome → Type 0
+abbrev pub OpeningBoth : File → File → (Readers → Outcome → Type 0) → Outcome → Type 0
 OpeningBoth first second Then outcome =
     ((CanFail first ⊎ CanFail second) × (outcome ≡ Broken Read))
     ⊎ ((one two : Bytes) × OpensWith first one.old × OpensWith second two.old
-    × Then one two outcome)
+    × Then (readers_by one two) outcome)
 
 -- the file at a path can fail, or that at another if there is one
 abbrev pub CanFailAt : (List ℕ → File) → Bor Text → Option (Bor Text) → Type 0
@@ -81,11 +83,10 @@ WritesFor Says SaysNothing read output outcome =
 
 -- the same for the texts of a board and of symmetries
 abbrev pub WritesUpTo : {Answer : Type 0} → (PlainBoard → List ℕ → Answer → List ℕ → Type 0)
-    → (PlainBoard → List ℕ → RunFault → Type 0) → BoardLimit → Bytes → Bytes → Stream → Outcome
-    → Type 0
-WritesUpTo Says SaysNothing limit b s output outcome =
-    EndsAs outcome_of_run (RanUpTo Says limit b s output.bytes)
-    (FailsUpTo Says SaysNothing limit (s.new ≡ s.old) b s output.bytes) outcome
+    → (PlainBoard → List ℕ → RunFault → Type 0) → BoardLimit → Readers → Stream → Outcome → Type 0
+WritesUpTo Says SaysNothing limit read output outcome =
+    EndsAs outcome_of_run (RanUpTo Says limit read output.bytes)
+    (FailsUpTo Says SaysNothing limit read output.bytes) outcome
 
 -- for the text of a board this text of its values was written, by this number of workers
 abbrev pub WritesValuesFor : ValueText → ℕ → BoardLimit → Bytes → Stream → Outcome → Type 0
@@ -97,7 +98,7 @@ WritesValuesFor (texts.Summary summaries.Starts) workers limit =
     WritesFor (SaysStarts limit) (CannotSolve limit workers)
 
 -- the same for the texts of a board and of symmetries, up to which its values are found
-abbrev pub WritesValuesUpTo : ValueText → BoardLimit → Bytes → Bytes → Stream → Outcome → Type 0
+abbrev pub WritesValuesUpTo : ValueText → BoardLimit → Readers → Stream → Outcome → Type 0
 WritesValuesUpTo (texts.Document side) = WritesUpTo (IsSolutionUpTo side) (CannotSolveUpTo side)
 WritesValuesUpTo (texts.Summary summary) = WritesUpTo (SaysUpTo summary) HasNoFewOrbits
 
@@ -107,11 +108,10 @@ WritesAlone Writes board output outcome =
     Opening board output.IsKept (λ read. Writes read output) outcome × WritesWhole output outcome
 
 -- both files were opened, and this was written for them; or one can't be opened
-abbrev pub WritesBoth : (Bytes → Bytes → Stream → Outcome → Type 0) → File → File → Stream
-    → Outcome → Type 0
+abbrev pub WritesBoth : (Readers → Stream → Outcome → Type 0) → File → File → Stream → Outcome
+    → Type 0
 WritesBoth Writes first second output outcome =
-    OpeningBoth first second (λ one two. Writes one two output) outcome
-    × WritesWhole output outcome
+    OpeningBoth first second (λ read. Writes read output) outcome × WritesWhole output outcome
 
 -- this text of the values of the board at a path was written, up to the symmetries at another if
 -- there is one
@@ -123,32 +123,36 @@ WritesValues at text workers limit (Some symmetries) board =
     WritesBoth (WritesValuesUpTo text limit) (at board.now) (at symmetries.now)
 
 -- the document was checked for the board
-abbrev pub ChecksFor : Bytes → Bytes → Stream → Outcome → Type 0
-ChecksFor b p output outcome =
-    EndsAs outcome_of_check (RanCheck MAX_BOARD_BYTES MAX_PROOF_BYTES b p output.bytes)
-    (CheckFails MAX_BOARD_BYTES MAX_PROOF_BYTES (p.new ≡ p.old) b p output.bytes) outcome
+abbrev pub ChecksFor : Readers → Stream → Outcome → Type 0
+ChecksFor read output outcome =
+    EndsAs outcome_of_check (RanCheck MAX_BOARD_BYTES MAX_PROOF_BYTES read output.bytes)
+    (CheckFails MAX_BOARD_BYTES MAX_PROOF_BYTES read output.bytes) outcome
 
 -- the chains of the board were counted, of up to this many labels
 abbrev pub CountsChains : ℕ → File → Stream → Outcome → Type 0
 CountsChains most = WritesAlone (WritesFor (SaysChains most) (CannotCountChains most))
 
+-- a play with lines from the input, whose text is written to the output
+abbrev pub play_over : Stream → Stream → PlayStreams
+play_over input output = record {
+  lines = input.bytes;
+  written = output.bytes;
+  AreKept = input.IsKept × output.IsKept;
+}
+
 -- a play on the board, with a person who is this side
-abbrev pub Plays : Side → BoardLimit → File → Stream → Stream → Outcome → Type 0
-Plays side limit board input output outcome =
-    Opening board (input.IsKept × output.IsKept) (λ read. EndsAs outcome_of_run
-    (RanPlay limit side MAX_BOARD_BYTES read input.bytes output.bytes)
-    (PlayFails limit side MAX_BOARD_BYTES (input.IsKept × output.IsKept)
-    read input.bytes output.bytes)) outcome
+abbrev pub Plays : Side → BoardLimit → File → PlayStreams → Outcome → Type 0
+Plays side limit board play outcome = Opening board play.AreKept
+    (λ read. EndsAs outcome_of_run (RanPlay limit side read play) (PlayFails limit side read play))
+    outcome
 
 -- the same with values up to symmetries in another file
-abbrev pub PlaysUpTo : Side → BoardLimit → File → File → Stream → Stream → Outcome → Type 0
-PlaysUpTo side limit board symmetries input output outcome =
-    ((CanFail board ⊎ CanFail symmetries) × (input.IsKept × output.IsKept)
-    × (outcome ≡ Broken Read))
+abbrev pub PlaysUpTo : Side → BoardLimit → File → File → PlayStreams → Outcome → Type 0
+PlaysUpTo side limit board symmetries play outcome =
+    ((CanFail board ⊎ CanFail symmetries) × play.AreKept × (outcome ≡ Broken Read))
     ⊎ ((b s : Bytes) × OpensWith board b.old × OpensWith symmetries s.old
-    × EndsAs outcome_of_run (RanPlayUpTo limit side b s input.bytes output.bytes)
-    (PlayFailsUpTo limit side (s.new ≡ s.old) (input.IsKept × output.IsKept) b s input.bytes
-    output.bytes) outcome)
+    × EndsAs outcome_of_run (RanPlayUpTo limit side (readers_by b s) play)
+    (PlayFailsUpTo limit side (readers_by b s) play) outcome)
 
 -- a play on the nested board of the level
 abbrev pub Climbs : ℕ → Stream → Stream → Outcome → Type 0
@@ -185,9 +189,9 @@ module _ (at : List ℕ → File) (input output : Stream) where
   DoesJob (Chains workers most board) outcome =
       CountsChains most (at board.now) output outcome × input.IsKept
   DoesJob (Play side limit None board) outcome =
-      Plays side limit (at board.now) input output outcome
+      Plays side limit (at board.now) (play_over input output) outcome
   DoesJob (Play side limit (Some symmetries) board) outcome =
-      PlaysUpTo side limit (at board.now) (at symmetries.now) input output outcome
+      PlaysUpTo side limit (at board.now) (at symmetries.now) (play_over input output) outcome
   DoesJob (Climb levels) outcome = Climbs levels input output outcome
 
   -- an input of the job has failed, or can fail: standard input, or a file whose bytes aren't known

@@ -14,7 +14,8 @@ use Rattle.command_line.specs.declared.asked.JobFault.TheVariants.{Help, Usage, 
 use Rattle.console.specs.Showing.{HasNoControl, IsTaken}
 use Rattle.serving.specs.FaultLines.{line_of_fault}
 use Rattle.serving.specs.Folders.{File}
-use Rattle.serving.specs.Jobs.{IsDone}
+use Rattle.serving.specs.Consoles.{Serving}
+use Rattle.serving.specs.Jobs.{IsDone, play_over}
 use Rattle.runs.specs.Run.{Stream}
 use Rattle.serving.specs.Outcomes.{status_of}
 use Rattle.serving.specs.Telling.{IsToldInJob}
@@ -34,7 +35,7 @@ WordsAskFor words job =
 
 -- the text was written, and nothing else; or a prefix of it, and then the stream failed
 abbrev pub IsWritten : Stream → List ℕ → Type 0
-IsWritten stream text = IsTaken stream.bytes.old stream.bytes.new stream.HasFailed text
+IsWritten stream text = IsTaken stream.bytes stream.HasFailed text
 
 -- each fault is explained: at a terminal, or since the words ask for it
 abbrev pub is_explained : Terminals → List Text → Bool
@@ -72,29 +73,28 @@ lacks_input terminals job = terminals.input_closed && is_typed job
 abbrev pub IsSaid : Stream → List ℕ → Type 0
 IsSaid stream text = IsWritten stream text × (text ≡ [] → stream.IsKept)
 
-module _ (at : List ℕ → File) (terminals : Terminals) (explains : Bool)
-    (input output errors : Stream) (status : ℕ) where
+module _ (explains : Bool) (s : Serving) where
   -- after these lines standard error has the outcome's text, and the exit status is the outcome's
   abbrev pub EndsWith : List ℕ → Outcome → Type 0
   EndsWith told outcome =
       ((said : List ℕ) × IsEnding explains outcome said
-      × IsSaid errors (told ++ said)) × (status ≡ status_of outcome)
+      × IsSaid s.errors (told ++ said)) × (s.status ≡ status_of outcome)
 
   -- a text was written on standard output
   abbrev pub IsHelped : List ℕ → Type 0
-  IsHelped text = IsWritten output text × input.IsKept
-      × (((output.HasFailed → ⊥) × EndsWith [] Done)
-      ⊎ (output.HasFailed × EndsWith [] (Broken Write)))
+  IsHelped text = IsWritten s.output text × s.input.IsKept
+      × (((s.output.HasFailed → ⊥) × EndsWith [] Done)
+      ⊎ (s.output.HasFailed × EndsWith [] (Broken Write)))
 
   -- a text was written on standard error, for wrong use
   abbrev pub IsRefusedWith : List ℕ → Type 0
   IsRefusedWith text =
-      ((said : List ℕ) × IsExplained explains text said × IsWritten errors said)
-      × input.IsKept × output.IsKept × (status ≡ 2)
+      ((said : List ℕ) × IsExplained explains text said × IsWritten s.errors said)
+      × s.input.IsKept × s.output.IsKept × (s.status ≡ 2)
 
   -- memory to read the words in was refused
   abbrev pub HasNoMemory : Type 0
-  HasNoMemory = input.IsKept × output.IsKept × EndsWith [] (Broken Memory)
+  HasNoMemory = s.input.IsKept × s.output.IsKept × EndsWith [] (Broken Memory)
 
   -- words that ask for no job are answered, by help or the version or as wrong use
   abbrev pub AnswersWords : JobFault → Type 0
@@ -102,32 +102,31 @@ module _ (at : List ℕ → File) (terminals : Terminals) (explains : Bool)
   AnswersWords (Usage text) = IsRefusedWith (string_bytes text)
   AnswersWords NoMemory = HasNoMemory
 
+module _ (at : List ℕ → File) (terminals : Terminals) (explains : Bool) (s : Serving) where
   -- the job is done or broken off, and a person was told what belongs to it; or it lacks its input,
   -- and that alone is told
   abbrev pub ServesJob : Job → Type 0
   ServesJob job =
       ((lacks_input terminals job ≡ false) × (outcome : Outcome) × (told : List ℕ)
-      × IsDone at input output job outcome
-      × IsToldInJob at terminals input output outcome job told × EndsWith told outcome)
-      ⊎ ((lacks_input terminals job ≡ true) × input.IsKept × output.IsKept
-      × EndsWith [] (Broken Read))
+      × IsDone at s.input s.output job outcome
+      × IsToldInJob at terminals (play_over s.input s.output) outcome job told
+      × EndsWith explains s told outcome)
+      ⊎ ((lacks_input terminals job ≡ true) × s.input.IsKept × s.output.IsKept
+      × EndsWith explains s [] (Broken Read))
 
   -- the words ask for a job, which is served; or for none, and that is answered
   abbrev pub ServesWords : List Text → Type 0
   ServesWords words =
       ((job : Job) × WordsAskFor words job × ServesJob job)
       ⊎ ((fault : JobFault) × (1 < length words) × ShowsWords words fault
-      × (takes program words ≡ true → fault ≡ NoMemory) × AnswersWords fault)
+      × (takes program words ≡ true → fault ≡ NoMemory) × AnswersWords explains s fault)
 
-module _ (at : List ℕ → File) (terminals : Terminals) (input output errors : Stream)
-    (status : ℕ) where
+module _ (at : List ℕ → File) (terminals : Terminals) (s : Serving) where
   -- the same, if the words are there and are text
   abbrev pub ServesAnyWords : Words → Type 0
   ServesAnyWords (Given words) =
-      ServesWords at terminals (is_explained terminals (texts words.now)) input output errors status
+      ServesWords at terminals (is_explained terminals (texts words.now)) s
       (words_of_job (texts words.now))
-  ServesAnyWords NotText =
-      IsRefusedWith at terminals terminals.errors input output errors status
+  ServesAnyWords NotText = IsRefusedWith terminals.errors s
       (with_line_feed (codes "error: a word on the command line is not text"))
-  ServesAnyWords OutOfMemory =
-      HasNoMemory at terminals terminals.errors input output errors status
+  ServesAnyWords OutOfMemory = HasNoMemory terminals.errors s

@@ -5,6 +5,7 @@ use Rattle.clap.specs.Words.{fault_of}
 use Rattle.command_line.specs.Commands.{program}
 use Rattle.command_line.specs.Explaining.{asks_to_explain, words_of_job}
 use Rattle.command_line.specs.Reading.{AsksForVersion}
+use Rattle.serving.specs.Consoles.{Serving}
 use Rattle.serving.specs.Folders.{File, Unknown}
 use Rattle.runs.specs.Run.{Stream}
 use Rattle.serving.specs.Serving.{ServesAnyWords}
@@ -43,11 +44,11 @@ pub record BytesBefore : Type 0 where
 -- the words were served over files and streams that are known, off a terminal, and neither memory
 -- nor a worker was refused
 pub record IsServed (at : List ℕ → File) (terminals : Terminals) (before : BytesBefore)
-    (words : Words) (input output errors : Stream) (status : ℕ) : Type 0 where
+    (words : Words) (s : Serving) : Type 0 where
   pub files : AreKnown at
   pub off : terminals.errors ≡ false
-  pub had_input : IsKnown input before.input
-  pub had_output : IsKnown output before.output
-  pub had_errors : IsKnown errors before.errors
-  pub serves : ServesAnyWords at terminals input output errors status words
-  pub given : status ≢ 4
+  pub had_input : IsKnown s.input before.input
+  pub had_output : IsKnown s.output before.output
+  pub had_errors : IsKnown s.errors before.errors
+  pub serves : ServesAnyWords at terminals s words
+  pub given : s.status ≢ 4

@@ -16,13 +16,16 @@ use Rattle.player.specs.Transcript.{PersonClimbs}
 use Rattle.player.specs.declared.end.PlayEnd.{PlayEnd}
 use Rattle.player.specs.declared.end.PlayFault.{PlayFault}
 use Rattle.positions.specs.declared.value.Value.{Value}
+use Rattle.positions.specs.declared.side.Side.{Side}
+use Rattle.runs.specs.BoardRun.{Readers, readers_by}
 use Rattle.runs.specs.CheckRun.{RanCheck}
 use Rattle.runs.specs.Notices.{IsNoticedInRun, IsToldOfChains}
-use Rattle.runs.specs.PlayRun.{IsToldInRun, IsToldUpTo, run_of_play}
-use Rattle.runs.specs.Run.{Bytes, Ran, Stream}
+use Rattle.runs.specs.PlayRun.{IsToldInRun, IsToldUpTo, PlayStreams, run_of_play}
+use Rattle.runs.specs.Run.{Bytes, Ran}
 use Rattle.runs.specs.Verdicts.{IsAnswered}
 use Rattle.runs.specs.declared.checking.TheConstants.{MAX_JOINED_BYTES, MAX_PROOF_BYTES}
 use Rattle.runs.specs.declared.fault.RunFault.{RunFault}
+use Rattle.runs.specs.declared.playing.Playing.{Playing}
 use Rattle.runs.specs.declared.reading.TheConstants.{MAX_BOARD_BYTES}
 use Rattle.runs.specs.declared.summaries.Summary.TheVariants as summaries
 use Rattle.runs.specs.declared.verdicts.Verdict.{Verdict}
@@ -65,7 +68,8 @@ abbrev pub IsToldOfFiles : Bool → File → File → Bytes → Outcome → List
 IsToldOfFiles shows board proof written outcome told =
     ((CanFail board ⊎ CanFail proof) × (told ≡ []))
     ⊎ ((b p : Bytes) × OpensWith board b.old × OpensWith proof p.old
-    × IsToldAfterCheck shows (RanCheck MAX_BOARD_BYTES MAX_PROOF_BYTES b p written) outcome told)
+    × IsToldAfterCheck shows (RanCheck MAX_BOARD_BYTES MAX_PROOF_BYTES (readers_by b p) written)
+    outcome told)
 
 -- the same of a joined check, after the greeting
 abbrev pub IsToldOfJoined : Terminals → Bytes → Bytes → Outcome → List ℕ → Type 0
@@ -90,11 +94,11 @@ OpensAndTells {Answer} file Tells outcome told =
 
 -- the same of two files
 abbrev pub OpensBothAndTells : {Answer : Type 0} → File → File
-    → (Bytes → Bytes → Result Answer RunFault → List ℕ → Type 0) → Outcome → List ℕ → Type 0
+    → (Readers → Result Answer RunFault → List ℕ → Type 0) → Outcome → List ℕ → Type 0
 OpensBothAndTells {Answer} first second Tells outcome told =
     ((CanFail first ⊎ CanFail second) × (told ≡ []))
     ⊎ ((one two : Bytes) × OpensWith first one.old × OpensWith second two.old
-    × TellsOfRun {Answer = Answer} (Tells one two) outcome told)
+    × TellsOfRun {Answer = Answer} (Tells (readers_by one two)) outcome told)
 
 -- the answer of a run that writes the text: of a document the value of the start
 abbrev pub AnswerOf : ValueText → Type 0
@@ -109,21 +113,30 @@ IsToldOfValues at shows text limit None board =
     OpensAndTells {Answer = AnswerOf text} (at board.now) (λ read. IsNoticedInRun limit read shows)
 IsToldOfValues at shows text limit (Some symmetries) board = λ outcome told. told ≡ []
 
+-- how a play is run, by what of the streams is a terminal
+abbrev pub playing_at : Terminals → Side → BoardLimit → Playing
+playing_at terminals side limit = record {
+  side = side;
+  limit = limit;
+  shows_size = terminals.errors;
+  prompts = types_and_sees terminals;
+}
+
 -- the prompts of a play on the nested board of the level, and its outcome
 abbrev pub IsToldInClimb : Bool → ℕ → Bytes → Bytes → Outcome → List ℕ → Type 0
 IsToldInClimb shows levels lines written outcome told = (played : Result PlayEnd PlayFault)
     × (outcome ≡ outcome_of_run (run_of_play played))
-    × ArePrompts shows (PersonClimbs levels) lines.old lines.new written.old written.new played told
+    × ArePrompts shows (PersonClimbs levels) lines written played told
 
-module _ (at : List ℕ → File) (terminals : Terminals) (input output : Stream)
+module _ (at : List ℕ → File) (terminals : Terminals) (play : PlayStreams)
     (outcome : Outcome) where
   -- the greeting of a joined check and the prompts of a play, if a person types and sees it; the
   -- notice of a large board and its rounds, the lengths of many chains, and the number of rows that
   -- were checked, if a person sees it; each in its place, and else nothing
   abbrev pub IsToldInJob : Job → List ℕ → Type 0
-  IsToldInJob Joined told = IsToldOfJoined terminals input.bytes output.bytes outcome told
+  IsToldInJob Joined told = IsToldOfJoined terminals play.lines play.written outcome told
   IsToldInJob (Check board proof) told =
-      IsToldOfFiles terminals.errors (at board.now) (at proof.now) output.bytes outcome told
+      IsToldOfFiles terminals.errors (at board.now) (at proof.now) play.written outcome told
   IsToldInJob (Nested levels pebbles) told = told ≡ []
   IsToldInJob (Solve workers side limit symmetries board) told =
       IsToldOfValues at terminals.errors (texts.Document side) limit symmetries board outcome told
@@ -137,11 +150,9 @@ module _ (at : List ℕ → File) (terminals : Terminals) (input output : Stream
       OpensAndTells {Answer = Unit {0}} (at board.now)
       (λ read. IsToldOfChains most read terminals.errors) outcome told
   IsToldInJob (Play side limit None board) told = OpensAndTells {Answer = PlayEnd} (at board.now)
-      (λ read. IsToldInRun limit side MAX_BOARD_BYTES (input.IsKept × output.IsKept) read
-      input.bytes output.bytes terminals.errors (types_and_sees terminals)) outcome told
+      (λ read. IsToldInRun (playing_at terminals side limit) read play) outcome told
   IsToldInJob (Play side limit (Some symmetries) board) told =
       OpensBothAndTells {Answer = PlayEnd} (at board.now) (at symmetries.now)
-      (λ b s. IsToldUpTo limit side (input.IsKept × output.IsKept) b s input.bytes output.bytes
-      (types_and_sees terminals)) outcome told
+      (λ read. IsToldUpTo (playing_at terminals side limit) read play) outcome told
   IsToldInJob (Climb levels) told =
-      IsToldInClimb (types_and_sees terminals) levels input.bytes output.bytes outcome told
+      IsToldInClimb (types_and_sees terminals) levels play.lines play.written outcome told

@@ -7,6 +7,7 @@ ghost use Rattle.board_text.specs.Ranges.{InRange};
 ghost use Rattle.command_line.specs.Reading.{IsInRange};
 ghost use Rattle.console.specs.Showing.{IsMore};
 ghost use Rattle.runs.specs.Notices.{IsToldOfChains};
+ghost use Rattle.runs.specs.PlayRun.{play_streams};
 ghost use Rattle.runs.specs.Run.{bytes_of, stream_of};
 ghost use Rattle.serving.specs.Consoles.{IsReady};
 ghost use Rattle.serving.specs.Folders.{CanFail};
@@ -28,7 +29,7 @@ use console::{Console, Terminals, write_digits, write_line, write_more};
 use explanations::{Inputs, Note, Origin};
 use nested_cycles::MAX_BOARD_LEVELS;
 use runs::{
-    Chaining, JoinedRun, Playing, RunFault, Summary, Verdict, run_check, run_keeping_text,
+    Chaining, JoinedRun, Playing, RunFault, Summary, Verdict, run_check, run_joined_with_text,
     run_nested,
 };
 use std::alloc::Global;
@@ -58,9 +59,8 @@ pub(crate) fn carry_out<'a, F: Folder, I: Source, O: Sink, E: Sink>(
         (stream_of O.contents O.has_failed console.old.output console.new.output) job.now
         result.outcome }
     ensures told { (told : List ℕ) × IsToldInJob (F.at files.now.folder.now) console.old.terminals
-        (stream_of I.remaining I.has_failed console.old.input console.new.input)
-        (stream_of O.contents O.has_failed console.old.output console.new.output) result.outcome
-        job.now told
+        (play_streams I.remaining console.old.input console.new.input
+        O.contents console.old.output console.new.output) result.outcome job.now told
         × IsMore E.contents E.has_failed console.old.errors console.new.errors told }
 {
     match *job {
@@ -179,7 +179,7 @@ fn check_joined<F: Folder, I: Source, O: Sink, E: Sink>(
         × IsMore E.contents E.has_failed console.old.errors console.new.errors told }
 {
     greet(console.terminals, &mut console.errors);
-    let JoinedRun { result, text } = run_keeping_text(
+    let JoinedRun { result, text } = run_joined_with_text(
         rt,
         alloc,
         &mut console.input,

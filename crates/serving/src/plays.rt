@@ -6,7 +6,7 @@ ghost use Rattle.serving.specs.declared.outcome.Outcome.TheVariants.{Broken};
 ghost use Rattle.board_text.specs.Ranges.{InRange};
 ghost use Rattle.console.specs.Showing.{IsMore};
 ghost use Rattle.player.specs.declared.end.PlayEnd.{PlayEnd as EndData};
-ghost use Rattle.runs.specs.PlayRun.{IsToldInRun, IsToldUpTo};
+ghost use Rattle.runs.specs.PlayRun.{IsToldInRun, IsToldUpTo, play_streams};
 ghost use Rattle.runs.specs.Run.{bytes_of, stream_of};
 ghost use Rattle.serving.specs.Consoles.{IsReady};
 ghost use Rattle.serving.specs.Folders.{CanFail};
@@ -22,7 +22,7 @@ use board_text::{Sink, Source};
 use console::Console;
 use explanations::{Inputs, Origin};
 use nested_cycles::MAX_LEVELS;
-use runs::{MAX_BOARD_BYTES, Playing, run_climb};
+use runs::{Playing, run_climb};
 use std::alloc::Global;
 use std::thread::Threads;
 
@@ -36,8 +36,8 @@ pub(crate) fn play<'a, F: Folder, I: Source, O: Sink, E: Sink>(
 ) -> Ended<'a>
     requires ready { IsReady I.has_failed I.has_ended O.has_failed console.old }
     ensures done { Plays playing.side playing.limit (F.at files.now.folder.now board.now)
-        (stream_of I.remaining I.has_failed console.old.input console.new.input)
-        (stream_of O.contents O.has_failed console.old.output console.new.output) result.outcome }
+        (play_streams I.remaining console.old.input console.new.input
+        O.contents console.old.output console.new.output) result.outcome }
     ensures writes { TellsWrites
         (stream_of O.contents O.has_failed console.old.output console.new.output) result.outcome }
     ensures reads { I.has_failed console.new.input ≡ true → result.outcome ≡ Broken Read }
@@ -46,11 +46,9 @@ pub(crate) fn play<'a, F: Folder, I: Source, O: Sink, E: Sink>(
         ⊎ (I.has_failed console.new.input ≡ true) }
     ensures told { (told : List ℕ) × OpensAndTells {Answer = EndData}
         (F.at files.now.folder.now board.now)
-        (λ read. IsToldInRun playing.limit playing.side MAX_BOARD_BYTES
-        ((console.new.input ≡ console.old.input) × (console.new.output ≡ console.old.output)) read
-        (bytes_of I.remaining console.old.input console.new.input)
-        (bytes_of O.contents console.old.output console.new.output) playing.shows_size
-        playing.prompts) result.outcome told
+        (λ read. IsToldInRun playing read
+        (play_streams I.remaining console.old.input console.new.input
+        O.contents console.old.output console.new.output)) result.outcome told
         × IsMore E.contents E.has_failed console.old.errors console.new.errors told }
 {
     let Ok(mut reader) = files.open(alloc, board) else {
@@ -86,8 +84,8 @@ pub(crate) fn play_up_to<'a, F: Folder, I: Source, O: Sink, E: Sink>(
     requires ready { IsReady I.has_failed I.has_ended O.has_failed console.old }
     ensures done { PlaysUpTo playing.side playing.limit (F.at files.now.folder.now board.now)
         (F.at files.now.folder.now symmetries.now)
-        (stream_of I.remaining I.has_failed console.old.input console.new.input)
-        (stream_of O.contents O.has_failed console.old.output console.new.output) result.outcome }
+        (play_streams I.remaining console.old.input console.new.input
+        O.contents console.old.output console.new.output) result.outcome }
     ensures writes { TellsWrites
         (stream_of O.contents O.has_failed console.old.output console.new.output) result.outcome }
     ensures reads { I.has_failed console.new.input ≡ true → result.outcome ≡ Broken Read }
@@ -97,11 +95,9 @@ pub(crate) fn play_up_to<'a, F: Folder, I: Source, O: Sink, E: Sink>(
         ⊎ (I.has_failed console.new.input ≡ true) }
     ensures told { (told : List ℕ) × OpensBothAndTells {Answer = EndData}
         (F.at files.now.folder.now board.now) (F.at files.now.folder.now symmetries.now)
-        (λ b s. IsToldUpTo playing.limit playing.side
-        ((console.new.input ≡ console.old.input) × (console.new.output ≡ console.old.output)) b s
-        (bytes_of I.remaining console.old.input console.new.input)
-        (bytes_of O.contents console.old.output console.new.output) playing.prompts)
-        result.outcome told
+        (λ read. IsToldUpTo playing read
+        (play_streams I.remaining console.old.input console.new.input
+        O.contents console.old.output console.new.output)) result.outcome told
         × IsMore E.contents E.has_failed console.old.errors console.new.errors told }
 {
     let Ok(mut reader) = files.open(alloc, board) else {

@@ -4,7 +4,7 @@ ghost use Rattle.std.specs.Prelude.{◌≡◌, ℕ, List, false};
 ghost use Rattle.clap.specs.Walk.{texts};
 ghost use Rattle.console.specs.Showing.{IsMore};
 ghost use Rattle.runs.specs.Run.{stream_of};
-ghost use Rattle.serving.specs.Consoles.{IsReady};
+ghost use Rattle.serving.specs.Consoles.{IsReady, serving_of};
 ghost use Rattle.serving.specs.Serving.{IsEnding, IsExplained};
 ghost use Rattle.serving.specs.Serving.{ServesAnyWords, ServesJob, ServesWords};
 ghost use Rattle.serving.specs.Serving.{is_typed, lacks_input};
@@ -72,10 +72,10 @@ pub fn serve<F: Folder, I: Source, O: Sink, E: Sink>(
     requires ready { IsReady I.has_failed I.has_ended O.has_failed console.old }
     requires errors_ready { E.has_failed console.old.errors ≡ false }
     ensures { ServesAnyWords (F.at folder.now) console.old.terminals
-        (stream_of I.remaining I.has_failed console.old.input console.new.input)
+        (serving_of (stream_of I.remaining I.has_failed console.old.input console.new.input)
         (stream_of O.contents O.has_failed console.old.output console.new.output)
-        (stream_of E.contents E.has_failed console.old.errors console.new.errors)
-        result words.now }
+        (stream_of E.contents E.has_failed console.old.errors console.new.errors) result)
+        words.now }
 {
     let at_terminal = console.terminals.errors;
     match *words {
@@ -99,10 +99,10 @@ fn serve_words<F: Folder, I: Source, O: Sink, E: Sink>(
     requires ready { IsReady I.has_failed I.has_ended O.has_failed console.old }
     requires errors_ready { E.has_failed console.old.errors ≡ false }
     ensures { ServesWords (F.at files.now.folder.now) console.old.terminals files.now.explains
-        (stream_of I.remaining I.has_failed console.old.input console.new.input)
+        (serving_of (stream_of I.remaining I.has_failed console.old.input console.new.input)
         (stream_of O.contents O.has_failed console.old.output console.new.output)
-        (stream_of E.contents E.has_failed console.old.errors console.new.errors)
-        result (texts words.now) }
+        (stream_of E.contents E.has_failed console.old.errors console.new.errors) result)
+        (texts words.now) }
 {
     match job(alloc, words) {
         Ok(job) => serve_job(rt, alloc, &job, files, console),
@@ -130,10 +130,10 @@ fn serve_job<F: Folder, I: Source, O: Sink, E: Sink>(
     requires ready { IsReady I.has_failed I.has_ended O.has_failed console.old }
     requires errors_ready { E.has_failed console.old.errors ≡ false }
     ensures { ServesJob (F.at files.now.folder.now) console.old.terminals files.now.explains
-        (stream_of I.remaining I.has_failed console.old.input console.new.input)
+        (serving_of (stream_of I.remaining I.has_failed console.old.input console.new.input)
         (stream_of O.contents O.has_failed console.old.output console.new.output)
-        (stream_of E.contents E.has_failed console.old.errors console.new.errors)
-        result job.now }
+        (stream_of E.contents E.has_failed console.old.errors console.new.errors) result)
+        job.now }
 {
     if lacks_input(console.terminals, job) {
         let closed = Outcome::Broken(RunFault::Read);

@@ -1,6 +1,7 @@
 //! A law of servings, the contract of a function without a body.
 
 ghost use Rattle.std.specs.Prelude.{◌≡◌, ℕ, List};
+ghost use Rattle.serving.specs.Consoles.{serving_of};
 ghost use Rattle.serving.specs.Folders.{File};
 ghost use Rattle.runs.specs.Run.{stream_of};
 ghost use Rattle.serving.specs.Servings.{AskForNoExplanation, BytesBefore, HaveOwnText, IsServed};
@@ -21,13 +22,13 @@ pub fn one_serving<I: Source, O: Sink, E: Sink>()
         → (other_old : ConsoleData I O E) → (other_new : ConsoleData I O E)
         → (status : ℕ) → (other : ℕ)
         → IsServed at terminals before words
-        (stream_of I.remaining I.has_failed old.input new.input)
+        (serving_of (stream_of I.remaining I.has_failed old.input new.input)
         (stream_of O.contents O.has_failed old.output new.output)
-        (stream_of E.contents E.has_failed old.errors new.errors) status
+        (stream_of E.contents E.has_failed old.errors new.errors) status)
         → IsServed at terminals before words
-        (stream_of I.remaining I.has_failed other_old.input other_new.input)
+        (serving_of (stream_of I.remaining I.has_failed other_old.input other_new.input)
         (stream_of O.contents O.has_failed other_old.output other_new.output)
-        (stream_of E.contents E.has_failed other_old.errors other_new.errors) other
+        (stream_of E.contents E.has_failed other_old.errors other_new.errors) other)
         → (status ≡ other) × (HaveOwnText words
         → (O.contents new.output ≡ O.contents other_new.output)
         × (AskForNoExplanation words → E.contents new.errors ≡ E.contents other_new.errors)) }

@@ -5,6 +5,7 @@ ghost use Rattle.runs.specs.declared.fault.RunFault.TheVariants.{Read};
 ghost use Rattle.serving.specs.declared.outcome.Outcome.TheVariants.{Broken};
 ghost use Rattle.board_text.specs.Ranges.{InRange};
 ghost use Rattle.console.specs.Showing.{IsMore};
+ghost use Rattle.runs.specs.BoardRun.{readers_by};
 ghost use Rattle.runs.specs.Notices.{IsNoticedInRun};
 ghost use Rattle.runs.specs.Run.{bytes_of, stream_of};
 ghost use Rattle.serving.specs.Folders.{CanFail};
@@ -94,8 +95,8 @@ impl ValueText {
         requires symmetries_unended { S.has_ended symmetries.old ≡ false }
         requires output_ready { O.has_failed output.old ≡ false }
         ensures done { WritesValuesUpTo self work.limit
-            (bytes_of B.remaining board.old board.new)
-            (bytes_of S.remaining symmetries.old symmetries.new)
+            (readers_by (bytes_of B.remaining board.old board.new)
+            (bytes_of S.remaining symmetries.old symmetries.new))
             (stream_of O.contents O.has_failed output.old output.new) result }
         ensures whole { WritesWhole (stream_of O.contents O.has_failed output.old output.new)
             result }

@@ -195,7 +195,7 @@ impl<S: ListStore> Solver<S> {
         ensures { IsSmallest (IsDominator self.now.game.board
             (configuration_of self.now.game rank)) result }
     {
-        match self.stage.graph().struck(rank) {
+        match self.stage.graph().answered_gap(rank) {
             Some(gap) => Some(self.space().gap_pebble(gap)),
             None => None,
         }

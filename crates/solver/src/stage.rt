@@ -137,7 +137,7 @@ impl<S: ListStore> Stage<S> {
     {
         for index in 0..self.strikes.len() {
             let rank = self.strikes[index];
-            if let Some(gap) = self.graph.struck(rank) {
+            if let Some(gap) = self.graph.answered_gap(rank) {
                 self.strike(rank, gap);
             }
         }

@@ -18,7 +18,7 @@ ghost use Rattle.solver.specs.Words.{AreValueWords};
 
 use crate::sizes::{count_words, zeros};
 use board_text::Board;
-use classes::ClassPlaces;
+use classes::Places;
 use gap_values::{OPEN, ValueTable, value_with};
 use graphs::Graph;
 use positions::{LabelSet, Space, Value};
@@ -163,8 +163,8 @@ impl ValueTable for Values {
 
     fn word_after(&self, _board: &Board, gap: &[u16], label: u16) -> u32 {
         let Values { graph, words, .. } = self;
-        let mut class = ClassPlaces::of(gap);
-        class.put(label);
+        let mut class = Places::arranged(gap);
+        class.arrange(label);
         words[graph.space().rank(class.as_slice()) as usize]
     }
 

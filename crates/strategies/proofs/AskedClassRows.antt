@@ -13,7 +13,7 @@ use Rattle.positions.specs.declared.side.Side.TheVariants.{Adversary, Labeller}
 use Rattle.positions.specs.declared.value.Value.{Value}
 use Rattle.positions.specs.declared.value.Value.TheVariants.{Finite, Forever}
 use Rattle.positions.proofs.Cited.{same_value}
-use Rattle.proof_text.specs.Arranged.{order_number}
+use Rattle.proof_text.specs.Arranged.{document_number}
 use Rattle.proof_text.specs.ClassProof.{class_answer_rows, class_request_rows}
 use Rattle.proof_text.specs.Positions.{normal_positions}
 use Rattle.proof_text.specs.Proof.{PlainProof, asks_adversary, asks_labeller}
@@ -43,11 +43,11 @@ labeller_none (Some Labeller) Forever document none = absurd (true≢false none)
 labeller_none (Some Adversary) value document none = refl
 
 module _ (board : PlainBoard) (normal : List ℕ → List ℕ) (document : PlainProof)
-    (is : IsDocumentOver (normal_positions normal) (order_number board.labels) board document) where
+    (is : IsDocumentOver (normal_positions normal) (document_number board.labels) board document) where
   adversary_none : (side : Option DocumentSide) (value : Value) → is.value ≡ value → HasStrategy side value
       → asks_adversary (claim_for side (claim_of value)) ≡ false → (document_for side document).adversary ≡ []
   adversary_none None value same strategy none =
-      no_adversary (normal_positions normal) (order_number board.labels) board document is
+      no_adversary (normal_positions normal) (document_number board.labels) board document is
       (ap asks_adversary (is.claim ∙ ap claim_of same) ∙ none)
   adversary_none (Some Labeller) value same strategy none = refl
   adversary_none (Some Adversary) (Finite number) same strategy none = absurd (true≢false none)
@@ -70,7 +70,8 @@ filled_if {R} board side P false rows filled are k d inside =
 
 -- a strategy on the start's value is one on that of its document
 pub strategy_is : (board : PlainBoard) (normal : List ℕ → List ℕ) (side : Option DocumentSide) (value : Value)
-    (document : PlainProof) (is : IsDocumentOver (normal_positions normal) (order_number board.labels) board document)
+    (document : PlainProof) (is : IsDocumentOver (normal_positions normal) (document_number board.labels) board
+    document)
     → HasValue board board.start value → HasStrategy side value → HasStrategy side is.value
 strategy_is board normal side value document is has strategy =
     subst (HasStrategy side) (same_value board board.start value is.value has is.has_value) strategy
@@ -82,7 +83,7 @@ module _ (board : PlainBoard) (normal : List ℕ → List ℕ) (form : IsNormalF
   document = (document_exists_over board (normal_positions normal) (are_normal board normal form) (by_order board)
       (are_orders board) is_start).0
 
-  abbrev is : IsDocumentOver (normal_positions normal) (order_number board.labels) board document
+  abbrev is : IsDocumentOver (normal_positions normal) (document_number board.labels) board document
   is = (document_exists_over board (normal_positions normal) (are_normal board normal form) (by_order board)
       (are_orders board) is_start).1
 
@@ -105,16 +106,16 @@ module _ (board : PlainBoard) (normal : List ℕ → List ℕ) (form : IsNormalF
       claim_is side document ∙ ap (claim_for side) (is.claim ∙ ap claim_of same) in
       let labellers : class_answer_rows board labeller ≡ (document_for side document).labeller =
       rows_if board (class_labeller_side board normal value) _ (asks_labeller claim) labeller _ answers
-      (λ asked are. same_rows (order_number board.labels) (IsLabellerRowOver (normal_positions normal) board value)
+      (λ asked are. same_rows (document_number board.labels) (IsLabellerRowOver (normal_positions normal) board value)
       (λ (row : AnswerRow). row.at) (class_answer_rows board labeller) document.labeller are.exactly
-      (subst (λ (v : Value). AreExactlyOver (order_number board.labels)
+      (subst (λ (v : Value). AreExactlyOver (document_number board.labels)
       (IsLabellerRowOver (normal_positions normal) board v) (λ (row : AnswerRow). row.at) document.labeller) same
       is.labeller)
       ∙ sym (labeller_is side value document strategy asked))
       (labeller_none side value document) in
       let adversarys : class_request_rows board adversary ≡ (document_for side document).adversary =
       rows_if board (class_adversary_side board normal value) _ (asks_adversary claim) adversary _ requests
-      (λ asked are. same_rows (order_number board.labels) (IsAdversaryRowOver (normal_positions normal) board)
+      (λ asked are. same_rows (document_number board.labels) (IsAdversaryRowOver (normal_positions normal) board)
       (λ (row : RequestRow). row.at)
       (class_request_rows board adversary) document.adversary are.exactly (all_asked asked)
       ∙ sym (adversary_is side value document strategy asked))
@@ -127,7 +128,7 @@ module _ (board : PlainBoard) (normal : List ℕ → List ℕ) (form : IsNormalF
       (document, is, made)
     where
       all_asked : asks_adversary claim ≡ true
-          → AreExactlyOver (order_number board.labels) (IsAdversaryRowOver (normal_positions normal) board)
+          → AreExactlyOver (document_number board.labels) (IsAdversaryRowOver (normal_positions normal) board)
           (λ (row : RequestRow). row.at) document.adversary
       all_asked asked = record {
         each = λ row. (

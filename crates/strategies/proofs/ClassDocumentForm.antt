@@ -11,7 +11,7 @@ use Rattle.positions.specs.Value.{HasValue}
 use Rattle.positions.specs.Claim.{claim_of}
 use Rattle.positions.specs.Table.{AnswerRow, RequestRow}
 use Rattle.positions.proofs.Cited.{moved_is_configuration}
-use Rattle.proof_text.specs.declared.proof.TheConstants.{MOST_TURNS}
+use Rattle.proof_text.specs.declared.proof.TheConstants.{MAX_TURNS}
 use Rattle.proof_text.specs.Proof.{PlainProof, IsClaim}
 use Rattle.strategies.specs.DocumentMoves.{IsRequestMove, LeadsOver}
 use Rattle.strategies.specs.Inside.Numbering.{by_order}
@@ -19,7 +19,7 @@ use Rattle.strategies.specs.PositionDocument.{AsksAdversary, IsAdversaryRowOver,
 use Rattle.strategies.proofs.ValueOrder.{at_least, less_than_finite}
 use Rattle.classes.specs.Numbers.{class_count, ways}
 use Rattle.classes.proofs.Cited.{ways-within}
-use Rattle.proof_text.specs.Arranged.{arranged, order_number}
+use Rattle.proof_text.specs.Arranged.{arranged, document_number}
 use Rattle.proof_text.specs.Positions.{Positions, normal_positions}
 use Rattle.proof_text.specs.ClassProof.{IsClassRequestRow}
 use Rattle.proof_text.specs.Documents.{IsClassProof}
@@ -70,20 +70,20 @@ gaps_few board is = elim (cases_lt 0 board.pebbles) [
 
 -- the claim of a finite value is in range, since the value is less than the number of gaps
 claim_fits : (board : PlainBoard) (value : Value) → IsConfiguration board board.start
-    → ways (board.pebbles - 1) (places board) ≤ MOST_TURNS → HasValue board board.start value
+    → ways (board.pebbles - 1) (places board) ≤ MAX_TURNS → HasValue board board.start value
     → IsClaim (claim_of value)
 claim_fits board (Finite number) is few has = omega (arith, few_values board board.start number is has, few)
 claim_fits board Forever is few has = tt
 
 pub few_gaps_claim : (positions : Positions) (board : PlainBoard) (proof : PlainProof)
-    → IsConfiguration board board.start → IsDocumentOver positions (order_number board.labels) board proof
-    → ways (board.pebbles - 1) (places board) ≤ MOST_TURNS → IsClaim proof.claim
+    → IsConfiguration board board.start → IsDocumentOver positions (document_number board.labels) board proof
+    → ways (board.pebbles - 1) (places board) ≤ MAX_TURNS → IsClaim proof.claim
 few_gaps_claim positions board proof start is few =
     subst IsClaim (sym is.claim) (claim_fits board is.value start few is.has_value)
 
 module _ (board : PlainBoard) (normal : List ℕ → List ℕ) (form : IsNormalForm board normal) (proof : PlainProof)
     (is_start : IsConfiguration board board.start)
-    (is : IsDocumentOver (normal_positions normal) (order_number board.labels) board proof) where
+    (is : IsDocumentOver (normal_positions normal) (document_number board.labels) board proof) where
   abbrev start : List ℕ
   start = normal board.start
 
@@ -94,13 +94,13 @@ module _ (board : PlainBoard) (normal : List ℕ → List ℕ) (form : IsNormalF
   are = are_normal board normal form
 
   has_start : HasValue board start is.value
-  has_start = start_value board positions are (order_number board.labels)
+  has_start = start_value board positions are (document_number board.labels)
       proof is_start is
 
   answers_placed : All (λ (row : AnswerRow). IsArrangedAt board row.at) proof.labeller
   answers_placed k d low =
-      let is_row = row_at positions (order_number board.labels) board proof is k d low in record {
-        is = answered_is board positions are (order_number board.labels)
+      let is_row = row_at positions (document_number board.labels) board proof is k d low in record {
+        is = answered_is board positions are (document_number board.labels)
             proof
             is_start is is_row.moves (get_or proof.labeller k d).at is_row.reached;
         arranged_is = labellers_normal board positions are (by_order board)
@@ -109,8 +109,8 @@ module _ (board : PlainBoard) (normal : List ℕ → List ℕ) (form : IsNormalF
 
   requests_placed : All (λ (row : RequestRow). IsArrangedAt board row.at) proof.adversary
   requests_placed k d low =
-      let is_row = (asked_at positions (order_number board.labels) board proof is k d low).1 in record {
-        is = requested_is board positions are (order_number board.labels)
+      let is_row = (asked_at positions (document_number board.labels) board proof is k d low).1 in record {
+        is = requested_is board positions are (document_number board.labels)
             proof
             is_start is is_row.moves (get_or proof.adversary k d).at
             is_row.reached;
@@ -139,10 +139,10 @@ module _ (board : PlainBoard) (normal : List ℕ → List ℕ) (form : IsNormalF
     small = subst IsClaim is.claim fits
 
     left_few : (value : Value) → IsClaim (claim_of value) → HasValue board start value → AsksAdversary value
-        → (row : RequestRow) → IsAdversaryRowOver positions board row → row.left ≤ MOST_TURNS
+        → (row : RequestRow) → IsAdversaryRowOver positions board row → row.left ≤ MAX_TURNS
     left_few (Finite number) most has asks row is_row =
         let below : row.left ≤ number = no_more board normal form start is_row.moves row.at number row.left
-        (start_is board positions are (order_number board.labels) proof
+        (start_is board positions are (document_number board.labels) proof
         is_start is) has is_row.reached is_row.has_value in
         omega (arith, most, below)
     left_few Forever most has asks row is_row = absurd asks
@@ -150,7 +150,7 @@ module _ (board : PlainBoard) (normal : List ℕ → List ℕ) (form : IsNormalF
     request_form : (row : RequestRow) → AsksAdversary is.value → IsAdversaryRowOver positions board row
         → IsClassRequestRow board row
     request_form row asks is_row = record {
-      at = requested_is board positions are (order_number board.labels) proof
+      at = requested_is board positions are (document_number board.labels) proof
           is_start is is_row.moves row.at is_row.reached;
       left = left_few is.value small has_start asks row is_row;
       request = asked_is row is_row.asks;
@@ -160,8 +160,8 @@ module _ (board : PlainBoard) (normal : List ℕ → List ℕ) (form : IsNormalF
         → AreRows (answers_by_classes board proof.claim) proof.labeller
     labeller_form few = record {
       few = few;
-      each = λ k d low. answer_form board positions are (order_number board.labels) proof is_start is small
-          (get_or proof.labeller k d) (row_at positions (order_number board.labels) board proof is k d low);
+      each = λ k d low. answer_form board positions are (document_number board.labels) proof is_start is small
+          (get_or proof.labeller k d) (row_at positions (document_number board.labels) board proof is k d low);
       in_order = λ k d low. (answers_placed k d low).arranged_is;
       ascending = is.labeller.ascending;
     }
@@ -171,7 +171,7 @@ module _ (board : PlainBoard) (normal : List ℕ → List ℕ) (form : IsNormalF
     adversary_form few = record {
       few = few;
       each = λ k d low.
-          let asked = asked_at positions (order_number board.labels) board proof is k d low in request_form (get_or
+          let asked = asked_at positions (document_number board.labels) board proof is k d low in request_form (get_or
           proof.adversary k d) asked.0 asked.1;
       in_order = λ k d low. (requests_placed k d low).arranged_is;
       ascending = is.adversary.ascending;
@@ -182,8 +182,8 @@ module _ (board : PlainBoard) (normal : List ℕ → List ℕ) (form : IsNormalF
     claim = fits.claim;
     labeller = labeller_form fits.claim fits.labeller;
     adversary = adversary_form fits.claim fits.adversary;
-    no_labeller = no_labeller positions (order_number board.labels) board proof is;
-    no_adversary = no_adversary positions (order_number board.labels) board proof is;
+    no_labeller = no_labeller positions (document_number board.labels) board proof is;
+    no_adversary = no_adversary positions (document_number board.labels) board proof is;
   }
 
 -- ---- by classes

@@ -5,7 +5,7 @@ use Rattle.std.proofs.lemmas.List.{length-map}
 use Rattle.board_text.specs.PlainBoard.{PlainBoard, IsConfiguration}
 use Rattle.positions.specs.Ranks.{digits_of}
 use Rattle.positions.proofs.Digits.{digits_of-number_of, number_below}
-use Rattle.proof_text.specs.Arranged.{order_of, order_number}
+use Rattle.proof_text.specs.Arranged.{order_of, document_number}
 use Rattle.proof_text.proofs.Cited.{order-none, order-label, orders-below}
 use Rattle.proof_text.proofs.Cited.{places-few}
 use Rattle.strategies.specs.Inside.Numbering.{place_of, class_numbered, IsClassNumber}
@@ -23,12 +23,12 @@ places_of-orders labels (place ∷ at) =
 
 -- a configuration has the places of its number
 pub class_numbered-order : (board : PlainBoard) (at : List ℕ) → IsConfiguration board at
-    → class_numbered board (order_number board.labels at) ≡ at
+    → class_numbered board (document_number board.labels at) ≡ at
 class_numbered-order board at is =
     let labels : ℕ = board.labels in
     let orders : List ℕ = map (order_of labels) at in
     let long : length orders ≡ board.pebbles = length-map at (order_of labels) ∙ is.each_pebble in
-    ap (λ n. map (place_of labels) (digits_of (labels + 1) n (order_number labels at))) (sym long)
+    ap (λ n. map (place_of labels) (digits_of (labels + 1) n (document_number labels at))) (sym long)
     ∙ ap (map (place_of labels))
     (digits_of-number_of (labels + 1) orders (orders-below labels at (places-few board at is)))
     ∙ places_of-orders labels at
@@ -38,11 +38,11 @@ abbrev pub last_number : PlainBoard → ℕ
 last_number board = (board.labels + 1) ^ board.pebbles
 
 pub numbers-end : (board : PlainBoard) (at : List ℕ) → IsConfiguration board at
-    → order_number board.labels at < last_number board
+    → document_number board.labels at < last_number board
 numbers-end board at is =
     let orders : List ℕ = map (order_of board.labels) at in
     let long : length orders ≡ board.pebbles = length-map at (order_of board.labels) ∙ is.each_pebble in
-    subst (λ n. order_number board.labels at < (board.labels + 1) ^ n) long
+    subst (λ n. document_number board.labels at < (board.labels + 1) ^ n) long
     (number_below (board.labels + 1) orders (orders-below board.labels at (places-few board at is)))
 
 pub number-ends : (board : PlainBoard) (number : ℕ) → IsClassNumber board number → number < last_number board
@@ -51,10 +51,10 @@ number-ends board number is =
 
 -- the number of a configuration is that of its places
 pub number-of : (board : PlainBoard) (at : List ℕ) → IsConfiguration board at
-    → IsClassNumber board (order_number board.labels at)
+    → IsClassNumber board (document_number board.labels at)
 number-of board at is =
-    let same : class_numbered board (order_number board.labels at) ≡ at = class_numbered-order board at is in
+    let same : class_numbered board (document_number board.labels at) ≡ at = class_numbered-order board at is in
     record {
       is = subst (IsConfiguration board) (sym same) is;
-      number_is = ap (order_number board.labels) same;
+      number_is = ap (document_number board.labels) same;
     }

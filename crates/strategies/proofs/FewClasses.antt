@@ -9,9 +9,9 @@ use Rattle.std.proofs.lemmas.List.Folds.{Any-from_list_any}
 use Rattle.std.proofs.lemmas.Map.Steps.{length-le_from_distinct_below}
 use Rattle.board_text.specs.PlainBoard.{PlainBoard, IsConfiguration, places}
 use Rattle.classes.specs.Classes.{class_of, IsClass}
-use Rattle.classes.specs.Numbers.{class_number, class_count}
+use Rattle.classes.specs.Numbers.{number_by_greatest, class_count}
 use Rattle.classes.proofs.Cited.{is-below, length-class_of, falls-class_of}
-use Rattle.proof_text.specs.Arranged.{arranged, order_number, IsClassBefore}
+use Rattle.proof_text.specs.Arranged.{arranged, document_number, IsClassBefore}
 use Rattle.proof_text.proofs.Cited.{one-arranged}
 use Rattle.strategies.proofs.LikePebbles.{same-number}
 
@@ -36,10 +36,10 @@ class_is board at is =
     record { size = length-class_of at ∙ is.each_pebble; falls = falls-class_of (places board) at is.each_place }
 
 number : List ℕ → ℕ
-number at = class_number (class_of at)
+number at = number_by_greatest (class_of at)
 
 same-class : (board : PlainBoard) (one other : List ℕ) → IsArrangedAt board one → IsArrangedAt board other
-    → class_number (class_of one) ≡ class_number (class_of other) → one ≡ other
+    → number_by_greatest (class_of one) ≡ number_by_greatest (class_of other) → one ≡ other
 same-class board one other is too same =
     one-arranged board.labels one other is.arranged_is too.arranged_is
     (same-number (places board) board.pebbles (class_of one) (class_of other) (class_is board one is.is)
@@ -51,14 +51,15 @@ pub rows-few : {X : Type 0} (board : PlainBoard) (at : X → List ℕ) (rows : L
     → AllPairs (λ first second. IsClassBefore board.labels (at first) (at second)) rows
     → length rows ≤ class_count board
 rows-few {X} board at rows placed ascending =
-    let f : X → ℕ = λ x. class_number (class_of (at x)) in
+    let f : X → ℕ = λ x. number_by_greatest (class_of (at x)) in
     let long : length (map f rows) ≡ length rows = length-map rows f in
     let apart : AllPairs (λ a b. f a ≢ f b) rows = λ i j d less low same.
-    let before : order_number board.labels (at (get_or rows i d)) < order_number board.labels (at (get_or rows j d)) =
+    let before : document_number board.labels (at (get_or rows i d)) < document_number board.labels
+    (at (get_or rows j d)) =
     ascending i j d less low in
     let one = same-class board (at (get_or rows i d)) (at (get_or rows j d)) (placed i d (omega (arith, less, low)))
     (placed j d low) same in
-    omega (arith, before, ap (order_number board.labels) one) in
+    omega (arith, before, ap (document_number board.labels) one) in
     let most = length-le_from_distinct_below (map f rows) (class_count board) (distinct f rows apart)
     (λ q among.
     let found = Any-from_list_any (eqb q) (map f rows) among in
@@ -68,10 +69,11 @@ rows-few {X} board at rows placed ascending =
     omega (arith, long, most)
   where
     by : (rows : List X) → All (λ x. IsArrangedAt board (at x)) rows → (k n : ℕ) → k < length rows
-        → get_or (map (λ x. class_number (class_of (at x))) rows) k n ≡ n → (q : ℕ) → q ≡ n → q < class_count board
+        → get_or (map (λ x. number_by_greatest (class_of (at x))) rows) k n ≡ n → (q : ℕ) → q ≡ n
+        → q < class_count board
     by [] placed k n low is q same = absurd (omega (arith, low))
     by (x ∷ rows) placed k n low is q same =
-        let here = get_or-map (λ y. class_number (class_of (at y))) (x ∷ rows) k x n low in
+        let here = get_or-map (λ y. number_by_greatest (class_of (at y))) (x ∷ rows) k x n low in
         let row : X = get_or (x ∷ rows) k x in
         let below = is-below (places board) board.pebbles (class_of (at row)) (class_is board (at row)
         (placed k x low).is) in

@@ -16,7 +16,7 @@ use Rattle.positions.specs.Value.{HasValue}
 use Rattle.positions.proofs.Cited.{smaller_occurs, not_both_trees, lasts_at_most}
 use Rattle.classes.specs.Classes.{IsClass}
 use Rattle.classes.specs.ClassGaps.{gap_at}
-use Rattle.classes.specs.Numbers.{class_number, ways}
+use Rattle.classes.specs.Numbers.{number_by_greatest, ways}
 use Rattle.classes.proofs.Cited.{is-below, AreLike, labeller-like, legal-answers, class_of-own, length-class_of}
 use Rattle.classes.proofs.Cited.{falls-class_of, all-class_of, of-all-class_of, of-all-put}
 use Rattle.strategies.proofs.AddedRanks.{few_apart}
@@ -125,14 +125,14 @@ record IsGapAskedAt (board : PlainBoard) (value number : ℕ) : Type 0 where
   configuration : List ℕ
   pebble : ℕ
   asked : IsAskedAt board value configuration pebble
-  number_is : class_number (gap_at configuration pebble) ≡ number
+  number_is : number_by_greatest (gap_at configuration pebble) ≡ number
 
 module _ (board : PlainBoard) where
   -- each value has such a gap
   asked_gap : (value : ℕ) → Occurs board value → (number : ℕ) × IsGapAskedAt board value number
   asked_gap value (configuration, is, has) =
       let request = has.1 in (
-        class_number (gap_at configuration request.0),
+        number_by_greatest (gap_at configuration request.0),
         record {
           configuration = configuration;
           pebble = request.0;

@@ -15,7 +15,7 @@ use Rattle.positions.specs.Table.{AnswerRow, RequestRow}
 use Rattle.positions.proofs.Cited.{moved_is_configuration, some_value, same_value}
 use Rattle.proof_text.specs.Proof.{PlainProof}
 use Rattle.proof_text.specs.Rules.{IsEnough, one_less, IsListedFor, Serves, IsListedBelow, wanted_of, StartIsBelow}
-use Rattle.proof_text.specs.Arranged.{arranged, order_number}
+use Rattle.proof_text.specs.Arranged.{arranged, document_number}
 use Rattle.proof_text.specs.Positions.{Positions, class_positions, configuration_positions}
 use Rattle.proof_text.specs.Rules.{MeetsRequests, MeetsAnswers, BreaksNoRule}
 use Rattle.strategies.specs.Best.{IsLess}
@@ -191,4 +191,4 @@ breaks_no_rule board = breaks_no_rule_over board configuration_positions (are_pl
 pub breaks_no_class_rule : (board : PlainBoard) (proof : PlainProof) → IsConfiguration board board.start
     → IsClassDocumentOf board proof → BreaksNoRule (class_positions board.labels) board proof
 breaks_no_class_rule board = breaks_no_rule_over board (class_positions board.labels)
-    (are_normal board (arranged board.labels) (arranged_form board)) (order_number board.labels)
+    (are_normal board (arranged board.labels) (arranged_form board)) (document_number board.labels)

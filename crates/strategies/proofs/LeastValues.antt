@@ -13,6 +13,7 @@ use Rattle.positions.specs.Value.{HasValue}
 use Rattle.positions.proofs.Cited.{forever_from_count, lasts_at_most, moved_is_configuration, same_value, some_tree}
 use Rattle.gap_values.specs.declared.value_table.Best.{Best}
 use Rattle.strategies.specs.Best.{IsLess, HasNoGreaterValue, IsBestFor}
+use Rattle.strategies.specs.Inside.Answers.{IsLesser}
 use Rattle.strategies.specs.Inside.RankMoves.{IsCountable, IsSmallValue, answered_with, one_more}
 use Rattle.strategies.proofs.ValueOrder.{IsLess-irrefl, IsLess-trans, at_least}
 
@@ -70,6 +71,28 @@ module _ (board : PlainBoard) (held : List ℕ) where
       | inr some ↦ inr (some.0, (let low : some.0 < pebble = some.1 in omega arith), some.2)
     ];
   }
+
+  -- the same of the lesser of the values to which best answers lead
+  pub least-lesser : (pebble : ℕ) (least : Value) (best : Best) (lesser : Value)
+      → IsLeastBelow board held pebble (one_more least) → IsBestFor board held pebble (Some best)
+      → IsLesser least best.value lesser → IsLeastBelow board held (pebble + 1) (one_more lesser)
+  least-lesser pebble least best lesser was is which = elim which [
+    | inl less ↦ subst (λ v. IsLeastBelow board held (pebble + 1) (one_more v)) (sym less.0)
+        (least-less pebble (one_more least) (Some best) was is (more-less best.value least less.1))
+    | inr not ↦ subst (λ v. IsLeastBelow board held (pebble + 1) (one_more v)) (sym not.0)
+        (least-kept pebble (one_more least) (Some best) was is (λ less. not.1 (less-more best.value least less)))
+  ]
+    where
+      more-less : (one other : Value) → IsLess one other → IsLess (one_more one) (one_more other)
+      more-less (Finite one) (Finite other) less = omega (arith, less)
+      more-less (Finite one) Forever less = tt
+      more-less Forever other less = absurd less
+
+      less-more : (one other : Value) → IsLess (one_more one) (one_more other) → IsLess one other
+      less-more (Finite one) (Finite other) less = omega (arith, less)
+      less-more (Finite one) Forever less = tt
+      less-more Forever (Finite other) less = absurd less
+      less-more Forever Forever less = absurd less
 
   -- a best answer that leaves a value of more than a number leaves a tree of that depth
   answers_left : (value : Value) (depth pebble : ℕ) → IsLeft board held value pebble

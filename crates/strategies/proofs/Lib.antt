@@ -14,7 +14,7 @@ pub mod OneList
 pub mod SmallBoard
 pub mod RowLists
 pub mod BitSearch
-pub mod FoundAnswers
+pub mod FoundLabels
 pub mod ShownClaims
 pub mod LonePebble
 pub mod BitMarks
@@ -25,9 +25,9 @@ pub mod GapAnswers
 pub mod LoweringRequests
 pub mod SpreadMoves
 pub mod StartRanks
-pub mod Walks
 pub mod GatheredRows
 pub mod RowsAt
+pub mod AskedRequests
 pub mod AskedRows
 pub mod MadeRows
 pub mod SomeDocument
@@ -62,7 +62,6 @@ pub mod Spread
 pub mod AlikeRequests
 pub mod ClassGaps
 mod KeptAnswers
-mod OthersFirst
 pub mod RankGaps
 pub mod Expanded
 pub mod AddedAnswers

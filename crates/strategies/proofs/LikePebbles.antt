@@ -14,7 +14,7 @@ use Rattle.positions.specs.Table.{RequestRow}
 use Rattle.positions.proofs.Configurations.{moved_is_configuration}
 use Rattle.strategies.specs.Best.{LowersValue, IsBestRequest}
 use Rattle.classes.specs.Classes.{class_of, put, IsClass}
-use Rattle.classes.specs.Numbers.{class_number, class_with}
+use Rattle.classes.specs.Numbers.{number_by_greatest, class_with}
 use Rattle.positions.specs.Gaps.{AnswersGap}
 use Rattle.classes.specs.ClassGaps.{gap_at}
 use Rattle.classes.proofs.Cited.{class_of-own, class_of-set, put-cancel, legal-answers, value-of-class, with-number}
@@ -39,7 +39,7 @@ arranged-value board configuration is value has =
 
 -- a number is that of one class
 pub same-number : (bound pebbles : ℕ) (one other : List ℕ) → IsClass bound pebbles one → IsClass bound pebbles other
-    → class_number one ≡ class_number other → one ≡ other
+    → number_by_greatest one ≡ number_by_greatest other → one ≡ other
 same-number bound pebbles one other is too same =
     sym (with-number bound pebbles one is) ∙ ap (class_with bound pebbles) same ∙ with-number bound pebbles other too
 

@@ -25,7 +25,7 @@ use Rattle.positions.specs.Game.{moved}
 use Rattle.positions.specs.Table.{AnswerRow, RequestRow}
 use Rattle.positions.specs.Value.{HasValue}
 use Rattle.positions.proofs.Cited.{moved_is_configuration, same_value}
-use Rattle.proof_text.specs.Arranged.{arranged, order_number}
+use Rattle.proof_text.specs.Arranged.{arranged, document_number}
 use Rattle.proof_text.specs.Positions.{normal_positions}
 use Rattle.proof_text.specs.Proof.{PlainProof, asks_adversary, asks_labeller}
 use Rattle.proof_text.specs.ProofText.{answer_line, class_request_line, turns_text}
@@ -169,7 +169,7 @@ module _ (board : PlainBoard) (normal : List ℕ → List ℕ) (form : IsNormalF
 
   -- the claim of the document is that of the start's value
   claim_of_start : (side : Option Side) (start : Value) (proof : PlainProof)
-      → IsDocumentOver (normal_positions normal) (order_number board.labels) board proof
+      → IsDocumentOver (normal_positions normal) (document_number board.labels) board proof
       → HasValue board board.start start → (document_for side proof).claim ≡ claim_for side (claim_of start)
   claim_of_start side start proof is has = claim_is side proof ∙ ap (claim_for side)
       (is.claim ∙ ap claim_of (same_value board board.start is.value start is.has_value has))
@@ -184,8 +184,8 @@ module _ (board : PlainBoard) (normal : List ℕ → List ℕ) (form : IsNormalF
       let made = document_exists_over board (normal_positions normal) (are_normal board normal form) (by_order board)
       (are_orders board) is_board.start in
       let proof : PlainProof = made.0 in
-      let is : IsDocumentOver (normal_positions normal) (order_number board.labels) board proof = made.1 in
-      let number_of : AnswerRow → ℕ = λ row. order_number board.labels row.at in
+      let is : IsDocumentOver (normal_positions normal) (document_number board.labels) board proof = made.1 in
+      let number_of : AnswerRow → ℕ = λ row. document_number board.labels row.at in
       let listed : (number : ℕ) → Contains numbers number → Contains (map number_of proof.labeller) number =
       λ number among.
       let found : IsClassNumber board number
@@ -196,7 +196,7 @@ module _ (board : PlainBoard) (normal : List ℕ → List ℕ) (form : IsNormalF
       (class_numbered board number)
       found.0.is
       found.1.reached found.1.holds.has_value found.1.holds.some in
-      subst (Contains (map number_of proof.labeller)) (ap (order_number board.labels) row.2 ∙ found.0.number_is)
+      subst (Contains (map number_of proof.labeller)) (ap (document_number board.labels) row.2 ∙ found.0.number_is)
       (contains_map number_of proof.labeller row.0 ((is.labeller.each row.0).1 row.1)) in
       let some : most + 1 ≤ length proof.labeller =
       omega (
@@ -243,13 +243,13 @@ module _ (board : PlainBoard) (normal : List ℕ → List ℕ) (form : IsNormalF
       let made = document_exists_over board (normal_positions normal) (are_normal board normal form) (by_order board)
       (are_orders board) is_board.start in
       let proof : PlainProof = made.0 in
-      let is : IsDocumentOver (normal_positions normal) (order_number board.labels) board proof = made.1 in
+      let is : IsDocumentOver (normal_positions normal) (document_number board.labels) board proof = made.1 in
       let same : Finite number ≡ is.value = same_value board board.start (Finite number) is.value has is.has_value in
       let asks : AsksAdversary is.value = subst AsksAdversary same tt in
       let start_is : IsConfiguration board from = form.is board.start is_board.start in
       let start_has : HasValue board from (Finite number) =
       form.same_value board.start is_board.start (Finite number) has in
-      let number_of : RequestRow → ℕ = λ row. order_number board.labels row.at in
+      let number_of : RequestRow → ℕ = λ row. document_number board.labels row.at in
       let listed : (n : ℕ) → Contains numbers n → Contains (map number_of proof.adversary) n =
       λ n among.
       let found : IsClassNumber board n
@@ -260,7 +260,7 @@ module _ (board : PlainBoard) (normal : List ℕ → List ℕ) (form : IsNormalF
       let row = request_row_for board (normal_positions normal) (are_normal board normal form) left.0 found.1.moves
       (class_numbered board n) found.0.is found.1.reached
       left.1 in
-      subst (Contains (map number_of proof.adversary)) (ap (order_number board.labels) row.2 ∙ found.0.number_is)
+      subst (Contains (map number_of proof.adversary)) (ap (document_number board.labels) row.2 ∙ found.0.number_is)
       (contains_map number_of proof.adversary row.0 ((is.adversary.each row.0).1 (asks, row.1))) in
       let some : most + 1 ≤ length proof.adversary =
       omega (

@@ -11,7 +11,7 @@ use Rattle.board_text.specs.PlaceForms.{spaced_places}
 use Rattle.board_text.specs.PlainBoard.{PlainBoard}
 use Rattle.positions.specs.Table.{AnswerRow, RequestRow}
 use Rattle.proof_text.specs.Proof.{PlainProof, IsClaim, asks_labeller, asks_adversary}
-use Rattle.proof_text.specs.Arranged.{order_number}
+use Rattle.proof_text.specs.Arranged.{document_number}
 use Rattle.proof_text.specs.Positions.{Positions, class_positions}
 use Rattle.proof_text.specs.ProofText.{answer_line, class_request_line, class_sections_text, class_text}
 use Rattle.proof_text.specs.ProofText.{class_version_line, first_two_lines, maps_text, section_text, symmetry_text}
@@ -88,16 +88,16 @@ module _ (board : PlainBoard) (proof : PlainProof) where
   )
 
 module _ (positions : Positions) (board : PlainBoard) (proof : PlainProof)
-    (is : IsDocumentOver positions (order_number board.labels) board proof) where
+    (is : IsDocumentOver positions (document_number board.labels) board proof) where
   pub labeller_long : 8 * length proof.labeller ≤ length (class_sections_text board proof)
   labeller_long = omega (
     arith,
-    labeller_section board proof (labeller_asked positions (order_number board.labels) board proof is),
+    labeller_section board proof (labeller_asked positions (document_number board.labels) board proof is),
     long_lines (answer_line board) (answers_long board) proof.labeller,
   )
 
   pub adversary_long : 8 * length proof.adversary ≤ length (class_sections_text board proof)
-  adversary_long = elim (adversary_asked positions (order_number board.labels) board proof is) [
+  adversary_long = elim (adversary_asked positions (document_number board.labels) board proof is) [
     | inl asked ↦ omega (
       arith,
       adversary_section board proof asked,

@@ -11,9 +11,13 @@ use Rattle.positions.proofs.Cited.{some_value, same_value}
 use Rattle.gap_values.specs.declared.value_table.Best.{Best}
 use Rattle.strategies.specs.Best.{IsLess, HasSmallerValue, HasNoGreaterValue, LowersValue, IsBestFor}
 use Rattle.strategies.specs.Best.{IsBestRequestIfAny}
-use Rattle.strategies.specs.Inside.MovesAt.{LeadsBelow}
 use Rattle.strategies.proofs.ValueOrder.{cases_value, IsLess-trans}
 use Rattle.strategies.proofs.BestRequests.{first_is_smallest, best_request, not_lowered}
+
+-- the best answer leads to a smaller value than this one, or there is none
+abbrev pub LeadsBelow : Option Best → Value → Type 0
+LeadsBelow (Some best) value = IsLess best.value value
+LeadsBelow None value = Unit {0}
 
 module _ (board : PlainBoard) (configuration : List ℕ) (pebble : ℕ) (value : Value)
     (has : HasValue board configuration value) where

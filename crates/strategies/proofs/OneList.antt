@@ -15,7 +15,7 @@ use Rattle.positions.proofs.Cited.{same_value}
 use Rattle.proof_text.specs.Proof.{PlainProof}
 use Rattle.strategies.specs.Best.{IsBestAnswer, IsBestRequest}
 use Rattle.positions.specs.Claim.{claim_of}
-use Rattle.proof_text.specs.Arranged.{order_number}
+use Rattle.proof_text.specs.Arranged.{document_number}
 use Rattle.proof_text.specs.Positions.{Positions, class_positions, configuration_positions}
 use Rattle.strategies.specs.ClassDocument.{IsClassDocumentOf}
 use Rattle.strategies.specs.Document.{IsDocumentOf}
@@ -116,7 +116,7 @@ one_document board = one_document_over configuration_positions (rank_of board) b
 
 pub one_class_document : (board : PlainBoard) (first second : PlainProof) → IsClassDocumentOf board first
     → IsClassDocumentOf board second → first ≡ second
-one_class_document board = one_document_over (class_positions board.labels) (order_number board.labels) board
+one_class_document board = one_document_over (class_positions board.labels) (document_number board.labels) board
 
 -- ---- one row at the same places
 

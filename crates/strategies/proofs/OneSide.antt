@@ -17,7 +17,7 @@ use Rattle.positions.specs.declared.value.Value.TheVariants.{Finite}
 use Rattle.positions.specs.declared.value.Value.TheVariants as values
 use Rattle.proof_check.specs.SymmetryFaults.{BreaksNoRuleUpTo, HasLeastRows}
 use Rattle.proof_text.specs.Documents.{AreMaps, IsClassProof, IsProof, IsSymmetryProof}
-use Rattle.proof_text.specs.Arranged.{arranged, order_number}
+use Rattle.proof_text.specs.Arranged.{arranged, document_number}
 use Rattle.proof_text.specs.Positions.{Positions, normal_positions}
 use Rattle.proof_text.specs.Proof.{AreTurns, IsAnswerRow, IsClaim, PlainProof, asks_adversary, asks_labeller}
 use Rattle.proof_text.specs.RowForm.{AreRows, RowForm}
@@ -191,7 +191,7 @@ no_formed form = record {
 
 module _ (board : PlainBoard) (normal : List ℕ → List ℕ) (form : IsNormalForm board normal) (proof : PlainProof)
     (start : IsConfiguration board board.start)
-    (is : IsDocumentOver (normal_positions normal) (order_number board.labels) board proof) where
+    (is : IsDocumentOver (normal_positions normal) (document_number board.labels) board proof) where
   pub labeller_has_form : FitsFormat (document_for (Some Labeller) proof)
       → IsClassProof board (document_for (Some Labeller) proof)
   labeller_has_form fits =
@@ -206,7 +206,7 @@ module _ (board : PlainBoard) (normal : List ℕ → List ℕ) (form : IsNormalF
         };
         adversary = no_formed (requests_by_classes board (part_of Labeller proof.claim));
         no_labeller = λ none. absurd (true≢false (sym (labeller_asked_part proof.claim
-            (labeller_asked (normal_positions normal) (order_number board.labels) board proof is)) ∙ none));
+            (labeller_asked (normal_positions normal) (document_number board.labels) board proof is)) ∙ none));
         no_adversary = λ none. refl;
       }
 
@@ -315,7 +315,7 @@ module _ (board : PlainBoard) (proof : PlainProof) (value : Value) (claim_is_of 
 
   pub form_over_for : (normal : List ℕ → List ℕ) → IsNormalForm board normal → (side : Option Side)
       → HasStrategy side value → IsConfiguration board board.start
-      → IsDocumentOver (normal_positions normal) (order_number board.labels) board proof
+      → IsDocumentOver (normal_positions normal) (document_number board.labels) board proof
       → FitsFormat (document_for side proof) → IsClassProof board (document_for side proof)
   form_over_for normal form None strategy start is fits = has_form board normal form proof start is fits
   form_over_for normal form (Some Labeller) strategy start is fits =

@@ -16,7 +16,7 @@ use Rattle.positions.specs.Ranks.{configurations, configuration_at, number_of, r
 use Rattle.positions.proofs.Cited.{configuration_at-rank_of, configuration_at_is}
 use Rattle.classes.specs.Classes.{IsClass, class_of, put}
 use Rattle.classes.specs.ClassGaps.{gap_at}
-use Rattle.classes.specs.Numbers.{class_number, ways}
+use Rattle.classes.specs.Numbers.{number_by_greatest, ways}
 use Rattle.classes.proofs.Cited.{all-remove, class-push, falls-class_of, is-below, length-class_of, remove-last}
 use Rattle.classes.proofs.Cited.{remove-past}
 use Rattle.gap_values.proofs.Cited.{gap-is}
@@ -82,7 +82,7 @@ module _ (board : PlainBoard) (some : 0 < board.pebbles) where
     numbers = record {
       room = is.numbers.room;
       rows = λ size low pebble inside. is.numbers.rows size low pebble inside
-          ∙ sym (ap (λ l. class_number (class_of (remove l pebble))) (before held size place low));
+          ∙ sym (ap (λ l. number_by_greatest (class_of (remove l pebble))) (before held size place low));
     };
   }
     where
@@ -146,7 +146,7 @@ module _ (board : PlainBoard) (held : List ℕ) (is : IsConfiguration board held
       }
 
   -- the numbers of gaps are below how many there are
-  pub gap-below : (pebble number : ℕ) → pebble < board.pebbles → number ≡ class_number (gap_at held pebble)
+  pub gap-below : (pebble number : ℕ) → pebble < board.pebbles → number ≡ number_by_greatest (gap_at held pebble)
       → number < ways (board.pebbles - 1) (places board)
   gap-below pebble number low same =
       subst (λ n. n < ways (board.pebbles - 1) (places board)) (sym same)
@@ -157,16 +157,16 @@ module _ (board : PlainBoard) (held : List ℕ) (is : IsConfiguration board held
     entry pebble = get_or rests (6 * (board.pebbles - 1) + pebble) 0
 
     row : (pebble : ℕ) → pebble < board.pebbles
-        → entry pebble ≡ class_number (class_of (remove (others_held board held) pebble))
+        → entry pebble ≡ number_by_greatest (class_of (remove (others_held board held) pebble))
     row pebble low = are.rows (board.pebbles - 1) (omega (arith, some)) pebble (omega (arith, low))
 
     pub last-number : (pebble : ℕ) → pebble ≡ board.pebbles - 1
-        → entry pebble ≡ class_number (gap_at held pebble)
+        → entry pebble ≡ number_by_greatest (gap_at held pebble)
     last-number pebble same =
         row pebble (omega (arith, same))
-        ∙ ap (λ n. class_number (class_of (remove (others_held board held) n))) same
-        ∙ ap class_number last-gap
-        ∙ ap (λ n. class_number (gap_at held n)) (sym same)
+        ∙ ap (λ n. number_by_greatest (class_of (remove (others_held board held) n))) same
+        ∙ ap number_by_greatest last-gap
+        ∙ ap (λ n. number_by_greatest (gap_at held n)) (sym same)
 
     pub other-below : (pebble : ℕ) → pebble < board.pebbles - 1
         → entry pebble < ways (board.pebbles - 2) (places board)
@@ -177,13 +177,13 @@ module _ (board : PlainBoard) (held : List ℕ) (is : IsConfiguration board held
 
     -- the member of that class with the last pebble's place is the gap
     pub other-number : (pebble member : ℕ) → pebble < board.pebbles - 1
-        → ((gap : List ℕ) → IsClass (places board) (board.pebbles - 2) gap → entry pebble ≡ class_number gap
-        → member ≡ class_number (put (get_or held (board.pebbles - 1) 0) gap))
-        → member ≡ class_number (gap_at held pebble)
+        → ((gap : List ℕ) → IsClass (places board) (board.pebbles - 2) gap → entry pebble ≡ number_by_greatest gap
+        → member ≡ number_by_greatest (put (get_or held (board.pebbles - 1) 0) gap))
+        → member ≡ number_by_greatest (gap_at held pebble)
     other-number pebble member low is_member =
         is_member (class_of (remove (others_held board held) pebble)) (other-class pebble low)
         (row pebble (omega arith))
-        ∙ ap class_number (sym (other-gap pebble low))
+        ∙ ap number_by_greatest (sym (other-gap pebble low))
 
 -- ---- the rows, one after the other
 
@@ -257,13 +257,13 @@ module _ (held : List ℕ) where
   pub record IsRowBelow (size bound : ℕ) (rests : List ℕ) : Type 0 where
     pub before : AreNumberRows held (size + 1) rests
     pub found : (pebble : ℕ) → pebble < bound
-        → get_or rests (6 * (size + 1) + pebble) 0 ≡ class_number (rest held (size + 1) pebble)
+        → get_or rests (6 * (size + 1) + pebble) 0 ≡ number_by_greatest (rest held (size + 1) pebble)
 
   pub row-begins : (size : ℕ) (rests : List ℕ) → AreNumberRows held (size + 1) rests → IsRowBelow size 0 rests
   row-begins size rests are = record { before = are; found = λ pebble low. absurd (omega (arith, low)) }
 
   pub row-more : (size bound number : ℕ) (rests : List ℕ) → size + 1 < 6 → bound < size + 2
-      → IsRowBelow size bound rests → number ≡ class_number (rest held (size + 1) bound)
+      → IsRowBelow size bound rests → number ≡ number_by_greatest (rest held (size + 1) bound)
       → IsRowBelow size (bound + 1) (set rests (6 * (size + 1) + bound) number)
   row-more size bound number rests few low are same =
       let room : length rests ≡ 36 = are.before.room in
@@ -279,7 +279,7 @@ module _ (held : List ℕ) where
           | inl equal ↦
               ap (λ n. get_or (set rests at number) (6 * (size + 1) + n) 0) equal
               ∙ get_or-set_same rests at number 0 (omega (arith, room, few, low))
-              ∙ same ∙ ap (λ n. class_number (rest held (size + 1) n)) (sym equal)
+              ∙ same ∙ ap (λ n. number_by_greatest (rest held (size + 1) n)) (sym equal)
           | inr differ ↦
               get_or-set_other rests at (6 * (size + 1) + pebble) number 0 (omega (arith, differ))
               ∙ are.found pebble (omega (arith, below, differ))
@@ -294,7 +294,7 @@ module _ (held : List ℕ) where
       | inl equal ↦
           ap (λ n. get_or rests (6 * n + pebble) 0) equal
           ∙ are.found pebble (omega (arith, inside, equal, most))
-          ∙ ap (λ n. class_number (rest held n pebble)) (sym equal)
+          ∙ ap (λ n. number_by_greatest (rest held n pebble)) (sym equal)
       | inr differ ↦ are.before.rows other (omega (arith, less, differ)) pebble inside
     ];
   }
@@ -313,7 +313,7 @@ rests-kept held next rests same bound equal low are = record {
   room = are.room;
   rows = λ size less pebble inside.
       are.rows size (omega (arith, less, low)) pebble inside
-      ∙ ap (λ l. class_number (class_of (remove l pebble))) (shorter size (omega (arith, less)));
+      ∙ ap (λ l. number_by_greatest (class_of (remove l pebble))) (shorter size (omega (arith, less)));
 }
   where
     shorter : (size : ℕ) → size ≤ same → take size held ≡ take size next
@@ -324,7 +324,7 @@ pub rests-begin : (held rests : List ℕ) → length rests ≡ 36 → get_or res
 rests-begin held rests room none = record { room = room; rows = by }
   where
     by : (size : ℕ) → size < 1 → (pebble : ℕ) → pebble ≤ size
-        → get_or rests (6 * size + pebble) 0 ≡ class_number (class_of (remove (take size held) pebble))
+        → get_or rests (6 * size + pebble) 0 ≡ number_by_greatest (class_of (remove (take size held) pebble))
     by zero less zero inside = none
     by zero less (suc pebble) inside = absurd (omega (arith, inside))
     by (suc size) less pebble inside = absurd (omega (arith, less))
@@ -343,7 +343,7 @@ pub gaps-begin : (held numbers : List ℕ) → length numbers ≡ 6 → AreGapNu
 gaps-begin held numbers room = record { room = room; each = λ pebble low. absurd (omega (arith, low)) }
 
 pub gaps-more : (held : List ℕ) (pebble number : ℕ) (numbers : List ℕ) → pebble < 6 → AreGapNumbers held pebble numbers
-    → number ≡ class_number (gap_at held pebble) → AreGapNumbers held (pebble + 1) (set numbers pebble number)
+    → number ≡ number_by_greatest (gap_at held pebble) → AreGapNumbers held (pebble + 1) (set numbers pebble number)
 gaps-more held pebble number numbers few are is =
     let room : length numbers ≡ 6 = are.room in
     record {
@@ -352,7 +352,7 @@ gaps-more held pebble number numbers few are is =
         | inl same ↦
             ap (λ n. get_or (set numbers pebble number) n 0) same
             ∙ get_or-set_same numbers pebble number 0 (omega (arith, room, few))
-            ∙ is ∙ ap (λ n. class_number (gap_at held n)) (sym same)
+            ∙ is ∙ ap (λ n. number_by_greatest (gap_at held n)) (sym same)
         | inr differ ↦
             get_or-set_other numbers pebble other number 0 differ ∙ are.each other (omega (arith, low, differ))
       ];

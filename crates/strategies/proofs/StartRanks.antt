@@ -2,12 +2,9 @@
 use Rattle.std.proofs.Common.{◌≡◌, ℕ, List, ap, ◌∙◌, subst}
 use Rattle.board_text.specs.PlainBoard.{PlainBoard, IsConfiguration}
 use Rattle.positions.specs.declared.value.Value.{Value}
-use Rattle.positions.specs.declared.value.Value.TheVariants.{Finite}
 use Rattle.positions.specs.Value.{HasValue}
 use Rattle.positions.specs.Ranks.{configuration_at, rank_of}
 use Rattle.positions.proofs.Cited.{configuration_at-rank_of}
-use Rattle.strategies.specs.Best.{IsLess}
-use Rattle.strategies.specs.DocumentMoves.{IsAnswerable}
 
 pub start_value : (board : PlainBoard) (start : ℕ) (value : Value) → IsConfiguration board board.start
     → start ≡ rank_of board board.start
@@ -15,9 +12,3 @@ pub start_value : (board : PlainBoard) (start : ℕ) (value : Value) → IsConfi
 start_value board start value is start_is has =
     subst (λ (c : List ℕ). HasValue board c value)
     (ap (configuration_at board) start_is ∙ configuration_at-rank_of board board.start is) has
-
-pub start_answerable : (board : PlainBoard) (start : ℕ) (value : Value) → IsConfiguration board board.start
-    → start ≡ rank_of board board.start
-    → HasValue board (configuration_at board start) value → IsLess (Finite 0) value → IsAnswerable board board.start
-start_answerable board start value is start_is has some =
-    record { value = value; has_value = start_value board start value is start_is has; some = some }

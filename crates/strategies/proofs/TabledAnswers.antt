@@ -8,12 +8,12 @@ use Rattle.std.proofs.lemmas.List.Elements.{All-from_get_or}
 use Rattle.board_text.specs.PlainBoard.{PlainBoard, IsConfiguration, places}
 use Rattle.classes.specs.Classes.{IsClass}
 use Rattle.classes.specs.ClassGaps.{gap_at}
-use Rattle.classes.specs.Numbers.{class_number, class_with, ways}
+use Rattle.classes.specs.Numbers.{class_with, ways}
 use Rattle.classes.proofs.Cited.{class_of-class, place-below, with-is, with-number}
 use Rattle.gap_values.proofs.Cited.{gap-is}
 use Rattle.gap_values.specs.declared.value_table.Best.{Best}
 use Rattle.strategies.specs.Best.{IsBestFor}
-use Rattle.strategies.specs.Inside.RankMoves.{AreBestBelow}
+use Rattle.strategies.specs.Inside.RankMoves.{AreBestBelow, IsBestOfNumber, class_of_gap}
 use Rattle.strategies.proofs.GapMembers.{same-best}
 
 module _ (board : PlainBoard) (some : 0 < board.pebbles) where
@@ -42,25 +42,27 @@ module _ (board : PlainBoard) (some : 0 < board.pebbles) where
       → AreBestBelow board (number + 1) (answers ++ best ∷ [])
   best-more place number answers best low inside are is = record {
     one_each = length_push answers best ∙ (let long = are.one_each in omega arith);
-    best = λ held pebble configuration asks before. elim (cases_lt (class_number (gap_at held pebble)) number) [
+    best = λ other before. elim (cases_lt other number) [
       | inl early ↦
           let long : length answers ≡ number = are.one_each in
-          subst (IsBestFor board held pebble)
-          (sym (get_or_append_left answers (best ∷ []) None (class_number (gap_at held pebble)) (omega arith)))
-          (are.best held pebble configuration asks early)
+          subst (IsBestOfNumber class_of_gap board other)
+          (sym (get_or_append_left answers (best ∷ []) None other (omega arith))) (are.best other early)
       | inr late ↦
           let long : length answers ≡ number = are.one_each in
-          let last : class_number (gap_at held pebble) ≡ number = omega arith in
+          let last : other ≡ number = omega arith in
+          subst (IsBestOfNumber class_of_gap board other)
+          (sym (get_or_push answers best None other (omega (arith, last, long))))
+          (λ held pebble configuration asks same. its held pebble configuration asks (same ∙ last))
+    ];
+  }
+    where
+      its : IsBestOfNumber class_of_gap board number best
+      its held pebble configuration asks same =
           let class = (with-is (places board) (board.pebbles - 1) number inside).is in
           let own : gap_at held pebble ≡ gap number =
           sym (with-number (places board) (board.pebbles - 1) (gap_at held pebble)
-          (gap-is board held configuration pebble asks)) ∙ ap gap last in
+          (gap-is board held configuration pebble asks)) ∙ ap gap same in
           let first : gap_at (place ∷ gap number) 0 ≡ gap number =
           class_of-class (places board) (gap number) class.falls in
-          subst (IsBestFor board held pebble)
-          (sym (get_or_push answers best None (class_number (gap_at held pebble)) (omega (arith, last, long))))
-          (same-best board (place ∷ gap number) held 0 pebble best (asked place number low inside) configuration some
-          asks
-          (first ∙ sym own) is)
-    ];
-  }
+          same-best board (place ∷ gap number) held 0 pebble best (asked place number low inside) configuration some
+          asks (first ∙ sym own) is

@@ -1,6 +1,5 @@
 -- Definitions that clauses of this crate's own functions cite, and no public contract.
 pub mod Answers
-pub mod Configuration
 pub mod RankMoves
 pub mod Walks
 pub mod MovesAt

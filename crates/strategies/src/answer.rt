@@ -1,8 +1,8 @@
 //! The best answer to a request, with the number of requests that it leaves.
 
-ghost use Rattle.std.specs.Prelude.{◌≡◌, None};
-ghost use Rattle.strategies.specs.Inside.Answers.{value_with};
-ghost use Rattle.strategies.specs.Inside.RankMoves.{IsCountable, answered_with};
+ghost use Rattle.std.specs.Prelude.{◌≡◌, None, IfSome};
+ghost use Rattle.strategies.specs.Inside.Answers.{IsLesser, label_of, value_with};
+ghost use Rattle.strategies.specs.Inside.RankMoves.{IsCountable, answered_with, one_more};
 
 use gap_values::Best;
 use positions::Value;
@@ -89,12 +89,36 @@ impl Answer {
         })
     }
 
+    /// The label of the best answer, and 0 without one.
+    pub(crate) fn label(self) -> u16
+        ensures { result ≡ label_of self }
+    {
+        self.label
+    }
+
     /// How many requests can be answered if this one is the first, or `ENDLESS`.
     pub(crate) fn requests(self) -> u32
         ensures { value_with result ≡ answered_with self }
     {
         self.requests
     }
+}
+
+/// The lesser of two values.
+pub(crate) fn lesser(first: Value, second: Value) -> Value
+    ensures { IsLesser first second result }
+{
+    if second < first { second } else { first }
+}
+
+/// One more than `value`, if its number has 32 bits.
+pub(crate) fn next_value(value: Value) -> Option<Value>
+    ensures { IfSome result (λ next. next ≡ one_more value) }
+{
+    let Value::Finite(number) = value else {
+        return Some(Value::Forever);
+    };
+    Some(Value::Finite(number.checked_add(1)?))
 }
 
 /// The value of a configuration at which this number of requests can be answered.

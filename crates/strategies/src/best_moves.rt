@@ -6,13 +6,10 @@ ghost use Rattle.positions.specs.Game.{Legal};
 ghost use Rattle.positions.specs.Ranks.{configurations, rank_of, configuration_at};
 ghost use Rattle.positions.specs.Value.{HasValue};
 ghost use Rattle.strategies.specs.Best.{IsBestAnswerIfAny, IsBestRequestIfAny};
-ghost use Rattle.strategies.specs.Inside.MovesAt.{position};
 
-use crate::configuration::Configuration;
-use crate::gap_moves::{GapMoves, GapMovesAt};
-use crate::moves::Moves;
-use crate::moves_here::MovesHere;
+use crate::gap_moves::GapMoves;
 use board_text::Board;
+use classes::Places;
 use positions::{MAX_CONFIGURATIONS, Space, Value};
 use solver::Values;
 use std::marker::Model;
@@ -62,7 +59,7 @@ impl<'a> BestMoves<'a> {
     pub fn board(&self) -> &'a Board
         ensures { result.now ≡ self.now }
     {
-        self.moves.board
+        self.moves.board()
     }
 
     /// The best moves at configurations given by their places.
@@ -107,7 +104,8 @@ impl<'a> BestMoves<'a> {
         requires pebble { pebble < self.now.pebbles }
         ensures { IsBestAnswerIfAny self.now (configuration_at self.now rank) pebble result }
     {
-        self.at(rank).label(pebble)
+        let configuration = Places::at(self.space(), rank);
+        self.moves.answer(configuration.as_slice(), pebble)
     }
 
     /// The best request at the configuration of `rank`, if its value is finite: the smallest pebble
@@ -116,17 +114,9 @@ impl<'a> BestMoves<'a> {
         requires { rank < configurations self.now }
         ensures { IsBestRequestIfAny self.now (configuration_at self.now rank) result }
     {
-        let (_, request) = self.at(rank).request();
+        let configuration = Places::at(self.space(), rank);
+        let (_, request) = self.moves.request(configuration.as_slice());
         request
-    }
-
-    /// The best moves at the configuration of `rank`.
-    pub(crate) fn at(&self, rank: u32) -> GapMovesAt<'_, Values>
-        requires { rank < configurations self.now }
-        ensures { result ≡ position self.now (configuration_at self.now rank) }
-    {
-        self.moves
-            .at_configuration(Configuration::at(self.space(), rank))
     }
 }
 

@@ -7,13 +7,14 @@ ghost use Rattle.strategies.specs.Inside.Numbering.{by_order};
 ghost use Rattle.strategies.specs.Inside.Sections.{HasNoSection};
 ghost use Rattle.strategies.specs.Inside.Side.{MayStandAt, AreRowsAt, AreSection};
 
+use crate::gap_moves::GapMoves;
 use crate::listed_numbers::ListedNumbers;
-use crate::moves::Moves;
 use crate::normal_walk::NormalWalk;
 use crate::reached_numbers::ReachedNumbers;
 use crate::sections::{SectionRow, reached, rows_at, section};
 use crate::unmade::Unmade;
 use board_text::Memory;
+use gap_values::ValueTable;
 use positions::Value;
 use rayon::prelude::*;
 use std::alloc::Global;
@@ -22,21 +23,19 @@ use symmetries::Alike;
 
 /// One side's rows of the document over normal places of a board whose start has the value
 /// `start`, if they are at most `most`.
-pub(crate) fn class_section<R: SectionRow, M: Moves>(
+pub(crate) fn class_section<R: SectionRow, V: ValueTable>(
     alloc: Global,
-    moves: &M,
+    moves: &GapMoves<'_, V>,
     alike: &Alike,
     start: Value,
     most: usize,
 ) -> Result<Vec<R>, Unmade>
-    requires kind { R.names (normal_kind (M.board moves.now) alike.now) }
-    requires normal { IsNormalBy (M.board moves.now) alike.now }
-    ensures ok { IfOk result (λ rows. AreSection (by_order (M.board moves.now))
-        (R.side (over_normal (M.board moves.now) (normal_by (M.board moves.now) alike.now))
-        start) rows.items) }
-    ensures fault { IfErr result (HasNoSection (by_order (M.board moves.now))
-        (R.side (over_normal (M.board moves.now) (normal_by (M.board moves.now) alike.now))
-        start) most) }
+    requires kind { R.names (normal_kind moves.now alike.now) }
+    requires normal { IsNormalBy moves.now alike.now }
+    ensures ok { IfOk result (λ rows. AreSection (by_order moves.now)
+        (R.side (over_normal moves.now (normal_by moves.now alike.now)) start) rows.items) }
+    ensures fault { IfErr result (HasNoSection (by_order moves.now)
+        (R.side (over_normal moves.now (normal_by moves.now alike.now)) start) most) }
 {
     let mut here = NormalWalk::at_start(alloc, moves, alike, R::names_answers());
     let set = ListedNumbers::new(alloc, most);
@@ -46,24 +45,22 @@ pub(crate) fn class_section<R: SectionRow, M: Moves>(
 
 /// The same rows, made in at most `parts` parts. Threads make them where each has a thousand rows
 /// or more to make, and one can be started.
-pub(crate) fn section_in_parts<R: SectionRow + Send + Sync, M: Moves + Sync>(
+pub(crate) fn section_in_parts<R: SectionRow + Send + Sync, V: ValueTable + Sync>(
     rt: &(impl Threads + Sync),
     alloc: Global,
-    moves: &M,
+    moves: &GapMoves<'_, V>,
     alike: &Alike,
     start: Value,
     most: usize,
     parts: u32,
 ) -> Result<Vec<R>, Unmade>
-    requires kind { R.names (normal_kind (M.board moves.now) alike.now) }
-    requires normal { IsNormalBy (M.board moves.now) alike.now }
+    requires kind { R.names (normal_kind moves.now alike.now) }
+    requires normal { IsNormalBy moves.now alike.now }
     requires parts { 1 ≤ parts }
-    ensures ok { IfOk result (λ rows. AreSection (by_order (M.board moves.now))
-        (R.side (over_normal (M.board moves.now) (normal_by (M.board moves.now) alike.now))
-        start) rows.items) }
-    ensures fault { IfErr result (HasNoSection (by_order (M.board moves.now))
-        (R.side (over_normal (M.board moves.now) (normal_by (M.board moves.now) alike.now))
-        start) most) }
+    ensures ok { IfOk result (λ rows. AreSection (by_order moves.now)
+        (R.side (over_normal moves.now (normal_by moves.now alike.now)) start) rows.items) }
+    ensures fault { IfErr result (HasNoSection (by_order moves.now)
+        (R.side (over_normal moves.now (normal_by moves.now alike.now)) start) most) }
 {
     if parts == 1 {
         // One walk keeps the best answers that it finds on the way for the rows.
@@ -72,48 +69,47 @@ pub(crate) fn section_in_parts<R: SectionRow + Send + Sync, M: Moves + Sync>(
     let mut here = NormalWalk::at_start(alloc, moves, alike, false);
     let set = ListedNumbers::new(alloc, most);
     let gaps = ListedNumbers::new(alloc, most);
-    let set = reached::<R, NormalWalk<'_, '_, M>, ListedNumbers>(&mut here, set, gaps)?;
+    let set = reached::<R, NormalWalk<'_, '_, V>, ListedNumbers>(&mut here, set, gaps)?;
     let numbers = set.in_order(alloc)?;
     let mut rows = Vec::with_capacity(alloc, numbers.len())?;
-    for part in &rows_in_parts::<R, M>(rt, alloc, moves, alike, start, &numbers, parts)? {
+    for part in &rows_in_parts::<R, V>(rt, alloc, moves, alike, start, &numbers, parts)? {
         rows.extend_from_slice(part)?;
     }
     Ok(rows)
 }
 
 /// The rows at the places of `numbers`, in at most `parts` parts, in their order.
-fn rows_in_parts<R: SectionRow + Send + Sync, M: Moves + Sync>(
+fn rows_in_parts<R: SectionRow + Send + Sync, V: ValueTable + Sync>(
     rt: &(impl Threads + Sync),
     alloc: Global,
-    moves: &M,
+    moves: &GapMoves<'_, V>,
     alike: &Alike,
     start: Value,
     numbers: &[u64],
     parts: u32,
 ) -> Result<Vec<Vec<R>>, Memory>
-    requires kind { R.names (normal_kind (M.board moves.now) alike.now) }
-    requires normal { IsNormalBy (M.board moves.now) alike.now }
-    requires numbers { All (MayStandAt (by_order (M.board moves.now))
-        (R.side (over_normal (M.board moves.now) (normal_by (M.board moves.now) alike.now))
-        start)) numbers.now }
+    requires kind { R.names (normal_kind moves.now alike.now) }
+    requires normal { IsNormalBy moves.now alike.now }
+    requires numbers { All (MayStandAt (by_order moves.now)
+        (R.side (over_normal moves.now (normal_by moves.now alike.now)) start)) numbers.now }
     requires parts { 1 ≤ parts }
-    ensures { IfOk result (λ parts. AreRowsAt (by_order (M.board moves.now))
-        (R.side (over_normal (M.board moves.now) (normal_by (M.board moves.now) alike.now))
-        start) numbers.now (flat_map (λ part. part.items) parts.items)) }
+    ensures { IfOk result (λ parts. AreRowsAt (by_order moves.now)
+        (R.side (over_normal moves.now (normal_by moves.now alike.now)) start) numbers.now
+        (flat_map (λ part. part.items) parts.items)) }
 {
     let size = numbers.len().div_ceil(parts as usize).max(1);
     let rows: Result<Vec<Vec<R>>, Memory> = numbers
         .par_chunks(size)
         .map(
             |part: &[u64]| -> Result<Vec<R>, Memory>
-                requires kind { R.names (normal_kind (M.board moves.now) alike.now) }
-                requires normal { IsNormalBy (M.board moves.now) alike.now }
-                requires numbers { All (MayStandAt (by_order (M.board moves.now))
-                    (R.side (over_normal (M.board moves.now) (normal_by (M.board moves.now)
-                    alike.now)) start)) part.now }
-                ensures { IfOk result (λ rows. AreRowsAt (by_order (M.board moves.entry.now))
-                    (R.side (over_normal (M.board moves.entry.now)
-                    (normal_by (M.board moves.entry.now) alike.entry.now)) start)
+                requires kind { R.names (normal_kind moves.now alike.now) }
+                requires normal { IsNormalBy moves.now alike.now }
+                requires numbers { All (MayStandAt (by_order moves.now)
+                    (R.side (over_normal moves.now (normal_by moves.now alike.now)) start))
+                    part.now }
+                ensures { IfOk result (λ rows. AreRowsAt (by_order moves.entry.now)
+                    (R.side (over_normal moves.entry.now
+                    (normal_by moves.entry.now alike.entry.now)) start)
                     part.now rows.items) }
             {
                 let mut here = NormalWalk::at_start(alloc, moves, alike, R::names_answers());

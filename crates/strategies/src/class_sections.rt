@@ -6,7 +6,7 @@ ghost use Rattle.strategies.specs.Inside.NumberedPositions.{request_moves};
 
 use crate::position_walk::PositionWalk;
 use crate::reached_numbers::ReachedNumbers;
-use crate::sections::{SectionRow, best_labels, turns};
+use crate::sections::{SectionRow, turns};
 use crate::steps::{add_answers, add_results};
 use board_text::Memory;
 use positions::Value;
@@ -38,7 +38,7 @@ impl SectionRow for LabellerClassRow {
     }
 
     fn at<W: PositionWalk>(here: &W, number: u64, start: Value) -> Option<LabellerClassRow> {
-        let (value, take) = best_labels(here);
+        let (value, take) = here.best_labels();
         Some(LabellerClassRow {
             at: places_at(here.board(), number),
             turns: turns(start, value),

@@ -14,12 +14,11 @@ ghost use Rattle.strategies.specs.Inside.Numbering.{by_rank};
 ghost use Rattle.strategies.specs.Inside.Side.{labeller_side, AreSection, AreAdversaryRows};
 
 use crate::best_moves::BestMoves;
-use crate::moves::Moves;
-use crate::moves_here::MovesHere;
+use crate::gap_moves::GapMoves;
 use crate::rank_moves::RankMoves;
 use crate::rank_sections::rank_section;
-use crate::walk::Walk;
 use board_text::{Board, Memory};
+use gap_values::ValueTable;
 use positions::{Claim, MAX_CONFIGURATIONS, Space, Value};
 use proof_text::{AdversaryRow, LabellerRow, Proof};
 use solver::Values;
@@ -45,20 +44,22 @@ impl BestMoves<'_> {
 /// The document of the board of `moves`, whose configurations and gaps are those of `space`: the
 /// value of its start, a strategy for the labeller, and one for the adversary if the value is
 /// finite.
-pub fn document_by<M: Moves>(alloc: Global, moves: &M, space: &Space) -> Result<Proof, Memory>
-    requires same_board { space.now ≡ M.board moves.now }
-    ensures document { IfOk result (λ proof.
-        IsDocumentOf (M.board moves.now) (plain_proof (M.board moves.now) proof)) }
-    ensures form { IfOk result (IsDocument (M.board moves.now)) }
-    ensures rules { IfOk result (λ proof.
-        BreaksNoRule configuration_positions (M.board moves.now)
-        (plain_proof (M.board moves.now) proof)) }
-    ensures shows { IfOk result (λ proof. Shows (M.board moves.now)
-        (answer_rows (M.board moves.now) proof.labeller.items)
-        (request_rows (M.board moves.now) proof.adversary.items) proof.claim) }
+pub fn document_by<V: ValueTable>(
+    alloc: Global,
+    moves: &GapMoves<'_, V>,
+    space: &Space,
+) -> Result<Proof, Memory>
+    requires same_board { space.now ≡ moves.now }
+    ensures document { IfOk result (λ proof. IsDocumentOf moves.now (plain_proof moves.now proof)) }
+    ensures form { IfOk result (IsDocument moves.now) }
+    ensures rules { IfOk result
+        (λ proof. BreaksNoRule configuration_positions moves.now (plain_proof moves.now proof)) }
+    ensures shows { IfOk result (λ proof. Shows moves.now
+        (answer_rows moves.now proof.labeller.items)
+        (request_rows moves.now proof.adversary.items) proof.claim) }
 {
     let ranked = RankMoves::of(alloc, moves, space)?;
-    let value = Walk::at(&ranked, ranked.start()).value();
+    let value = ranked.start_value();
     let labeller = rank_section(alloc, &ranked, value)?;
     let adversary = match value {
         Value::Finite(_) => rank_section(alloc, &ranked, value)?,

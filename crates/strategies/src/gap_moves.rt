@@ -1,26 +1,27 @@
-//! The best answers to requests and the best requests, by a table of values.
+//! The values of a board and the best moves on it, by a table of its values.
 
-ghost use Rattle.std.specs.Prelude.{◌≡◌, ◌<◌, ◌≤◌, ℕ, length};
-ghost use Rattle.board_text.specs.PlainBoard.{IsConfiguration};
+ghost use Rattle.std.specs.Prelude.{◌≡◌, ◌↔◌, ◌<◌, IsTrue};
+ghost use Rattle.board_text.specs.PlainBoard.{IsBoard, IsConfiguration};
 ghost use Rattle.classes.specs.ClassGaps.{gap_at};
-ghost use Rattle.strategies.specs.Inside.MovesAt.{position};
+ghost use Rattle.positions.specs.Value.{HasValue};
+ghost use Rattle.positions.specs.declared.value.Value.TheVariants.{Finite};
+ghost use Rattle.strategies.specs.Best.{IsBestAnswerIfAny, IsBestFor, IsBestRequestIfAny};
+ghost use Rattle.strategies.specs.Best.{LowersValue};
 
-use crate::configuration::Configuration;
-use crate::moves::Moves;
-use crate::moves_here::MovesHere;
-use board_text::{Board, MAX_PEBBLES};
-use classes::ClassPlaces;
+use board_text::Board;
+use classes::Places;
 use gap_values::{Best, ValueTable};
 use positions::Value;
 use std::marker::Model;
 
-/// The best moves on a board, by a table of its values. The board may have more classes than there
-/// are numbers of 32 bits.
+/// The values of a board and the best moves on it, by a table of the values. Configurations are
+/// given by their places, so that the board may have more of them than there are ranks, and more
+/// classes than there are numbers of 32 bits.
 ///
 /// Contracts see the board.
 #[derive(Drop)]
 pub struct GapMoves<'a, V: ValueTable> {
-    pub(crate) board: &'a Board,
+    board: &'a Board,
     values: &'a V,
 }
 
@@ -44,109 +45,93 @@ impl<'a, V: ValueTable> GapMoves<'a, V> {
         GapMoves { board, values }
     }
 
-    /// The best moves at the configuration `held`.
-    fn at(&self, held: &[u16]) -> GapMovesAt<'_, V>
-        requires { IsConfiguration self.now held.now }
-        ensures { result ≡ position self.now held.now }
+    /// The board.
+    pub fn board(&self) -> &'a Board
+        ensures { result.now ≡ self.now }
     {
-        let _ = self.board.pebbles();
-        self.at_configuration(Configuration::of(held))
-    }
-
-    /// The best moves at `configuration`.
-    pub(crate) fn at_configuration(&self, configuration: Configuration) -> GapMovesAt<'_, V>
-        requires { IsConfiguration self.now configuration }
-        ensures { result ≡ position self.now configuration }
-    {
-        let _ = self.board.pebbles();
-        GapMovesAt {
-            board: self.board,
-            values: self.values,
-            configuration,
-        }
-    }
-}
-
-impl<'a, V: ValueTable> Moves for GapMoves<'a, V> {
-    ghost board = { λ moves. moves };
-
-    fn board(&self) -> &Board {
         self.board
     }
 
-    fn value(&self, held: &[u16]) -> Value {
+    /// The value of the start.
+    pub(crate) fn start_value(&self) -> Value
+        ensures value { HasValue self.now self.now.start result }
+        ensures is_board { IsBoard self.now }
+    {
+        self.value(self.board.start())
+    }
+
+    /// The value of the configuration `held`.
+    pub fn value(&self, held: &[u16]) -> Value
+        requires { IsConfiguration self.now held.now }
+        ensures { HasValue self.now held.now result }
+    {
         self.values.value(held)
     }
 
-    fn answer(&self, held: &[u16], pebble: u8) -> Option<u16> {
-        self.at(held).label(pebble)
+    /// The best answer to a request of `pebble` at the configuration `held`, if a label is legal:
+    /// the smallest legal label whose result has the greatest value.
+    pub fn answer(&self, held: &[u16], pebble: u8) -> Option<u16>
+        requires held { IsConfiguration self.now held.now }
+        requires pebble { pebble < self.now.pebbles }
+        ensures { IsBestAnswerIfAny self.now held.now pebble result }
+    {
+        let best = self.best(held, pebble)?;
+        Some(best.label)
     }
 
-    fn best(&self, held: &[u16], pebble: u8) -> Option<Best> {
-        self.at(held).answer(pebble)
-    }
-
-    fn answers(&self, held: &[u16]) -> (Value, [Option<Best>; MAX_PEBBLES]) {
-        let here = self.at(held);
-        (here.value(), here.answers())
-    }
-
-    fn request(&self, held: &[u16]) -> (Value, Option<u8>) {
-        self.at(held).request()
-    }
-}
-
-/// The best moves at one configuration. Contracts see the board and the configuration.
-#[derive(Drop)]
-pub(crate) struct GapMovesAt<'a, V: ValueTable> {
-    board: &'a Board,
-    values: &'a V,
-    configuration: Configuration,
-}
-
-impl<'a, V: ValueTable> Model for GapMovesAt<'a, V> {
-    ghost use Rattle.strategies.specs.Inside.MovesAt.{HeldPosition, position, IsGapStanding};
-
-    ghost Value = { HeldPosition };
-
-    ghost view = { λ s. position s.board.now s.configuration };
-
-    ghost invariant = { λ s. IsGapStanding s.board.now (V.table_board s.values.now)
-        s.configuration };
-}
-
-impl<V: ValueTable> MovesHere for GapMovesAt<'_, V> {
-    ghost position = { λ here. here };
-
-    fn pebbles(&self) -> u8 {
-        self.configuration.pebbles()
-    }
-
-    fn value(&self) -> Value {
-        self.values.value(self.configuration.as_slice())
-    }
-
-    fn answer(&self, pebble: u8) -> Option<Best> {
-        let gap = others_of(self.configuration.as_slice(), pebble);
+    /// The best answer to a request of `pebble` at the configuration `held`, with the value of its
+    /// result, if a label is legal.
+    pub(crate) fn best(&self, held: &[u16], pebble: u8) -> Option<Best>
+        requires held { IsConfiguration self.now held.now }
+        requires pebble { pebble < self.now.pebbles }
+        ensures { IsBestFor self.now held.now pebble result }
+    {
+        let gap = others_of(self.board, held, pebble);
         self.values.best_answer(self.board, gap.as_slice())
     }
 
-    fn lowers(&self, pebble: u8, number: u32) -> bool {
-        let gap = others_of(self.configuration.as_slice(), pebble);
+    /// The value of the configuration `held`, and the best request there, if the value is finite:
+    /// the smallest pebble all of whose legal results have a smaller value.
+    pub fn request(&self, held: &[u16]) -> (Value, Option<u8>)
+        requires { IsConfiguration self.now held.now }
+        ensures value { HasValue self.now held.now result.0 }
+        ensures request { IsBestRequestIfAny self.now held.now result.1 }
+    {
+        let value = self.value(held);
+        let Value::Finite(number) = value else {
+            return (value, None);
+        };
+        for pebble in 0..self.board.pebbles() {
+            if self.lowers(held, pebble, number) {
+                return (value, Some(pebble));
+            }
+        }
+        (value, None)
+    }
+
+    /// Whether all legal results of a request of `pebble` at the configuration `held`, whose value
+    /// is `number`, have a smaller value.
+    fn lowers(&self, held: &[u16], pebble: u8, number: u32) -> bool
+        requires held { IsConfiguration self.now held.now }
+        requires pebble { pebble < self.now.pebbles }
+        requires value { HasValue self.now held.now (Finite number) }
+        ensures { IsTrue result ↔ LowersValue self.now held.now pebble }
+    {
+        let gap = others_of(self.board, held, pebble);
         self.values.leads_below(self.board, gap.as_slice(), number)
     }
 }
 
 /// The places of all pebbles but `pebble` at the configuration `held`, greatest first.
-fn others_of(held: &[u16], pebble: u8) -> ClassPlaces
-    requires pebble { pebble < length held.now }
-    requires few { length held.now ≤ MAX_PEBBLES }
+fn others_of(board: &Board, held: &[u16], pebble: u8) -> Places
+    requires held { IsConfiguration board.now held.now }
+    requires pebble { pebble < board.now.pebbles }
     ensures { result ≡ gap_at held.now pebble }
 {
-    let mut gap = ClassPlaces::none();
-    for index in (0..held.len()).rev() {
-        if index != pebble as usize {
-            gap.put(held[index]);
+    let mut gap = Places::none();
+    for index in (0..board.pebbles()).rev() {
+        if index != pebble {
+            gap.arrange(held[index as usize]);
         }
     }
     gap

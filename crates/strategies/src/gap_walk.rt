@@ -7,13 +7,12 @@ ghost use Rattle.positions.specs.Game.{moved};
 ghost use Rattle.positions.specs.Ranks.{configurations, configuration_at};
 ghost use Rattle.classes.specs.Classes.{class_of};
 ghost use Rattle.classes.specs.ClassGaps.{gap_at};
-ghost use Rattle.classes.specs.Numbers.{class_number};
+ghost use Rattle.classes.specs.Numbers.{number_by_greatest};
 ghost use Rattle.strategies.specs.Inside.MovesAt.{position};
 ghost use Rattle.strategies.specs.Inside.Walks.{AreGapNumbers, AreNumberRows};
 
-use crate::configuration::Configuration;
 use board_text::MAX_PEBBLES;
-use classes::MemberTables;
+use classes::{MemberTables, Places};
 use positions::{MAX_CONFIGURATIONS, Space};
 use std::marker::Model;
 
@@ -27,7 +26,7 @@ use std::marker::Model;
 pub(crate) struct GapWalk<'a> {
     space: &'a Space,
     members: &'a MemberTables,
-    configuration: Configuration,
+    configuration: Places,
     /// The rank of the configuration with the place 0 for the last pebble.
     first: u32,
     /// For the first pebbles, of each number, a row: for each of them the number of the class of
@@ -58,7 +57,7 @@ impl<'a> GapWalk<'a> {
         ensures { result ≡ position space.now (configuration_at space.now rank) }
     {
         let last = space.pebbles() - 1;
-        let configuration = Configuration::at(space, rank);
+        let configuration = Places::at(space, rank);
         let mut rests = [0; ROOM];
         fill_rests(members, configuration.as_slice(), 0, &mut rests);
         GapWalk {
@@ -79,7 +78,7 @@ impl<'a> GapWalk<'a> {
             self.go_to(rank);
             return;
         };
-        self.configuration.put(self.space.pebbles() - 1, place);
+        self.configuration.set(self.space.pebbles() - 1, place);
     }
 
     /// The same, if the place of another pebble than the last one can differ. The rows of the first
@@ -90,7 +89,7 @@ impl<'a> GapWalk<'a> {
         ensures { self.new ≡ position self.old.board (configuration_at self.old.board rank) }
     {
         let last = self.space.pebbles() - 1;
-        let next = Configuration::at(self.space, rank);
+        let next = Places::at(self.space, rank);
         let same = count_same(self.configuration.as_slice(), next.as_slice(), last);
         fill_rests(self.members, next.as_slice(), same, &mut self.rests);
         self.first = self.space.with(rank, last, 0);
@@ -142,10 +141,23 @@ impl<'a> GapWalk<'a> {
         numbers
     }
 
+    /// The number of the class of the gap of `pebble`.
+    pub(crate) fn number(&self, pebble: u8) -> u32
+        requires { pebble < self.now.board.pebbles }
+        ensures { result ≡ number_by_greatest (gap_at self.now.held pebble) }
+    {
+        let last = self.pebbles() - 1;
+        if pebble < last {
+            self.gap(pebble)
+        } else {
+            self.last_gap()
+        }
+    }
+
     /// The number of the class of the gap of `pebble`, another one than the last.
     fn gap(&self, pebble: u8) -> u32
         requires { pebble + 1 < self.now.board.pebbles }
-        ensures { result ≡ class_number (gap_at self.now.held pebble) }
+        ensures { result ≡ number_by_greatest (gap_at self.now.held pebble) }
     {
         let last = self.space.pebbles() - 1;
         let number = self.rests[MAX_PEBBLES * last as usize + pebble as usize];
@@ -155,7 +167,7 @@ impl<'a> GapWalk<'a> {
 
     /// The number of the class of the last pebble's gap.
     fn last_gap(&self) -> u32
-        ensures { result ≡ class_number (gap_at self.now.held (self.now.board.pebbles - 1)) }
+        ensures { result ≡ number_by_greatest (gap_at self.now.held (self.now.board.pebbles - 1)) }
     {
         let last = self.space.pebbles() as usize - 1;
         self.rests[MAX_PEBBLES * last + last]
@@ -212,7 +224,7 @@ fn rest_of(members: &MemberTables, held: &[u16], size: u8, pebble: u8, rests: &[
     requires size { size + 1 < length held.now }
     requires pebble { pebble ≤ size + 1 }
     requires rests { AreNumberRows held.now (size + 1) rests.now }
-    ensures { result ≡ class_number (class_of (remove (take (size + 1) held.now) pebble)) }
+    ensures { result ≡ number_by_greatest (class_of (remove (take (size + 1) held.now) pebble)) }
 {
     let row = MAX_PEBBLES * size as usize;
     let place = held[size as usize];

@@ -12,10 +12,10 @@ ghost use Rattle.proof_text.specs.Documents.{IsClassProof};
 ghost use Rattle.proof_text.specs.ProofText.{class_text};
 ghost use Rattle.proof_text.specs.Positions.{class_positions, configuration_positions};
 ghost use Rattle.proof_text.specs.Rules.{BreaksNoRule};
-ghost use Rattle.proof_text.specs.Arranged.{order_number};
+ghost use Rattle.proof_text.specs.Arranged.{document_number};
 ghost use Rattle.strategies.specs.ClassDocument.{IsClassDocumentOf, FitsFormat};
 
-use proof_text::{MAX_CLASS_ROWS, MOST_TURNS};
+use proof_text::{MAX_CLASS_ROWS, MAX_TURNS};
 
 /// The document by classes of a board breaks no rule of checking.
 pub fn class_documents_break_no_rule()
@@ -25,7 +25,7 @@ pub fn class_documents_break_no_rule()
 
 /// The document by classes of a board is one as the format has it, if it fits there. It does if the
 /// board has at most `MAX_CLASS_ROWS` classes; and also if its claim fits, as it does if the board
-/// has at most `MOST_TURNS` gaps, and the text has at most eight bytes for each of `MAX_CLASS_ROWS`
+/// has at most `MAX_TURNS` gaps, and the text has at most eight bytes for each of `MAX_CLASS_ROWS`
 /// rows.
 pub fn class_documents_have_the_form()
     ensures form { (board : PlainBoard) → (proof : PlainProof)
@@ -36,7 +36,7 @@ pub fn class_documents_have_the_form()
         → class_count board ≤ MAX_CLASS_ROWS → FitsFormat proof }
     ensures claim { (board : PlainBoard) → (proof : PlainProof)
         → IsConfiguration board board.start → IsClassDocumentOf board proof
-        → ways (board.pebbles - 1) (places board) ≤ MOST_TURNS → IsClaim proof.claim }
+        → ways (board.pebbles - 1) (places board) ≤ MAX_TURNS → IsClaim proof.claim }
     ensures short { (board : PlainBoard) → (proof : PlainProof) → IsClassDocumentOf board proof
         → IsClaim proof.claim → length (class_text board proof) ≤ 8 * MAX_CLASS_ROWS
         → FitsFormat proof }

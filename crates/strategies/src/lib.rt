@@ -7,7 +7,6 @@ mod best_moves;
 mod class_documents;
 mod class_rows;
 mod class_sections;
-mod configuration;
 mod documents;
 mod gap_moves;
 mod gap_walk;
@@ -20,8 +19,6 @@ mod lines;
 mod listed_numbers;
 mod marked_numbers;
 mod marks;
-mod moves;
-mod moves_here;
 mod normal_walk;
 mod position_documents;
 mod position_walk;
@@ -37,8 +34,7 @@ mod unmade;
 mod walk;
 
 pub use best_moves::{BestMoves, best_answer, best_request};
-pub use class_documents::{MadeDocument, document_by_classes, document_by_classes_in_parts};
-pub use configuration::Configuration;
+pub use class_documents::{document_by_classes, document_by_classes_in_parts};
 pub use documents::{document, document_by};
 pub use gap_moves::GapMoves;
 pub use laws::{best_answers_last, best_requests_end, one_best_answer, one_best_request};
@@ -58,7 +54,7 @@ pub use laws_of_symmetric_documents::{
     documents_without_maps_are_documents_by_classes, each_board_has_a_document_up_to_symmetries,
     one_document_up_to_symmetries_of_a_board,
 };
-pub use moves::Moves;
-pub use symmetric_documents::{SymmetricDocument, document_up_to_symmetries};
+pub use position_documents::MadeDocument;
+pub use symmetric_documents::document_up_to_symmetries;
 pub use text::{DocumentText, document_text, document_text_in_parts};
 pub use unmade::Unmade;

@@ -8,6 +8,7 @@ ghost use Rattle.strategies.specs.Inside.Numbering.{by_rank};
 ghost use Rattle.strategies.specs.Inside.Side.{AreReached};
 
 use crate::marks::Marks;
+use crate::position_walk::PositionWalk;
 use crate::rank_moves::RankMoves;
 use crate::rank_sections::{LineRow, reached_marks};
 use crate::walk::Walk;
@@ -135,7 +136,7 @@ fn lines_between<R: LineRow>(
     let mut rows = 0;
     let mut from = span.start;
     while let Some(rank) = marks.first_between(from, span.end) {
-        walk.move_to(rank);
+        walk.go_to(rank as u64);
         if let Some(row) = R::at(&walk, rank as u64, start) {
             row.write(&walk, words, &mut text)?;
             rows += 1;

@@ -15,45 +15,51 @@ ghost use Rattle.strategies.specs.Inside.LongSections.{HasNoRows, IsDocumentOver
 ghost use Rattle.strategies.specs.Inside.NormalForm.{IsNormalBy, normal_by};
 ghost use Rattle.strategies.specs.Sides.{HasStrategy, claim_for as claim_by};
 
-use crate::class_documents::{MadeDocument, adversary_room, labeller_room};
+use crate::class_documents::{adversary_room, labeller_room};
 use crate::class_rows::section_in_parts;
-use crate::moves::Moves;
+use crate::gap_moves::GapMoves;
 use crate::sides::{asks_adversary, asks_labeller, claim_for};
 use crate::unmade::Unmade;
+use gap_values::ValueTable;
 use positions::{Side, Value};
 use proof_text::{AdversaryClassRow, ClassProof, LabellerClassRow};
 use std::alloc::Global;
 use std::thread::Threads;
 use symmetries::Alike;
 
+/// The value of a board's start, and a document of the board.
+#[derive(Drop)]
+pub struct MadeDocument<P> {
+    pub value: Value,
+    pub proof: P,
+}
+
 /// The value of the start of the board of `moves`, and the rows of its document over normal
 /// places, for `side` alone or for both, made in at most `parts` parts, unless they have more bytes
 /// than `bytes`.
-pub(crate) fn document_over<M: Moves + Sync>(
+pub(crate) fn document_over<V: ValueTable + Sync>(
     rt: &(impl Threads + Sync),
     alloc: Global,
-    moves: &M,
+    moves: &GapMoves<'_, V>,
     alike: &Alike,
     side: Option<Side>,
     bytes: usize,
     parts: u32,
-) -> Result<MadeDocument, Unmade>
-    requires normal { IsNormalBy (M.board moves.now) alike.now }
+) -> Result<MadeDocument<ClassProof>, Unmade>
+    requires normal { IsNormalBy moves.now alike.now }
     requires strategy { (value : ValueData)
-        → HasValue (M.board moves.now) (M.board moves.now).start value → HasStrategy side value }
+        → HasValue moves.now moves.now.start value → HasStrategy side value }
     requires parts { 1 ≤ parts }
-    ensures has_value { IfOk result (λ made. HasValue (M.board moves.now)
-        (M.board moves.now).start made.value) }
-    ensures document { IfOk result (λ made. IsDocumentOverFor side (M.board moves.now)
-        (normal_by (M.board moves.now) alike.now)
-        (plain_class_proof (M.board moves.now) made.proof)) }
-    ensures padded { IfOk result (λ made. AreClassPadded (M.board moves.now) made.proof) }
-    ensures is_board { IfOk result (λ _. IsBoard (M.board moves.now)) }
-    ensures fault { IfErr result (HasNoRows side (M.board moves.now) (normal_by
-        (M.board moves.now) alike.now) bytes) }
+    ensures has_value { IfOk result (λ made. HasValue moves.now moves.now.start made.value) }
+    ensures document { IfOk result (λ made. IsDocumentOverFor side moves.now
+        (normal_by moves.now alike.now) (plain_class_proof moves.now made.proof)) }
+    ensures padded { IfOk result (λ made. AreClassPadded moves.now made.proof) }
+    ensures is_board { IfOk result (λ _. IsBoard moves.now) }
+    ensures fault { IfErr result
+        (HasNoRows side moves.now (normal_by moves.now alike.now) bytes) }
 {
     let pebbles = moves.board().pebbles();
-    let value = moves.value(moves.board().start());
+    let value = moves.start_value();
     let claim = claim_for(side, value);
     let most = labeller_room(pebbles, bytes);
     let labeller = if asks_labeller(claim) {
@@ -72,28 +78,28 @@ pub(crate) fn document_over<M: Moves + Sync>(
 
 /// The document over normal places of the board of `moves`, whose start has the value `value`,
 /// for `side` alone or for both, with the rows of each side that it has.
-pub(crate) fn rows_of<M: Moves>(
-    moves: &M,
+pub(crate) fn rows_of<V: ValueTable>(
+    moves: &GapMoves<'_, V>,
     alike: &Alike,
     value: Value,
     side: Option<Side>,
     labeller: Vec<LabellerClassRow>,
     adversary: Vec<AdversaryClassRow>,
-) -> MadeDocument
-    requires normal { IsNormalBy (M.board moves.now) alike.now }
-    requires start { IsConfiguration (M.board moves.now) (M.board moves.now).start }
-    requires value { HasValue (M.board moves.now) (M.board moves.now).start value }
+) -> MadeDocument<ClassProof>
+    requires normal { IsNormalBy moves.now alike.now }
+    requires start { IsConfiguration moves.now moves.now.start }
+    requires value { HasValue moves.now moves.now.start value }
     requires strategy { HasStrategy side value }
     requires labeller { AreClassRowsIf (asks_labeller_by (claim_by side (claim_of value)))
-        (M.board moves.now) (class_labeller_side (M.board moves.now) (normal_by
-        (M.board moves.now) alike.now) value) labeller.items }
+        moves.now (class_labeller_side moves.now (normal_by moves.now alike.now) value)
+        labeller.items }
     requires adversary { AreClassRowsIf (asks_adversary_by (claim_by side (claim_of value)))
-        (M.board moves.now) (class_adversary_side (M.board moves.now) (normal_by
-        (M.board moves.now) alike.now) value) adversary.items }
+        moves.now (class_adversary_side moves.now (normal_by moves.now alike.now) value)
+        adversary.items }
     ensures value { result.value ≡ value }
-    ensures document { IsDocumentOverFor side (M.board moves.now) (normal_by
-        (M.board moves.now) alike.now) (plain_class_proof (M.board moves.now) result.proof) }
-    ensures padded { AreClassPadded (M.board moves.now) result.proof }
+    ensures document { IsDocumentOverFor side moves.now (normal_by moves.now alike.now)
+        (plain_class_proof moves.now result.proof) }
+    ensures padded { AreClassPadded moves.now result.proof }
 {
     let proof = ClassProof {
         claim: claim_for(side, value),

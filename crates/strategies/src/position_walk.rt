@@ -1,11 +1,13 @@
 //! Walks over the positions of a board by their numbers.
 
-ghost use Rattle.std.specs.Prelude.{◌≡◌, ℕ, ◌<◌, List, None, slice_index_or};
+ghost use Rattle.std.specs.Prelude.{◌≡◌, ◌<◌, ℕ, List};
 ghost use Rattle.positions.specs.Game.{moved};
 ghost use Rattle.positions.specs.Value.{HasValue};
 ghost use Rattle.strategies.specs.Best.{IsBestFor, IsBestRequestIfAny};
+ghost use Rattle.strategies.specs.DocumentMoves.{IsAnswerable};
 ghost use Rattle.strategies.specs.Inside.NumberedPositions.{IsPosition, PositionKind};
 ghost use Rattle.strategies.specs.Inside.NumberedPositions.{position_number, over_kind};
+ghost use Rattle.strategies.specs.Inside.Sections.{AreTaken};
 
 use board_text::{Board, MAX_PEBBLES};
 use gap_values::Best;
@@ -41,6 +43,11 @@ pub(crate) trait PositionWalk: Drop {
         ensures kind { kind self.new ≡ kind self.old }
         ensures held { held self.new ≡ (over_kind (kind self.old)).numbering.places number };
 
+    /// Keeps no more best answers where it goes.
+    fn end_keeping(&mut self)
+        ensures kind { kind self.new ≡ kind self.old }
+        ensures held { held self.new ≡ held self.old };
+
     /// The number of the position after `pebble` is put on `label`.
     fn after(&self, pebble: u8, label: u16) -> u64
         requires pebble { pebble < (over_kind (kind self.now)).board.pebbles }
@@ -59,13 +66,13 @@ pub(crate) trait PositionWalk: Drop {
         requires { pebble < (over_kind (kind self.now)).board.pebbles }
         ensures { IsBestFor (over_kind (kind self.now)).board (held self.now) pebble result };
 
-    /// The value of the position, and the best answer to a request of each pebble, with the value
-    /// of its result, if a label is legal.
-    fn best_answers(&self) -> (Value, [Option<Best>; MAX_PEBBLES])
+    /// The value of the position, which is 1 or more, and the labels of the best answers there, for
+    /// each pebble.
+    fn best_labels(&self) -> (Value, [u16; MAX_PEBBLES])
+        requires { IsAnswerable (over_kind (kind self.now)).board (held self.now) }
         ensures value { HasValue (over_kind (kind self.now)).board (held self.now) result.0 }
-        ensures best { (pebble : ℕ) → pebble < (over_kind (kind self.now)).board.pebbles
-            → IsBestFor (over_kind (kind self.now)).board (held self.now) pebble
-            (slice_index_or result.1 pebble None) };
+        ensures labels { AreTaken (over_kind (kind self.now)).board (held self.now) result.1 }
+        ensures position { IsPosition (over_kind (kind self.now)) (held self.now) };
 
     /// The value of the position, and the best request, if the value is finite.
     fn best_request(&self) -> (Value, Option<u8>)

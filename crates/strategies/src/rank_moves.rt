@@ -1,19 +1,23 @@
 //! The best moves at configurations given by ranks, by tables that are made once.
 
-ghost use Rattle.std.specs.Prelude.{◌≡◌, ◌<◌, ◌≤◌, IfOk};
-ghost use Rattle.board_text.specs.PlainBoard.{IsBoard};
+ghost use Rattle.std.specs.Prelude.{◌≡◌, ◌-◌, ◌<◌, ◌≤◌, IfOk};
+ghost use Rattle.board_text.specs.PlainBoard.{IsBoard, IsConfiguration, places};
+ghost use Rattle.classes.specs.Lists.{AreClassLists};
+ghost use Rattle.classes.specs.Numbers.{ways};
 ghost use Rattle.positions.specs.Ranks.{configurations, configuration_at, rank_of};
-ghost use Rattle.strategies.specs.Best.{IsBestFor};
+ghost use Rattle.positions.specs.Value.{HasValue};
 ghost use Rattle.strategies.specs.Inside.MovesAt.{position};
-ghost use Rattle.strategies.specs.Inside.RankMoves.{AreBestOfAll};
-ghost use Rattle.strategies.specs.Inside.Walks.{AreFoundBelow, AreGapNumbers};
+ghost use Rattle.strategies.specs.Inside.RankMoves.{AreBestOfAll, IsBestOfNumber, class_of_gap};
 
 use crate::answer::Answer;
+use crate::gap_moves::GapMoves;
 use crate::gap_walk::GapWalk;
-use crate::moves::Moves;
-use board_text::{Board, MAX_PEBBLES, Memory};
-use classes::{Classes, MemberTables};
-use positions::{MAX_CONFIGURATIONS, Space};
+use crate::position_walk::PositionWalk;
+use crate::walk::Walk;
+use board_text::{Board, Memory};
+use classes::{ClassNumbers, MemberTables, Places};
+use gap_values::ValueTable;
+use positions::{MAX_CONFIGURATIONS, Space, Value};
 use std::alloc::Global;
 use std::marker::Model;
 
@@ -24,8 +28,6 @@ use std::marker::Model;
 pub(crate) struct RankMoves<'a> {
     board: &'a Board,
     space: &'a Space,
-    /// The rank of the start.
-    start: u32,
     members: MemberTables,
     /// The best answer of each gap, by the number of its class.
     best: Vec<Answer>,
@@ -39,36 +41,34 @@ impl<'a> Model for RankMoves<'a> {
 
     ghost view = { λ m. m.board.now };
 
-    ghost invariant = { λ m.
-        AreRankMoves m.board.now m.space.now m.members m.start m.best.items };
+    ghost invariant = { λ m. AreRankMoves m.board.now m.space.now m.members m.best.items };
 }
 
 impl<'a> RankMoves<'a> {
     /// The best moves by `moves`, on the board of `space`. The error is that memory ran out.
-    pub(crate) fn of<M: Moves>(
+    pub(crate) fn of<V: ValueTable>(
         alloc: Global,
-        moves: &'a M,
+        moves: &GapMoves<'a, V>,
         space: &'a Space,
     ) -> Result<RankMoves<'a>, Memory>
-        requires same_board { space.now ≡ M.board moves.now }
-        ensures { IfOk result (λ ranked. ranked ≡ M.board moves.now) }
+        requires same_board { space.now ≡ moves.now }
+        ensures { IfOk result (λ ranked. ranked ≡ moves.now) }
     {
         let board = moves.board();
-        let _ = space.pebbles();
-        let start = space.rank(board.start());
-        let classes = Classes::of(alloc, board)?;
+        let numbers = ClassNumbers::of(alloc, board)?;
+        let gaps = numbers.lists(alloc, space.pebbles() - 1)?;
         Ok(RankMoves {
             board,
             space,
-            start,
-            members: classes.member_tables(alloc, board)?,
-            best: best_of_gaps(alloc, moves, &classes)?,
+            members: numbers.member_tables(alloc, board)?,
+            best: best_of_gaps(alloc, moves, space, &gaps)?,
         })
     }
 
     /// The board.
     pub(crate) fn board(&self) -> &'a Board
-        ensures { result.now ≡ self.now }
+        ensures value { result.now ≡ self.now }
+        ensures is_board { IsBoard self.now }
     {
         self.board
     }
@@ -79,7 +79,6 @@ impl<'a> RankMoves<'a> {
         ensures is_board { IsBoard self.now }
         ensures few { configurations self.now ≤ MAX_CONFIGURATIONS }
     {
-        let _ = self.space.pebbles();
         self.space
     }
 
@@ -90,63 +89,52 @@ impl<'a> RankMoves<'a> {
         ensures is_board { IsBoard self.now }
         ensures few { configurations self.now ≤ MAX_CONFIGURATIONS }
     {
-        let _ = self.space.pebbles();
-        self.start
+        self.space.rank(self.board.start())
+    }
+
+    /// The value of the start.
+    pub(crate) fn start_value(&self) -> Value
+        ensures value { HasValue self.now self.now.start result }
+        ensures start { IsConfiguration self.now self.now.start }
+        ensures few { configurations self.now ≤ MAX_CONFIGURATIONS }
+    {
+        let (value, _) = Walk::at(self, self.start()).best_request();
+        value
     }
 
     /// A walk that gives gaps, at the configuration of `rank`.
     pub(crate) fn gaps_at(&self, rank: u32) -> GapWalk<'_>
         requires { rank < configurations self.now }
-        ensures { result ≡ position self.now (configuration_at self.now rank) }
+        ensures walk { result ≡ position self.now (configuration_at self.now rank) }
+        ensures few { configurations self.now ≤ MAX_CONFIGURATIONS }
     {
         GapWalk::at(self.space, &self.members, rank)
     }
 
-    /// The best answer to a request of `pebble` at the configuration of `walk`, if there is one.
-    /// The numbers of the gaps there are `gaps`.
-    pub(crate) fn best_at(
-        &self,
-        walk: &GapWalk<'_>,
-        gaps: &[u32; MAX_PEBBLES],
-        pebble: u8,
-    ) -> Answer
-        requires same_board { walk.now.board ≡ self.now }
-        requires gaps { AreGapNumbers walk.now.held self.now.pebbles gaps.now }
-        requires pebble { pebble < self.now.pebbles }
-        ensures { IsBestFor self.now walk.now.held pebble result }
+    /// The best answer to each request whose gap has the class of this `number`, if there is one.
+    pub(crate) fn best_of_gap(&self, number: u32) -> Answer
+        requires { number < ways (self.now.pebbles - 1) (places self.now) }
+        ensures { IsBestOfNumber class_of_gap self.now number result }
     {
-        let _ = walk.pebbles();
-        self.best[gaps[pebble as usize] as usize]
-    }
-
-    /// Puts the best answer to a request of each pebble at the configuration of `walk` into
-    /// `answers`.
-    pub(crate) fn put_answers(&self, walk: &GapWalk<'_>, answers: &mut [Answer; MAX_PEBBLES])
-        requires same_board { walk.now.board ≡ self.now }
-        ensures { AreFoundBelow self.now walk.now.held self.now.pebbles answers.new }
-    {
-        let gaps = walk.gaps();
-        for pebble in 0..walk.pebbles() {
-            answers[pebble as usize] = self.best_at(walk, &gaps, pebble);
-        }
+        self.best[number as usize]
     }
 }
 
-/// The best answer of each gap by `moves`, by the number of its class.
-fn best_of_gaps<M: Moves>(
+/// The best answer of each of the `gaps`, which are all of the board, by `moves`.
+fn best_of_gaps<V: ValueTable>(
     alloc: Global,
-    moves: &M,
-    classes: &Classes,
+    moves: &GapMoves<'_, V>,
+    space: &Space,
+    gaps: &[Places],
 ) -> Result<Vec<Answer>, Memory>
-    requires same_board { classes.now ≡ M.board moves.now }
-    requires few { configurations classes.now ≤ MAX_CONFIGURATIONS }
-    ensures { IfOk result (λ best. AreBestOfAll classes.now best.items) }
+    requires same_board { space.now ≡ moves.now }
+    requires gaps { AreClassLists (places space.now) (space.now.pebbles - 1) gaps.now }
+    ensures { IfOk result (λ best. AreBestOfAll space.now best.items) }
 {
-    let lists = classes.lists(alloc, classes.pebbles() - 1)?;
-    let mut best = Vec::with_capacity(alloc, lists.len())?;
-    for index in 0..lists.len() {
+    let mut best = Vec::with_capacity(alloc, gaps.len())?;
+    for index in 0..gaps.len() {
         // Whichever place the pebble has, the gap is the same.
-        let held = lists[index].with_greatest(classes.places() - 1);
+        let held = gaps[index].with_first(space.places() - 1);
         best.push(Answer::of(moves.best(held.as_slice(), 0)))?;
     }
     Ok(best)

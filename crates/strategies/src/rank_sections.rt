@@ -13,11 +13,10 @@ ghost use Rattle.strategies.specs.Inside.Side.{labeller_side};
 
 use crate::marked_numbers::MarkedNumbers;
 use crate::marks::Marks;
-use crate::moves_here::MovesHere;
 use crate::position_walk::PositionWalk;
 use crate::rank_moves::RankMoves;
 use crate::reached_numbers::ReachedNumbers;
-use crate::sections::{SectionRow, best_labels, reached, section, turns};
+use crate::sections::{SectionRow, reached, section, turns};
 use crate::steps::{add_answers, add_results};
 use crate::walk::Walk;
 use board_text::Memory;
@@ -111,7 +110,7 @@ impl SectionRow for LabellerRow {
     }
 
     fn at<W: PositionWalk>(here: &W, number: u64, start: Value) -> Option<LabellerRow> {
-        let (value, take) = best_labels(here);
+        let (value, take) = here.best_labels();
         Some(LabellerRow {
             at: number as u32,
             turns: turns(start, value),
@@ -165,7 +164,7 @@ impl LineRow for LabellerRow {
         words: &PlaceWords,
         text: &mut RowText,
     ) -> Result<(), AllocError> {
-        let pebbles = here.pebbles() as usize;
+        let pebbles = here.board().pebbles() as usize;
         text.push_answer(words, here.held(), self.turns, &self.take[..pebbles])
     }
 }

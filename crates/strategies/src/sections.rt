@@ -1,16 +1,14 @@
 //! The sections of a document: a row for each position that was reached.
 
-ghost use Rattle.std.specs.Prelude.{◌≡◌, ◌↔◌, ◌≤◌, All, IfErr, IfOk, IsTrue};
-ghost use Rattle.positions.specs.Value.{HasValue};
+ghost use Rattle.std.specs.Prelude.{◌≡◌, ◌↔◌, All, IfErr, IfOk, IsTrue};
 ghost use Rattle.positions.specs.declared.value.Value.{Value as ValueData};
-ghost use Rattle.strategies.specs.DocumentMoves.{IsAnswerable};
 ghost use Rattle.strategies.specs.Inside.NumberedPositions.{AreExpanded, AreNumberedPositions};
 ghost use Rattle.strategies.specs.Inside.NumberedPositions.{HasRoomForEach};
-ghost use Rattle.strategies.specs.Inside.NumberedPositions.{IsPosition, IsSideOf};
+ghost use Rattle.strategies.specs.Inside.NumberedPositions.{IsSideOf};
 ghost use Rattle.strategies.specs.Inside.NumberedPositions.{NumberedPositions, PositionKind};
 ghost use Rattle.strategies.specs.Inside.NumberedPositions.{SideMoves, over_kind};
 ghost use Rattle.strategies.specs.Inside.Reached.{AreReachedWith, NothingIsReached};
-ghost use Rattle.strategies.specs.Inside.Sections.{AreTaken, HasNoSection};
+ghost use Rattle.strategies.specs.Inside.Sections.{HasNoSection};
 ghost use Rattle.strategies.specs.Inside.Side.{AreReached, AreRowsAt, AreSection, IsRowAt};
 ghost use Rattle.strategies.specs.Inside.Side.{MayStandAt, Side};
 ghost use Rattle.strategies.specs.PositionDocument.{turns_of};
@@ -18,7 +16,7 @@ ghost use Rattle.strategies.specs.PositionDocument.{turns_of};
 use crate::position_walk::PositionWalk;
 use crate::reached_numbers::ReachedNumbers;
 use crate::unmade::Unmade;
-use board_text::{MAX_PEBBLES, Memory};
+use board_text::Memory;
 use positions::{Turns, Value};
 use std::alloc::Global;
 
@@ -130,6 +128,7 @@ pub(crate) fn section<R: SectionRow, W: PositionWalk, S: ReachedNumbers>(
         (R.side (over_kind (W.kind here.old)) start) (S.room set).most) }
 {
     let numbers = reached::<R, W, S>(here, set, expanded)?.in_order(alloc)?;
+    here.end_keeping();
     let rows = rows_at(alloc, here, start, &numbers)?;
     Ok(rows)
 }
@@ -155,25 +154,6 @@ pub(crate) fn rows_at<R: SectionRow, W: PositionWalk>(
         }
     }
     Ok(rows)
-}
-
-/// The value of the position where `here` is, of value 1 or more, and the labels of the best
-/// answers
-/// there, for each pebble.
-pub(crate) fn best_labels<W: PositionWalk>(here: &W) -> (Value, [u16; MAX_PEBBLES])
-    requires { IsAnswerable (over_kind (W.kind here.now)).board (W.held here.now) }
-    ensures value { HasValue (over_kind (W.kind here.now)).board (W.held here.now) result.0 }
-    ensures labels { AreTaken (over_kind (W.kind here.now)).board (W.held here.now) result.1 }
-    ensures position { IsPosition (over_kind (W.kind here.now)) (W.held here.now) }
-{
-    let (value, answers) = here.best_answers();
-    let mut labels = [0; MAX_PEBBLES];
-    for pebble in 0..here.board().pebbles() {
-        if let Some(best) = answers[pebble as usize] {
-            labels[pebble as usize] = best.label;
-        }
-    }
-    (value, labels)
 }
 
 /// The turns for which places with `value` are listed, if the start has the value `start`.

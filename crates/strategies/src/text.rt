@@ -14,13 +14,12 @@ ghost use Rattle.strategies.specs.Inside.Lines.{section_lines_text};
 ghost use Rattle.strategies.specs.Inside.Side.{Side, labeller_side, adversary_side};
 ghost use Rattle.strategies.specs.Sides.{HasStrategy, claim_for as claim_by};
 
+use crate::gap_moves::GapMoves;
 use crate::lines::{Lines, section_lines, section_lines_in_parts};
-use crate::moves::Moves;
-use crate::moves_here::MovesHere;
 use crate::rank_moves::RankMoves;
 use crate::sides::{asks_adversary, asks_labeller, claim_for};
-use crate::walk::Walk;
 use board_text::Memory;
+use gap_values::ValueTable;
 use positions::{MAX_CONFIGURATIONS, Side, Space, Value};
 use proof_text::{AdversaryRow, LabellerRow, PlaceWords, RowText, first_lines};
 use std::alloc::Global;
@@ -36,20 +35,19 @@ pub struct DocumentText {
 
 /// The text of the document of the board of `moves`, whose configurations and gaps are those of
 /// `space`: the bytes that `print` gives of the document that `document` gives.
-pub fn document_text<M: Moves>(
+pub fn document_text<V: ValueTable>(
     alloc: Global,
-    moves: &M,
+    moves: &GapMoves<'_, V>,
     space: &Space,
 ) -> Result<DocumentText, Memory>
-    requires same_board { space.now ≡ M.board moves.now }
-    ensures value { IfOk result (λ made.
-        HasValue (M.board moves.now) (M.board moves.now).start made.value) }
-    ensures text { IfOk result (λ made. IsDocumentText None (M.board moves.now)
+    requires same_board { space.now ≡ moves.now }
+    ensures value { IfOk result (λ made. HasValue moves.now moves.now.start made.value) }
+    ensures text { IfOk result (λ made. IsDocumentText None moves.now
         (flat_map (λ part. part.items) made.parts.items)) }
 {
     let ranked = RankMoves::of(alloc, moves, space)?;
     let words = PlaceWords::of(alloc, space.labels())?;
-    let value = Walk::at(&ranked, ranked.start()).value();
+    let value = ranked.start_value();
     let labeller = section_lines::<LabellerRow>(alloc, &ranked, &words, value)?;
     let adversary = match value {
         Value::Finite(_) => section_lines::<AdversaryRow>(alloc, &ranked, &words, value)?,
@@ -63,26 +61,25 @@ pub fn document_text<M: Moves>(
 /// many configurations.
 ///
 /// The adversary can't be asked for alone if requests are answered for ever from the start.
-pub fn document_text_in_parts<M: Moves>(
+pub fn document_text_in_parts<V: ValueTable>(
     rt: &(impl Threads + Sync),
     alloc: Global,
-    moves: &M,
+    moves: &GapMoves<'_, V>,
     space: &Space,
     side: Option<Side>,
     parts: u32,
 ) -> Result<DocumentText, Memory>
-    requires same_board { space.now ≡ M.board moves.now }
+    requires same_board { space.now ≡ moves.now }
     requires strategy { (value : ValueData)
-        → HasValue (M.board moves.now) (M.board moves.now).start value → HasStrategy side value }
+        → HasValue moves.now moves.now.start value → HasStrategy side value }
     requires parts { 1 ≤ parts }
-    ensures value { IfOk result (λ made.
-        HasValue (M.board moves.now) (M.board moves.now).start made.value) }
-    ensures text { IfOk result (λ made. IsDocumentText side (M.board moves.now)
+    ensures value { IfOk result (λ made. HasValue moves.now moves.now.start made.value) }
+    ensures text { IfOk result (λ made. IsDocumentText side moves.now
         (flat_map (λ part. part.items) made.parts.items)) }
 {
     let ranked = RankMoves::of(alloc, moves, space)?;
     let words = PlaceWords::of(alloc, space.labels())?;
-    let value = Walk::at(&ranked, ranked.start()).value();
+    let value = ranked.start_value();
     let claim = claim_for(side, value);
     let labeller = if asks_labeller(claim) {
         section_lines_in_parts::<LabellerRow>(rt, alloc, &ranked, &words, value, parts)?

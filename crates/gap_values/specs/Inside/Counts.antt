@@ -10,7 +10,7 @@ use Rattle.classes.specs.Weights.{HasWeight}
 use Rattle.gap_values.specs.declared.closing.TheConstants.{OPEN}
 use Rattle.gap_values.specs.declared.sizes.Sizes.{Sizes}
 use Rattle.gap_values.specs.declared.weight.FamilyWeights.{FamilyWeights}
-use Rattle.gap_values.specs.Inside.Families.{IsEdge}
+use Rattle.classes.specs.FamilyWalks.{IsEdge}
 use Rattle.gap_values.specs.Inside.Words.{least_word}
 
 -- a number above each word that stands for a round

@@ -1,21 +1,26 @@
 -- The words of a table of gaps.
-use Rattle.std.specs.Prelude.{◌≡◌, ℕ, zero, suc, ◌-◌, nat_lt, if◌then◌else◌, List, length}
+use Rattle.std.specs.Prelude.{◌≡◌, ℕ, zero, suc, ◌-◌, ◌<◌, nat_lt, if◌then◌else◌, List, length}
 use Rattle.std.specs.Prelude.{slice_index}
 use Rattle.std.specs.List.{remove}
 use Rattle.board_text.specs.PlainBoard.{PlainBoard, places}
 use Rattle.positions.specs.declared.value.Value.{Value}
-use Rattle.classes.specs.Numbers.{ways, class_number}
-use Rattle.gap_values.specs.GapTables.{IsGapTable}
+use Rattle.classes.specs.Numbers.{ways, number_by_greatest}
+use Rattle.gap_values.specs.GapTables.{IsClosedBefore, IsGapTable}
 use Rattle.gap_values.specs.RoundWords.{round_of_word}
 use Rattle.gap_values.specs.declared.closing.TheConstants.{OPEN}
 
 -- the table of gaps that these words are
 abbrev pub gap_table : List ℕ → List ℕ → Value
-gap_table words gap = round_of_word (slice_index words (class_number gap))
+gap_table words gap = round_of_word (slice_index words (number_by_greatest gap))
 
 -- a word for each gap of the board
 abbrev pub AreGapWords : PlainBoard → List ℕ → Type 0
 AreGapWords board words = length words ≡ ways (board.pebbles - 1) (places board)
+
+-- the gap is before the end, and closed in a round before the bound
+abbrev pub IsClosedUpTo : List ℕ → ℕ → ℕ → ℕ → Type 0
+IsClosedUpTo words bound end gap = (gap < end)
+    × IsClosedBefore (round_of_word (slice_index words gap)) bound
 
 -- the words are those of a table of gaps
 pub record AreRounds (board : PlainBoard) (words : List ℕ) : Type 0 where
@@ -24,7 +29,7 @@ pub record AreRounds (board : PlainBoard) (words : List ℕ) : Type 0 where
 
 -- the word of the gap that leaves out the place at an index
 abbrev pub word_without : List ℕ → List ℕ → ℕ → ℕ
-word_without words class index = slice_index words (class_number (remove class index))
+word_without words class index = slice_index words (number_by_greatest (remove class index))
 
 -- the least of the words of the gaps at the places of a class before an index, or the greatest word
 unfoldable pub least_word : List ℕ → List ℕ → ℕ → ℕ

@@ -1,7 +1,6 @@
 -- The text that one turn of a play writes.
-use Rattle.std.specs.Prelude.{◌≡◌, ℕ, List, ◌++◌, Option}
-use Rattle.std.specs.Io.KnownBytes.{Appends, Keeps}
-use Rattle.board_text.specs.Streams.{AppendsPrefix}
+use Rattle.std.specs.Prelude.{◌≡◌, ℕ, List, ◌++◌}
+use Rattle.board_text.specs.Streams.{AppendsAll, AppendsPrefix, AreAsBefore, Bytes}
 use Rattle.player.specs.Inside.Words.{Spells}
 use Rattle.player.specs.Transcript.{Game, Standing, IsResponse}
 use Rattle.player.specs.declared.line_meaning.LineMeaning.{LineMeaning}
@@ -18,13 +17,11 @@ abbrev pub AddsText : List ℕ → List ℕ → (List ℕ → Type 0) → Type 0
 AddsText old new IsRight = (said : List ℕ) × (new ≡ old ++ said) × IsRight said
 
 -- a text was written, and it is right
-abbrev pub Writes : Option (List ℕ) → Option (List ℕ) → (List ℕ → Type 0) → Type 0
-Writes taken_old taken_new IsRight =
-    (said : List ℕ) × Appends taken_old taken_new said × IsRight said
+abbrev pub Writes : Bytes → (List ℕ → Type 0) → Type 0
+Writes taken IsRight = (said : List ℕ) × AppendsAll taken said × IsRight said
 
 -- why a right text wasn't written whole
-abbrev pub FailsToWrite : Option (List ℕ) → Option (List ℕ) → (List ℕ → Type 0) → PlayFault → Type 0
-FailsToWrite taken_old taken_new IsRight Write =
-    (said : List ℕ) × AppendsPrefix taken_old taken_new said × IsRight said
-FailsToWrite taken_old taken_new IsRight Memory = Keeps taken_old taken_new
-FailsToWrite taken_old taken_new IsRight fault = ⊥
+abbrev pub FailsToWrite : Bytes → (List ℕ → Type 0) → PlayFault → Type 0
+FailsToWrite taken IsRight Write = (said : List ℕ) × AppendsPrefix taken said × IsRight said
+FailsToWrite taken IsRight Memory = AreAsBefore taken
+FailsToWrite taken IsRight fault = ⊥

@@ -12,24 +12,24 @@ use Rattle.symmetries.specs.AlikeTables.{AlikeBy}
 use Rattle.symmetries.specs.Elements.{least_by}
 use Rattle.proof_text.specs.declared.symmetry_proof.Images.{Images}
 use Rattle.proof_check.specs.ClassFaults.{order_refusals}
-use Rattle.proof_check.specs.ClassNumbers.{AreNumbersOfRows}
+use Rattle.proof_check.specs.RowNumbers.{AreNumbersOfRows}
 use Rattle.proof_check.specs.Refusals.{Refusals}
 use Rattle.proof_check.specs.declared.class_fault.ClassFault.{ClassFault}
-use Rattle.proof_check.specs.declared.row_numbers.ClassNumbers.{ClassNumbers}
+use Rattle.proof_check.specs.declared.row_numbers.RowNumbers.{RowNumbers}
 
 -- the faults of a document whose rows are for places up to the elements
 abbrev pub refusals_by : PlainBoard → List Images → Refusals ClassFault
 refusals_by board group = order_refusals board.labels (least_by board.labels group)
 
 -- a document for the board, with the numbers of its rows, and symmetries of as many labels
-pub record IsClassReady (board : PlainBoard) (proof : ClassProof) (numbers : ClassNumbers)
+pub record IsClassReady (board : PlainBoard) (proof : ClassProof) (numbers : RowNumbers)
     (alike : AlikeBy) : Type 0 where
   pub document : IsClassDocument board proof
   pub numbers_are : AreNumbersOfRows board proof numbers
   pub same_labels : alike.labels ≡ board.labels
 
 -- a labeller's row of a document is ready to be checked
-pub record IsClassAnswering (board : PlainBoard) (proof : ClassProof) (numbers : ClassNumbers)
+pub record IsClassAnswering (board : PlainBoard) (proof : ClassProof) (numbers : RowNumbers)
     (alike : AlikeBy)
     (row : LabellerClassRow) : Type 0 where
   pub ready : IsClassReady board proof numbers alike
@@ -39,7 +39,7 @@ pub record IsClassAnswering (board : PlainBoard) (proof : ClassProof) (numbers :
   pub gives : (pebble : ℕ) → pebble < board.pebbles → slice_index row.take pebble < board.labels
 
 -- an adversary's row of a document is ready to be checked
-pub record IsClassRequesting (board : PlainBoard) (proof : ClassProof) (numbers : ClassNumbers)
+pub record IsClassRequesting (board : PlainBoard) (proof : ClassProof) (numbers : RowNumbers)
     (alike : AlikeBy)
     (row : AdversaryClassRow) : Type 0 where
   pub ready : IsClassReady board proof numbers alike

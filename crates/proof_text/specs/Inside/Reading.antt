@@ -19,7 +19,7 @@ use Rattle.proof_text.specs.RowFaults.{SpellsTurns}
 use Rattle.proof_text.specs.declared.row_words.AnswerValues.{AnswerValues}
 use Rattle.proof_text.specs.declared.row_words.RequestValues.{RequestValues}
 use Rattle.proof_text.specs.declared.row_words.ClassRequestValues.{ClassRequestValues}
-use Rattle.proof_text.specs.declared.proof.TheConstants.{MOST_TURNS}
+use Rattle.proof_text.specs.declared.proof.TheConstants.{MAX_TURNS}
 
 -- the words of a configuration, and the rest
 abbrev pub position_text : List (List ℕ) → List ℕ → List ℕ
@@ -82,7 +82,7 @@ TakesMapWords labels (Some (are, images)) old new =
 pub record RequestSpelled (labels bound pebbles : ℕ) (words : RequestWords) (values : RequestValues)
     (at : List ℕ) : Type 0 where
   pub places : SpellPlaces labels bound words.at values.are_places at
-  pub number : NumberOf (MOST_TURNS + 1) words.left values.left
+  pub number : NumberOf (MAX_TURNS + 1) words.left values.left
   pub pebble : NumberOf pebbles words.ask values.ask
 
 -- The words of an adversary's row were taken.
@@ -99,7 +99,7 @@ pub record ClassRequestSpelled (labels bound : ℕ) (words : ClassRequestWords)
     (values : ClassRequestValues)
     (at asked : List ℕ) : Type 0 where
   pub places : SpellPlaces labels bound words.at values.are_places at
-  pub number : NumberOf (MOST_TURNS + 1) words.left values.left
+  pub number : NumberOf (MAX_TURNS + 1) words.left values.left
   pub ask : SpellPlaces labels bound words.ask values.is_place asked
 
 -- The words of an adversary's row by classes were taken.

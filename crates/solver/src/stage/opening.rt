@@ -86,25 +86,15 @@ fn first_words(alloc: Global, graph: &Graph, counts: &[u32]) -> Result<Vec<u32>,
     ensures { IfOk result (λ words. AreFirstWords (graph_of graph.now) words.items) }
 {
     let mut words = vec![in alloc; OPEN; graph.configurations() as usize]?;
-    zero_stuck(&mut words, graph, counts);
+    if graph.zero_families(counts, &mut words) {
+        return Ok(words);
+    }
+    zero_by_gaps(&mut words, graph, counts);
     Ok(words)
 }
 
-/// Writes 0 as the word of each configuration of which a request has no answer. All words are
-/// `OPEN`.
-fn zero_stuck(words: &mut [u32], graph: &Graph, counts: &[u32])
-    requires counts { IsCounted (graph_of graph.now) (lasts (graph_of graph.now) 0) counts.now }
-    requires open { words.old ≡ replicate (graph_of graph.now).configurations OPEN }
-    ensures { AreFirstWords (graph_of graph.now) words.new }
-{
-    let _ = graph.configurations();
-    if graph.zero_families(counts, words) {
-        return;
-    }
-    zero_by_gaps(words, graph, counts);
-}
-
-/// The same, gap by gap.
+/// Writes 0 as the word of each configuration of which a request has no answer, gap by gap. All
+/// words are `OPEN`.
 fn zero_by_gaps(words: &mut [u32], graph: &Graph, counts: &[u32])
     requires counts { IsCounted (graph_of graph.now) (lasts (graph_of graph.now) 0) counts.now }
     requires open { words.old ≡ replicate (graph_of graph.now).configurations OPEN }

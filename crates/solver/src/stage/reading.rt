@@ -109,7 +109,7 @@ impl<S: ListStore> Stage<S> {
     {
         let mut found = Vec::with_capacity(alloc, ranks.len())?;
         for rank in ranks {
-            if self.graph.struck(*rank).is_some() {
+            if self.graph.answered_gap(*rank).is_some() {
                 found.push_reserved(*rank);
             }
         }

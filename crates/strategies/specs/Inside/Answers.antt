@@ -1,11 +1,13 @@
 -- A best answer as two numbers: its label, and how many requests can be answered if it is the first
 -- answer.
-use Rattle.std.specs.Prelude.{◌≡◌, ℕ, zero, suc, ◌≤◌, nat_lt, if◌then◌else◌, Option, Some, None}
+use Rattle.std.specs.Prelude.{◌≡◌, ◌⊎◌, ℕ, zero, suc, ◌≤◌, nat_lt, if◌then◌else◌, Option, Some}
+use Rattle.std.specs.Prelude.{None}
 use Rattle.std.proofs.Common.{◌<◌, inl, inr, refl, sym, ap, ◌∙◌, lt-ltb, le-ltb, arith}
 use Rattle.std.proofs.lemmas.Bool.{cases_lt}
 use Rattle.positions.specs.declared.value.Value.{Value}
 use Rattle.positions.specs.declared.value.Value.TheVariants.{Finite, Forever}
 use Rattle.gap_values.specs.declared.value_table.Best.{Best}
+use Rattle.strategies.specs.Best.{IsLess}
 use Rattle.strategies.specs.declared.answer.TheConstants.{ENDLESS}
 
 -- the value of a configuration at which this number of requests can be answered
@@ -35,6 +37,11 @@ requests_before Forever = ENDLESS
 abbrev pub requests_of : Option Best → ℕ
 requests_of (Some best) = requests_before best.value
 requests_of None = 0
+
+-- the second value if it is less than the first, which it is else
+abbrev pub IsLesser : Value → Value → Value → Type 0
+IsLesser first second lesser = ((lesser ≡ second) × IsLess second first)
+    ⊎ ((lesser ≡ first) × ¬ IsLess second first)
 
 -- a number of 32 bits, and the label 0 without an answer
 pub record IsAnswerInNumbers (label requests : ℕ) : Type 0 where

@@ -3,7 +3,7 @@ use Rattle.std.specs.Prelude.{◌≡◌, ℕ, zero, suc, ◌+◌, ◌<◌, ◌�
 use Rattle.std.specs.List.{remove}
 use Rattle.board_text.specs.PlainBoard.{PlainBoard, IsConfiguration}
 use Rattle.positions.specs.Ranks.{configurations, configuration_at, digits_of, rank_of}
-use Rattle.proof_text.specs.Arranged.{order_number}
+use Rattle.proof_text.specs.Arranged.{document_number}
 
 -- numbers of places
 pub record Numbering : Type 1 where
@@ -35,16 +35,16 @@ class_numbered board number =
 -- the number is that of the places of a configuration
 pub record IsClassNumber (board : PlainBoard) (number : ℕ) : Type 0 where
   pub is : IsConfiguration board (class_numbered board number)
-  pub number_is : order_number board.labels (class_numbered board number) ≡ number
+  pub number_is : document_number board.labels (class_numbered board number) ≡ number
 
 -- the number of the gap of a pebble: that of the label 0 and of the other pebbles' places after it
 abbrev pub number_of_gap : PlainBoard → List ℕ → ℕ → ℕ
-number_of_gap board held pebble = order_number board.labels (0 ∷ remove held pebble)
+number_of_gap board held pebble = document_number board.labels (0 ∷ remove held pebble)
 
 -- places by their numbers in the order of documents
 abbrev pub by_order : PlainBoard → Numbering
 by_order board = record {
-  number = order_number board.labels;
+  number = document_number board.labels;
   places = class_numbered board;
   IsNumber = IsClassNumber board;
 }

@@ -1,17 +1,15 @@
 -- Walks over configurations by ranks: those that differ in the last pebble's place alone.
-use Rattle.std.specs.Prelude.{◌≡◌, ℕ, ◌+◌, ◌-◌, ◌*◌, ◌<◌, ◌≤◌, List, length, Option, None}
+use Rattle.std.specs.Prelude.{◌≡◌, ℕ, ◌+◌, ◌-◌, ◌*◌, ◌<◌, ◌≤◌, List, length}
 use Rattle.std.specs.Prelude.{slice_index, take}
-use Rattle.std.specs.Prelude.{slice_index_or}
 use Rattle.std.specs.List.{remove}
 use Rattle.board_text.specs.PlainBoard.{PlainBoard, IsConfiguration, places}
 use Rattle.board_text.specs.declared.board.TheConstants.{MAX_PEBBLES}
 use Rattle.positions.specs.Game.{moved}
 use Rattle.positions.specs.Ranks.{configurations, configuration_at}
+use Rattle.positions.specs.declared.space.TheConstants.{MAX_CONFIGURATIONS}
 use Rattle.classes.specs.Classes.{class_of}
 use Rattle.classes.specs.ClassGaps.{gap_at}
-use Rattle.classes.specs.Numbers.{class_number}
-use Rattle.gap_values.specs.declared.value_table.Best.{Best}
-use Rattle.strategies.specs.Best.{IsBestFor}
+use Rattle.classes.specs.Numbers.{number_by_greatest}
 use Rattle.strategies.specs.Inside.MovesAt.{HeldPosition}
 
 -- the places of all pebbles but the last
@@ -24,13 +22,13 @@ pub record AreNumberRows (held : List ℕ) (bound : ℕ) (rests : List ℕ) : Ty
   pub room : length rests ≡ 36
   pub rows : (size : ℕ) → size < bound → (pebble : ℕ) → pebble ≤ size
       → slice_index rests (MAX_PEBBLES * size + pebble)
-      ≡ class_number (class_of (remove (take size held) pebble))
+      ≡ number_by_greatest (class_of (remove (take size held) pebble))
 
 -- for each pebble below a bound, the number of the class of its gap
 pub record AreGapNumbers (held : List ℕ) (bound : ℕ) (numbers : List ℕ) : Type 0 where
   pub room : length numbers ≡ MAX_PEBBLES
   pub each : (pebble : ℕ) → pebble < bound
-      → slice_index numbers pebble ≡ class_number (gap_at held pebble)
+      → slice_index numbers pebble ≡ number_by_greatest (gap_at held pebble)
 
 -- tables for the same board, and from the first rank on its configurations that differ in the last
 -- pebble's place alone, by that place
@@ -42,17 +40,9 @@ pub record IsGapWalk (board members : PlainBoard) (held : List ℕ) (first : ℕ
       → configuration_at board (first + place) ≡ moved held (board.pebbles - 1) place
   pub numbers : AreNumberRows held board.pebbles rests
 
--- the best answers to requests of the pebbles below a bound are in their places
-pub record AreFoundBelow (board : PlainBoard) (held : List ℕ) (bound : ℕ)
-    (answers : List (Option Best)) : Type 0 where
-  pub room : length answers ≡ MAX_PEBBLES
-  pub best : (pebble : ℕ) → pebble < bound
-      → IsBestFor board held pebble (slice_index_or answers pebble None)
-
--- the best answers to requests of all pebbles at the configuration of the rank
-pub record IsBestWalk (board : PlainBoard) (rank : ℕ) (position : HeldPosition)
-    (answers : List (Option Best)) : Type 0 where
+-- the position is the configuration of the rank, on a board of the limits
+pub record IsBestWalk (board : PlainBoard) (rank : ℕ) (position : HeldPosition) : Type 0 where
   pub same_board : position.board ≡ board
   pub below : rank < configurations board
   pub held_is : position.held ≡ configuration_at board rank
-  pub found : AreFoundBelow board position.held board.pebbles answers
+  pub few : configurations board ≤ MAX_CONFIGURATIONS

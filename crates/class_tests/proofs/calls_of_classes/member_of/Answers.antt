@@ -14,7 +14,7 @@ held c =
 pub member-requires-clause-small : goal.member-requires-clause-small
 member-requires-clause-small c =
     let size = (held c).size in
-    omega (arith, size, c.pebbles.ensures.is_board.pebbles.0)
+    omega (arith, size, c.requires.some)
 
 pub member-requires-clause-is_class : goal.member-requires-clause-is_class
 member-requires-clause-is_class c = (held c).is_class

@@ -14,7 +14,7 @@ held c =
 pub members-walk-requires-clause-small : goal.members-walk-requires-clause-small
 members-walk-requires-clause-small c =
     let size = (held c).size in
-    omega (arith, size, c.pebbles.ensures.is_board.pebbles.0)
+    omega (arith, size, c.requires.some)
 
 pub members-walk-requires-clause-is_class : goal.members-walk-requires-clause-is_class
 members-walk-requires-clause-is_class c = (held c).is_class

@@ -4,12 +4,12 @@ use Rattle.std.proofs.lemmas.Bool.{cases_eq}
 use Rattle.std.proofs.lemmas.List.{length-set, get_or-set_other, get_or-set_same}
 use Rattle.board_text.specs.PlainBoard.{places}
 use Rattle.classes.specs.Classes.{IsClass}
-use Rattle.classes.specs.Numbers.{class_number}
+use Rattle.classes.specs.Numbers.{number_by_greatest}
 use Rattle.classes.proofs.Cited.{is-below, with-is, with-number}
 use Rattle.gap_values.specs.Inside.ClassRounds.{IsRoundOf}
-use Rattle.gap_values.specs.Inside.Families.{IsAtFamily}
+use Rattle.classes.specs.FamilyWalks.{IsAtFamily}
 use Rattle.gap_values.proofs.ClassRounds.{rounds-table}
-use Rattle.gap_values.proofs.FamilyMembers.{walk-of}
+use Rattle.classes.proofs.Cited.{walk-of}
 use Rattle.gap_values.proofs.RoundSteps.{gap_count, gap_with}
 use Rattle.gap_values.proofs.class_rounds.rounds_of_classes.Goals as goal
 use Rattle.gap_values.proofs.class_rounds.rounds_of_classes.Goals.{In-loop-number}
@@ -63,9 +63,10 @@ pub returns : goal.returns
 returns c =
     let b = c.args.board.now in
     rounds-table b c.args.words.now c.loop-number.rounds.items c.pebbles.ensures.is_board c.requires.words
-    (λ gap is. subst (λ g. IsRoundOf b c.args.words.now g (get_or c.loop-number.rounds.items (class_number gap) 0))
+    (λ gap is. subst (λ g. IsRoundOf b c.args.words.now g
+    (get_or c.loop-number.rounds.items (number_by_greatest gap) 0))
     (with-number (places b) (b.pebbles - 1) gap is)
-    (c.loop-number.invariant.each (class_number gap)
+    (c.loop-number.invariant.each (number_by_greatest gap)
     (let low = is-below (places b) (b.pebbles - 1) gap is in
     let all = c.gaps-number-end.ensures.value ∙ ap gap_count c.requires.board in
     omega (arith, low, all, c.loop-number-test.false)))) c.loop-number.invariant.size

@@ -1,6 +1,6 @@
 use Rattle.std.proofs.Common.{◌≡◌, ◌-◌, ◌<◌, ℕ, get_or}
 use Rattle.gap_values.specs.Inside.ClassRounds.{IsRoundOf}
-use Rattle.gap_values.specs.Inside.Families.{IsAtFamily}
+use Rattle.classes.specs.FamilyWalks.{IsAtFamily}
 use Rattle.gap_values.specs.Inside.Words.{AreGapWords}
 use Rattle.gap_values.proofs.RoundSteps.{gap_with}
 use Rattle.gap_values.proofs.class_rounds.rounds_of_classes.Given as goal

@@ -2,35 +2,36 @@ use Rattle.std.proofs.Common.{◌≡◌, ◌<◌, ◌≤◌, length, get_or, ap,
 use Rattle.board_text.specs.PlainBoard.{places}
 use Rattle.classes.specs.Classes.{IsClass}
 use Rattle.classes.specs.ClassGaps.{member_with}
-use Rattle.classes.specs.Numbers.{class_count, class_number}
+use Rattle.classes.specs.Numbers.{class_count, number_by_greatest}
 use Rattle.classes.proofs.Cited.{is-below, length-class_of, ways-fit}
 use Rattle.gap_values.proofs.Words.{result-class, result-is}
 use Rattle.gap_values.proofs.class_rounds.word_of_result.Goals as goal
 use Rattle.gap_values.proofs.class_rounds.word_of_result.Goals.{After-as_slice}
 
-pub put-requires-clause-room : goal.put-requires-clause-room
-put-requires-clause-room c =
+pub arrange-requires-clause-room : goal.arrange-requires-clause-room
+arrange-requires-clause-room c =
     let few = c.requires.is_board.pebbles.1 in
     let size = c.requires.is_gap.size in
     omega (
       arith,
       few,
       size,
-      ap length c.of-class.ensures.class,
+      ap length c.arranged-class.ensures.class,
       length-class_of c.args.gap.now,
       c.requires.is_board.pebbles.0,
     )
 
 module _ (c : After-as_slice) where
   same : c.as_slice.result.now ≡ member_with c.args.gap.now c.args.label
-  same = result-class (places c.args.board.now) c.args.gap.now c.of-class.result c.put.new.self c.as_slice.result.now
-      c.args.label c.requires.is_gap.falls c.of-class.ensures.class c.put.ensures c.as_slice.ensures.value
+  same = result-class (places c.args.board.now) c.args.gap.now c.arranged-class.result c.arrange.new.self
+      c.as_slice.result.now
+      c.args.label c.requires.is_gap.falls c.arranged-class.ensures.class c.arrange.ensures c.as_slice.ensures.value
 
   is : IsClass (places c.args.board.now) c.args.board.now.pebbles c.as_slice.result.now
   is = rw same (result-is c.args.board.now c.args.gap.now c.args.label c.requires.is_board c.requires.is_gap
       c.requires.label)
 
-  low : class_number c.as_slice.result.now < class_count c.args.board.now
+  low : number_by_greatest c.as_slice.result.now < class_count c.args.board.now
   low = is-below (places c.args.board.now) c.args.board.now.pebbles c.as_slice.result.now is
 
 pub number-requires-clause-size : goal.number-requires-clause-size
@@ -59,4 +60,4 @@ bounds-words-number c =
 pub returns : goal.returns
 returns c =
     ap (λ n. get_or c.args.words.now n 0)
-    (c.number.ensures.number ∙ ap class_number (same (goal.at.returns c).After-as_slice))
+    (c.number.ensures.number ∙ ap number_by_greatest (same (goal.at.returns c).After-as_slice))

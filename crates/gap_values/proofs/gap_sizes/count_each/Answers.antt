@@ -6,7 +6,7 @@ use Rattle.classes.specs.Sums.{sum_below}
 use Rattle.classes.proofs.Cited.{sum-zero}
 use Rattle.gap_values.specs.Inside.Counts.{AreMore, class_word, once, weight_with}
 use Rattle.gap_values.proofs.ClassCounts.{member-word-low}
-use Rattle.gap_values.proofs.FamilyMembers.{place-low}
+use Rattle.classes.proofs.Cited.{place-low}
 use Rattle.gap_values.proofs.GapCounts.{more-joined, more-none, room-more, terms-few, terms-more, weight-few, weight-is}
 use Rattle.gap_values.proofs.gap_sizes.count_each.Goals as goal
 use Rattle.gap_values.proofs.gap_sizes.count_each.Goals.{At-loop-place, After-of}

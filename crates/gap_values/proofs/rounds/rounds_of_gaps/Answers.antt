@@ -1,20 +1,20 @@
-use Rattle.std.proofs.Common.{◌≡◌, ◌∙◌, ◌<◌, ◌≤◌, ◌+◌, ◌-◌, ℕ, List, length, replicate, drop, get_or, sym, ap}
-use Rattle.std.proofs.Common.{subst, arith, ◌↔◌, ◌⊎◌, ◌≢◌, ◌++◌, [], ◌∷◌, inl, inr, Bool, IsTrue}
-use Rattle.std.proofs.lemmas.List.{take_at}
+use Rattle.std.proofs.Common.{◌≡◌, ◌∙◌, ◌<◌, ◌≤◌, ◌+◌, ◌-◌, ◌*◌, ℕ, List, length, replicate, drop, get_or, sym, ap}
+use Rattle.std.proofs.Common.{subst, arith, ◌↔◌, ◌⊎◌, ◌≢◌, ◌++◌, [], ◌∷◌, take, inl, inr, IsTrue}
+use Rattle.std.proofs.lemmas.List.{length-replicate, take_at}
 use Rattle.std.proofs.lemmas.Result.{err_from_is_err_and}
 use Rattle.board_text.specs.PlainBoard.{places}
 use Rattle.classes.specs.Numbers.{ways}
 use Rattle.gap_values.specs.Inside.OpenWords.{open_below}
-use Rattle.gap_values.specs.Inside.Sets.{ArePassed, AreToldTo, TellClosed}
+use Rattle.gap_values.specs.Inside.Sets.{ArePassed, AreGathered, AreFresh, AreTablesOf, HasRound, IsOfRound}
+use Rattle.gap_values.specs.Inside.Sets.{TellClosed}
 use Rattle.console.proofs.Cited.{none_told, nothing_told, told_more}
 use Rattle.gap_values.proofs.OpenCounts.{all-rounds, lone-counts, none-so-far, one-more}
 use Rattle.gap_values.proofs.RoundSteps.{IsAtRound, gap_count, first-round, last-round, lone-rounds, next-round}
-use Rattle.gap_values.proofs.RoundSteps.{all-told, first-kept}
-use Rattle.gap_values.proofs.RoundSteps.{some-closed, telling-begins}
-use Rattle.gap_values.proofs.TellingSteps.{told-all}
+use Rattle.gap_values.proofs.RoundSteps.{all-told, first-kept, fresh-words}
+use Rattle.gap_values.proofs.RoundSteps.{some-closed, round-told}
 use Rattle.gap_values.proofs.rounds.rounds_of_gaps.Given.{Over}
 use Rattle.gap_values.proofs.rounds.rounds_of_gaps.Goals as goal
-use Rattle.gap_values.proofs.rounds.rounds_of_gaps.Goals.{In_ok-words, After-close-words}
+use Rattle.gap_values.proofs.rounds.rounds_of_gaps.Goals.{In_ok-words, After-close-some}
 use Rattle.gap_values.proofs.rounds.rounds_of_gaps.Goals.{then-round-eq0+in_ok-extend_from_slice, else-round-eq0}
 
 words-open : (g : Over) (c : In_ok-words g)
@@ -45,6 +45,10 @@ loop-round-init g c =
           (words-open g (goal.at.loop-round-init g c).In_ok-words)
           (c.in_ok-closed.ensures.items_if_clones_equal (λ y e. e) ∙ ap (λ n. replicate n c.below.result) lists)
           c.below.ensures c.pebbles.ensures.is_board;
+      tables = ap length (c.in_ok-tables.ensures.items_if_clones_equal (λ y e. e))
+          ∙ length-replicate {A = List ℕ} (c.tables.result * c.ways-lists.result) c.below-2.result
+          ∙ ap (λ n. n * c.ways-lists.result) c.tables.ensures.value
+          ∙ ap (λ n. g.M.RoundMaker.tables_of c.args.maker.now * n) lists;
       none = λ begun. c.in_ok-first.ensures.items;
       first = λ some. absurd (omega arith);
       told = (
@@ -55,12 +59,13 @@ loop-round-init g c =
     }
 
 -- the gaps of the round were passed
-module _ (g : Over) (c : After-close-words g) where
+module _ (g : Over) (c : After-close-some g) where
   abbrev old : List ℕ
   old = c.loop-round.words.items
 
   abbrev new : List ℕ
-  new = c.close-words.result.items
+  new = take c.loop-round.words.len
+      (c.close-some.new.words ++ drop (length c.close-some.new.words) c.loop-round.words.items)
 
   some : 2 ≤ c.args.board.now.pebbles
   some =
@@ -70,32 +75,124 @@ module _ (g : Over) (c : After-close-words g) where
   low : c.loop-round.round < 4294967295
   low = let few = c.loop-round.invariant.at.few in omega (arith, few, c.requires.few)
 
+  new-is : new ≡ c.close-some.new.words
+  new-is = take_at c.close-some.new.words (drop (length c.close-some.new.words) c.loop-round.words.items)
+      c.loop-round.words.len (c.close-some.auto.words ∙ c.deref_mut.ensures.len)
+
   passed : ArePassed c.args.board.now c.loop-round.closed.items c.loop-round.round 0 0 (gap_count c.args.board.now) old
       new
   passed =
-      subst (λ (l : List (List ℕ)). ArePassed c.args.board.now l c.loop-round.round 0 0 (gap_count c.args.board.now)
-      old new) c.deref.ensures.value (c.requires.closed _ _ _ _ c.close-words.ensures)
+      let size : length c.deref_mut.result.now ≡ gap_count c.args.board.now =
+      ap length c.deref_mut.ensures.value ∙ c.loop-round.invariant.at.size in
+      subst (λ (l : List ℕ). ArePassed c.args.board.now c.loop-round.closed.items c.loop-round.round 0 0
+      (gap_count c.args.board.now) old l) (sym new-is)
+      (subst (λ (l : List ℕ). ArePassed c.args.board.now c.loop-round.closed.items c.loop-round.round 0 0
+      (gap_count c.args.board.now) l c.close-some.new.words) c.deref_mut.ensures.value
+      (subst (λ n. ArePassed c.args.board.now c.loop-round.closed.items c.loop-round.round 0 0 n
+      c.deref_mut.result.now c.close-some.new.words) size
+      (subst (λ (l : List (List ℕ)). ArePassed c.args.board.now l c.loop-round.round 0 0
+      (length c.deref_mut.result.now) c.deref_mut.result.now c.close-some.new.words) c.deref.ensures.value
+      c.close-some.ensures.passed)))
 
-  -- whether some were told
-  told : (any : Bool) (l : List ℕ) → l ≡ new
-      → (IsTrue any ↔ ((gap : ℕ) × (gap < gap_count c.args.board.now) × (get_or l gap 0 ≡ c.loop-round.round)))
-      → IsTrue any ↔ ((gap : ℕ) × (gap < gap_count c.args.board.now) × (get_or new gap 0 ≡ c.loop-round.round))
-  told any l is =
-      subst (λ (l : List ℕ). IsTrue any
-      ↔ ((gap : ℕ) × (gap < gap_count c.args.board.now) × (get_or l gap 0 ≡ c.loop-round.round))) is
+pub close-some-requires : goal.close-some-requires
+close-some-requires g c =
+    let least = c.pebbles.ensures.is_board.pebbles.0 in
+    let two : 2 ≤ c.args.board.now.pebbles =
+    omega (arith, least, c.if-pebbles-eq1.false, c.pebbles.ensures.value) in
+    let at = c.loop-round.invariant.at in
+    let low : c.loop-round.round < 4294967295 = omega (arith, at.few, c.requires.few) in
+    let sets : length c.deref.result.now ≡ ways (c.args.board.now.pebbles - 2) (places c.args.board.now) =
+    ap length c.deref.ensures.value ∙ at.tell.many in
+    let words : length c.deref_mut.result.now ≡ gap_count c.args.board.now =
+    ap length c.deref_mut.ensures.value ∙ at.size in
+    let fresh : AreFresh c.loop-round.round c.deref_mut.result.now =
+    subst (AreFresh c.loop-round.round) (sym c.deref_mut.ensures.value)
+    (fresh-words c.args.board.now c.loop-round.round c.loop-round.words.items c.loop-round.closed.items low at) in (
+      omega (arith, c.requires.narrow),
+      (
+        c.requires.can_make,
+        (
+          c.requires.narrow,
+          (
+            c.requires.fits,
+            (
+              c.requires.board,
+              (
+                two,
+                (
+                  sets,
+                  (
+                    low,
+                    (
+                      words,
+                      (
+                        fresh,
+                        ap length c.deref_mut-in-loop-round.ensures.value
+                            ∙ c.loop-round.invariant.tables
+                            ∙ ap (λ n. g.M.RoundMaker.tables_of c.args.maker.now * n) (sym sets),
+                      ),
+                    ),
+                  ),
+                ),
+              ),
+            ),
+          ),
+        ),
+      ),
+    )
 
-pub tell_round-goes_on-requires-clause-sets : goal.tell_round-goes_on-requires-clause-sets
-tell_round-goes_on-requires-clause-sets g c =
-    let at = (goal.at.tell_round-goes_on-requires-clause-sets g c).After-close-words in
-    subst (λ (l : List ℕ). AreToldTo c.args.board.now l c.loop-round.round 0 c.deref_mut.result.now)
-    (sym (c.deref-in-loop-round.ensures.value))
-    (subst (λ (l : List (List ℕ)). AreToldTo c.args.board.now (new g at) c.loop-round.round 0 l)
-    (sym c.deref_mut.ensures.value)
-    (telling-begins c.args.board.now c.pebbles.ensures.is_board (some g at) c.loop-round.round (old g at) (new g at)
-    c.loop-round.closed.items (low g at) c.loop-round.invariant.at (passed g at)))
+pub add-requires : goal.add-requires
+add-requires g c =
+    let tables : ℕ = g.M.RoundMaker.tables_of c.args.maker.now in
+    let told : c.deref-in-loop-round.result.now ≡ c.close-some.new.told =
+    c.deref-in-loop-round.ensures.value
+    ∙ take_at c.close-some.new.told (drop (length c.close-some.new.told) c.loop-round.tables.items)
+    c.loop-round.tables.len
+    (c.close-some.auto.told ∙ c.deref_mut-in-loop-round.ensures.len) in
+    let sets : length c.deref_mut-in-loop-round-2.result.now
+    ≡ ways (c.args.board.now.pebbles - 2) (places c.args.board.now) =
+    ap length c.deref_mut-in-loop-round-2.ensures.value ∙ c.loop-round.invariant.at.tell.many in (
+      omega (arith, c.requires.narrow),
+      (
+        c.requires.can_make,
+        (
+          c.requires.narrow,
+          ap length told ∙ c.close-some.auto.told ∙ ap length c.deref_mut-in-loop-round.ensures.value
+              ∙ c.loop-round.invariant.tables ∙ ap (λ n. tables * n) (sym sets),
+        ),
+      ),
+    )
+
+-- the sets are told of what closed
+sets-told : (g : Over) (c : After-close-some g) (told from to : List (List ℕ)) → told ≡ c.close-some.new.told
+    → from ≡ c.loop-round.closed.items
+    → AreGathered (g.M.RoundMaker.tables_of c.args.maker.now) (length from) 0 told from to
+    → TellClosed c.args.board.now (new g c) (c.loop-round.round + 1) to
+sets-told g c told from to told_is from_is added =
+    let b = c.args.board.now in
+    let tables : ℕ = g.M.RoundMaker.tables_of c.args.maker.now in
+    round-told b c.pebbles.ensures.is_board (some g c) c.loop-round.round (old g c) (new g c)
+    c.loop-round.closed.items (low g c) c.loop-round.invariant.at (passed g c) tables c.close-some.new.told to
+    (subst (λ (l : List ℕ). AreTablesOf b tables (IsOfRound c.loop-round.round 0 l) c.close-some.new.told)
+    (sym (new-is g c)) c.close-some.ensures.told)
+    (subst (λ (l : List (List ℕ)). AreGathered tables (length l) 0 c.close-some.new.told l to) from_is
+    (subst (λ (l : List (List ℕ)). AreGathered tables (length from) 0 l from to) told_is added))
+
+-- whether some gaps closed
+some-told : (g : Over) (c : After-close-some g) → IsTrue c.close-some.result
+    ↔ ((gap : ℕ) × (gap < gap_count c.args.board.now) × (get_or (new g c) gap 0 ≡ c.loop-round.round))
+some-told g c =
+    let size : length (new g c) ≡ gap_count c.args.board.now =
+    (passed g c).same_length ∙ c.loop-round.invariant.at.size in
+    let says : IsTrue c.close-some.result ↔ HasRound c.loop-round.round (new g c) =
+    subst (λ (l : List ℕ). IsTrue c.close-some.result ↔ HasRound c.loop-round.round l) (sym (new-is g c))
+    c.close-some.ensures.some in (
+      λ yes. (let found = says.0 yes in (found.0, omega (arith, found.1, size), found.2)),
+      λ found. says.1 (found.0, omega (arith, found.1, size), found.2),
+    )
 
 -- what was told first is of the first round, after it and later ones
-first-told : (g : Over) (c : After-close-words g) (first sets : List (List ℕ))
+first-told : (g : Over) (c : After-close-some g) (first sets : List (List ℕ))
     → TellClosed c.args.board.now (new g c) (c.loop-round.round + 1) sets
     → ((c.loop-round.round ≡ 0) × (first ≡ sets)) ⊎ ((c.loop-round.round ≢ 0) × (first ≡ c.loop-round.first.items))
     → TellClosed c.args.board.now (new g c) 1 first
@@ -109,26 +206,25 @@ first-told g c first sets tell (inr later) =
     (let differs = later.0 in omega (arith, differs))
     (c.loop-round.invariant.first (let differs = later.0 in omega (arith, differs))))
 
-pub returns-then-not-goes_on-clause-rounds : goal.returns-then-not-goes_on-clause-rounds
-returns-then-not-goes_on-clause-rounds g c =
-    let at = (goal.at.returns-then-not-goes_on-clause-rounds g c).After-close-words in
+pub returns-then-not-some-clause-rounds : goal.returns-then-not-some-clause-rounds
+returns-then-not-some-clause-rounds g c =
+    let at = (goal.at.returns-then-not-some-clause-rounds g c).After-close-some in
     let b = c.args.board.now in
-    let any = told g at c.tell_round-goes_on.result _ c.deref-in-loop-round.ensures.value
-    c.tell_round-goes_on.ensures.any in
-    let tell : TellClosed b (new g at) (c.loop-round.round + 1) c.tell_round-goes_on.new.sets =
-    told-all b c.pebbles.ensures.is_board (some g at) (new g at) c.loop-round.round (low g at)
-    c.tell_round-goes_on.new.sets
-    (subst (λ (l : List ℕ). AreToldTo b l c.loop-round.round (gap_count b) c.tell_round-goes_on.new.sets)
-    c.deref-in-loop-round.ensures.value c.tell_round-goes_on.ensures.sets) in
+    let any = some-told g at in
+    let tell = sets-told g at _ _ _ (c.deref-in-loop-round.ensures.value
+    ∙ take_at c.close-some.new.told (drop (length c.close-some.new.told) c.loop-round.tables.items)
+    c.loop-round.tables.len
+    (c.close-some.auto.told ∙ c.deref_mut-in-loop-round.ensures.len)) c.deref_mut-in-loop-round-2.ensures.value
+    c.add.ensures in
     record {
       is_board = c.pebbles.ensures.is_board;
       words = last-round b c.pebbles.ensures.is_board (some g at) c.loop-round.round (old g at) (new g at)
           c.loop-round.closed.items (low g at) c.loop-round.invariant.at (passed g at)
           (λ n n_low closed.
           let yes = any.1 (n, n_low, closed) in
-          let no_one = c.if-not-goes_on.true in
+          let no_one = c.if-not-some.true in
           let bad : ⊥ = cc in bad);
-      first = λ some_pebbles. first-told g at c.if-round-eq0.first.items c.tell_round-goes_on.new.sets tell
+      first = λ some_pebbles. first-told g at c.if-round-eq0.first.items c.add.new.sets tell
           (elim c.if-round-eq0.branch [
             | then-round-eq0+in_ok-extend_from_slice w ↦ inl (
               w.if-round-eq0.true,
@@ -136,56 +232,57 @@ returns-then-not-goes_on-clause-rounds g c =
                   ∙ ap (λ (l : List (List ℕ)). l ++ w.deref-then-round-eq0.result.now)
                   (c.loop-round.invariant.none w.if-round-eq0.true)
                   ∙ w.deref-then-round-eq0.ensures.value
-                  ∙ take_at c.tell_round-goes_on.new.sets
-                  (drop (length c.tell_round-goes_on.new.sets) c.loop-round.closed.items)
-                  c.loop-round.closed.len (c.tell_round-goes_on.auto.sets ∙ c.deref_mut.ensures.len),
+                  ∙ take_at c.add.new.sets
+                  (drop (length c.add.new.sets) c.loop-round.closed.items)
+                  c.loop-round.closed.len (c.add.auto.sets ∙ c.deref_mut-in-loop-round-2.ensures.len),
             )
             | else-round-eq0 w ↦ inr (w.if-round-eq0.false, ap (λ v. v.items) w.first-is)
           ]);
       closed = λ some_pebbles.
           subst (λ (l : List (List ℕ)). TellClosed b (new g at) 4294967295 l)
-          (sym (take_at c.tell_round-goes_on.new.sets
-          (drop (length c.tell_round-goes_on.new.sets) c.loop-round.closed.items)
-          c.loop-round.closed.len (c.tell_round-goes_on.auto.sets ∙ c.deref_mut.ensures.len)))
+          (sym (take_at c.add.new.sets
+          (drop (length c.add.new.sets) c.loop-round.closed.items)
+          c.loop-round.closed.len (c.add.auto.sets ∙ c.deref_mut-in-loop-round-2.ensures.len)))
           (all-told b c.pebbles.ensures.is_board (some g at) c.loop-round.round (old g at) (new g at)
-          c.loop-round.closed.items (low g at) c.loop-round.invariant.at (passed g at) c.tell_round-goes_on.new.sets
+          c.loop-round.closed.items (low g at) c.loop-round.invariant.at (passed g at) c.add.new.sets
           tell);
     }
 
 pub loop-round-smaller : goal.loop-round-smaller
 loop-round-smaller g c =
-    let at = (goal.at.loop-round-smaller g c).After-close-words in
-    let any = told g at c.tell_round-goes_on.result _ c.deref-in-loop-round.ensures.value
-    c.tell_round-goes_on.ensures.any in
+    let at = (goal.at.loop-round-smaller g c).After-close-some in
+    let any = some-told g at in
     some-closed c.args.board.now c.pebbles.ensures.is_board (some g at) c.loop-round.round (old g at) (new g at)
     c.loop-round.closed.items (low g at) c.loop-round.invariant.at (passed g at)
-    (any.0 (let no_none = c.if-not-goes_on.false in cc))
+    (any.0 (let no_none = c.if-not-some.false in cc))
 
 pub loop-round-preserved : goal.loop-round-preserved
 loop-round-preserved g c =
-    let at = (goal.at.loop-round-preserved g c).After-close-words in
+    let at = (goal.at.loop-round-preserved g c).After-close-some in
     let b = c.args.board.now in
-    let any = told g at c.tell_round-goes_on.result _ c.deref-in-loop-round.ensures.value
-    c.tell_round-goes_on.ensures.any in
-    let tell : TellClosed b (new g at) (c.loop-round.round + 1) c.tell_round-goes_on.new.sets =
-    told-all b c.pebbles.ensures.is_board (some g at) (new g at) c.loop-round.round (low g at)
-    c.tell_round-goes_on.new.sets
-    (subst (λ (l : List ℕ). AreToldTo b l c.loop-round.round (gap_count b) c.tell_round-goes_on.new.sets)
-    c.deref-in-loop-round.ensures.value c.tell_round-goes_on.ensures.sets) in
+    let any = some-told g at in
+    let tell = sets-told g at _ _ _ (c.deref-in-loop-round.ensures.value
+    ∙ take_at c.close-some.new.told (drop (length c.close-some.new.told) c.loop-round.tables.items)
+    c.loop-round.tables.len
+    (c.close-some.auto.told ∙ c.deref_mut-in-loop-round.ensures.len)) c.deref_mut-in-loop-round-2.ensures.value
+    c.add.ensures in
     let so_far = c.loop-round.invariant.told in
     let tells = g.W.Watch.tells c.args.watch.now in
     let opened : ℕ = open_below (new g at) (length (new g at)) in
     let next : c.loop-round.round + 1 ≡ 1 + length so_far.0 = omega (arith, so_far.1.size) in
     record {
       at = subst (λ (l : List (List ℕ)). IsAtRound b (c.loop-round.round + 1) (new g at) l)
-          (sym (take_at c.tell_round-goes_on.new.sets
-          (drop (length c.tell_round-goes_on.new.sets) c.loop-round.closed.items)
-          c.loop-round.closed.len (c.tell_round-goes_on.auto.sets ∙ c.deref_mut.ensures.len)))
+          (sym (take_at c.add.new.sets
+          (drop (length c.add.new.sets) c.loop-round.closed.items)
+          c.loop-round.closed.len (c.add.auto.sets ∙ c.deref_mut-in-loop-round-2.ensures.len)))
           (next-round b c.pebbles.ensures.is_board (some g at) c.loop-round.round (old g at) (new g at)
-          c.loop-round.closed.items (low g at) c.loop-round.invariant.at (passed g at) c.tell_round-goes_on.new.sets
-          (any.0 (let no_none = c.if-not-goes_on.false in cc)) tell);
+          c.loop-round.closed.items (low g at) c.loop-round.invariant.at (passed g at) c.add.new.sets
+          (any.0 (let no_none = c.if-not-some.false in cc)) tell);
+      tables = ap length (take_at c.close-some.new.told (drop (length c.close-some.new.told) c.loop-round.tables.items)
+          c.loop-round.tables.len (c.close-some.auto.told ∙ c.deref_mut-in-loop-round.ensures.len))
+          ∙ c.close-some.auto.told ∙ ap length c.deref_mut-in-loop-round.ensures.value ∙ c.loop-round.invariant.tables;
       none = λ begun. absurd (omega (arith, begun));
-      first = λ some_round. first-told g at c.if-round-eq0.first.items c.tell_round-goes_on.new.sets tell
+      first = λ some_round. first-told g at c.if-round-eq0.first.items c.add.new.sets tell
           (elim c.if-round-eq0.branch [
             | then-round-eq0+in_ok-extend_from_slice w ↦ inl (
               w.if-round-eq0.true,
@@ -193,9 +290,9 @@ loop-round-preserved g c =
                   ∙ ap (λ (l : List (List ℕ)). l ++ w.deref-then-round-eq0.result.now)
                   (c.loop-round.invariant.none w.if-round-eq0.true)
                   ∙ w.deref-then-round-eq0.ensures.value
-                  ∙ take_at c.tell_round-goes_on.new.sets
-                  (drop (length c.tell_round-goes_on.new.sets) c.loop-round.closed.items)
-                  c.loop-round.closed.len (c.tell_round-goes_on.auto.sets ∙ c.deref_mut.ensures.len),
+                  ∙ take_at c.add.new.sets
+                  (drop (length c.add.new.sets) c.loop-round.closed.items)
+                  c.loop-round.closed.len (c.add.auto.sets ∙ c.deref_mut-in-loop-round-2.ensures.len),
             )
             | else-round-eq0 w ↦ inr (w.if-round-eq0.false, ap (λ v. v.items) w.first-is)
           ]);
@@ -203,7 +300,7 @@ loop-round-preserved g c =
         so_far.0 ++ opened ∷ [],
         one-more b c.pebbles.ensures.is_board (some g at) c.loop-round.round (old g at) (new g at)
             c.loop-round.closed.items (low g at) c.loop-round.invariant.at (passed g at) so_far.0 so_far.1
-            (any.0 (let no_none = c.if-not-goes_on.false in cc)),
+            (any.0 (let no_none = c.if-not-some.false in cc)),
         told_more tells 1 so_far.0 opened c.args.told.now c.loop-round.told c.tell_open.new.told so_far.2
             (subst (λ k. tells c.loop-round.told c.tell_open.new.told k opened) next
             (subst (λ (l : List ℕ). tells c.loop-round.told c.tell_open.new.told (c.loop-round.round + 1)
@@ -230,19 +327,18 @@ returns-in_err-extend_from_slice-clause-untold g c =
     c.from_residual-in_err-extend_from_slice.ensures.1 in
     rw (p.1, p.2) same
 
-pub returns-then-not-goes_on-clause-told : goal.returns-then-not-goes_on-clause-told
-returns-then-not-goes_on-clause-told g c =
-    let at = (goal.at.returns-then-not-goes_on-clause-told g c).After-close-words in
+pub returns-then-not-some-clause-told : goal.returns-then-not-some-clause-told
+returns-then-not-some-clause-told g c =
+    let at = (goal.at.returns-then-not-some-clause-told g c).After-close-some in
     let b = c.args.board.now in
-    let any = told g at c.tell_round-goes_on.result _ c.deref-in-loop-round.ensures.value
-    c.tell_round-goes_on.ensures.any in
+    let any = some-told g at in
     let so_far = c.loop-round.invariant.told in (
       so_far.0,
       all-rounds b c.pebbles.ensures.is_board (some g at) c.loop-round.round (old g at) (new g at)
           c.loop-round.closed.items (low g at) c.loop-round.invariant.at (passed g at) so_far.0 so_far.1
           (λ n n_low closed.
           let yes = any.1 (n, n_low, closed) in
-          let no_one = c.if-not-goes_on.true in
+          let no_one = c.if-not-some.true in
           let bad : ⊥ = cc in bad),
       so_far.2,
     )

@@ -3,20 +3,20 @@ use Rattle.board_text.specs.PlainBoard.{PlainBoard, places}
 use Rattle.classes.specs.Numbers.{ways}
 use Rattle.classes.proofs.Cited.{ways-zero}
 use Rattle.gap_values.specs.Inside.Counts.{AreMore, AreSizesBetween, made_by}
-use Rattle.gap_values.specs.Inside.Families.{IsFamilyOf}
+use Rattle.classes.specs.FamilyWalks.{IsFamilyOf}
 use Rattle.gap_values.specs.Inside.FamilyWeights.{AreFamilyWeights}
-use Rattle.gap_values.proofs.FamilyMembers.{held-long}
+use Rattle.classes.proofs.Cited.{held-long}
 use Rattle.gap_values.proofs.GapCounts.{gap-step, room-between, room-up}
 use Rattle.gap_values.proofs.sizes.count_lone.Goals as goal
 
 pub count_each-requires-clause-room : goal.count_each-requires-clause-room
-count_each-requires-clause-room c =
+count_each-requires-clause-room g c =
     room-up c.args.sizes.now 207458501411267280 300000000000000000
     (room-between c.args.numbers.now c.args.rounds.now.words.items (length c.args.sizes.now.finite.items) c.args.from
     c.args.from c.args.sizes.now c.families.ensures.is_board c.requires.none) (omega arith)
 
 pub returns-then-from-to : goal.returns-then-from-to
-returns-then-from-to c =
+returns-then-from-to g c =
     let b : PlainBoard = c.args.numbers.now in
     let f = c.family-family.result in
     let none : b.pebbles - 1 ≡ 0 = omega (arith, c.requires.one) in

@@ -1,7 +1,7 @@
 use Rattle.std.proofs.Common.{◌≡◌, ◌∙◌, ◌+◌, ◌-◌, ◌<◌, ◌≤◌, ℕ, List, length, get_or, ap, arith, rules}
 use Rattle.classes.specs.Classes.{put}
 use Rattle.gap_values.specs.Inside.Words.{word_without}
-use Rattle.gap_values.proofs.FamilyMembers.{held-long, number-last-others, others-number, rest-below, rest-few}
+use Rattle.classes.proofs.Cited.{held-long, number-last-others, others-number, rest-below, rest-few}
 use Rattle.gap_values.proofs.Words.{least-all, least-begins, least-more, least-same}
 use Rattle.gap_values.proofs.sizes.first_of_member.Goals as goal
 use Rattle.gap_values.proofs.sizes.first_of_member.Goals.{In-loop-index, then-word-first, else-word-first}

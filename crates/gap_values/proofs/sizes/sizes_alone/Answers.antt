@@ -5,14 +5,14 @@ use Rattle.gap_values.proofs.ClassCounts.{sizes-all, trimmed}
 use Rattle.gap_values.proofs.sizes.sizes_alone.Goals as goal
 
 pub returns : goal.returns
-returns c =
+returns g c =
     let b = c.args.numbers.now in
     let sizes = c.in_ok-sizes.sizes in
     let cut = c.trim.ensures.finite in
     rw c.trim.ensures.forever (subst (λ (l : List ℕ). AreValueCounts b l sizes.forever) (sym cut.is)
     (trimmed b sizes.finite.items sizes.forever _
-    (sizes-all b c.args.rounds.now.words.items c.rounds_in-bound.result sizes c.pebbles.ensures.is_board
-    c.requires.words
+    (sizes-all b c.args.rounds.now.words.items c.rounds_in-bound.result sizes c.requires.rounds.is_board
+    c.requires.rounds.words
     (subst (λ (l : List ℕ). IsAboveRounds l c.rounds_in-bound.result) c.deref.ensures.value c.rounds_in-bound.ensures)
     (subst (λ n. AreSizesBetween b c.args.rounds.now.words.items c.rounds_in-bound.result 0 n sizes)
     (c.len.ensures ∙ sym c.deref.ensures.len

@@ -6,18 +6,20 @@ use Rattle.classes.specs.Families.{least_places}
 use Rattle.classes.specs.Numbers.{ways, class_with}
 use Rattle.classes.proofs.Cited.{ways-fit}
 use Rattle.gap_values.specs.Inside.Counts.{AreCounted, AreSizesBetween, IsAboveRounds, IsCountBetween}
-use Rattle.gap_values.specs.Inside.Families.{IsAtFamily, IsFamilyOf}
+use Rattle.classes.specs.FamilyWalks.{IsAtFamily, IsFamilyOf}
 use Rattle.gap_values.proofs.ClassCounts.{counting-begins, sizes-few}
-use Rattle.gap_values.proofs.FamilyMembers.{edge-only, family-size, next-start, walk-all, walk-start, walk-within}
-use Rattle.gap_values.proofs.FamilyMembers.{walk-zero}
+use Rattle.classes.proofs.Cited.{edge-only, family-size, next-start, walk-all, walk-start, walk-within}
+use Rattle.classes.proofs.Cited.{walk-zero}
+use Rattle.gap_values.proofs.sizes.sizes_between.Given.{Over}
 use Rattle.gap_values.proofs.sizes.sizes_between.Goals as goal
 use Rattle.gap_values.proofs.sizes.sizes_between.Goals.{After-pebbles-fewer, After-family_size-size, After-min-high}
 use Rattle.gap_values.proofs.sizes.sizes_between.Goals.{In_ok-finite, In-loop-number, then-low-high, else-low-high}
 
 -- nothing is counted at first
-none-counted : (c : In_ok-finite) → AreSizesBetween c.args.numbers.now c.args.rounds.now.words.items c.args.bound
+none-counted : (g : Over) (c : In_ok-finite g)
+    → AreSizesBetween c.args.numbers.now c.args.rounds.now.words.items c.args.bound
     c.args.from c.args.from (record { finite = c.in_ok-finite.finite; forever = 0 })
-none-counted c = λ low high begin end.
+none-counted g c = λ low high begin end.
     let b : PlainBoard = c.args.numbers.now in
     let words : List ℕ = c.args.rounds.now.words.items in
     let zeros = c.in_ok-finite.ensures.items_if_clones_equal (λ y e. e) in
@@ -33,18 +35,18 @@ none-counted c = λ low high begin end.
       unending = counting-begins b words 4294967295 low;
     })
 
-some : (c : After-pebbles-fewer) → 2 ≤ c.args.numbers.now.pebbles
-some c = let least = c.pebbles.ensures.is_board.pebbles.0 in
+some : (g : Over) (c : After-pebbles-fewer g) → 2 ≤ c.args.numbers.now.pebbles
+some g c = let least = c.pebbles.ensures.is_board.pebbles.0 in
     omega (arith, least, c.if-pebbles-eq1.false, c.pebbles.ensures.value)
 
 pub loop-number-init : goal.loop-number-init
-loop-number-init c =
+loop-number-init g c =
     let b : PlainBoard = c.args.numbers.now in
     let at : IsAtFamily b (b.pebbles - 2) 0 c.families-walk.result =
     subst (λ n. IsAtFamily b (n - 2) 0 c.families-walk.result) c.pebbles-fewer.ensures.value c.families-walk.ensures in
     let start : c.families-walk.result.start ≡ 0 = walk-zero b (b.pebbles - 2) c.families-walk.result at in
     let begun : c.args.from ≡ max c.args.from (min c.families-walk.result.start c.args.to) = omega (arith, start) in
-    let none = none-counted (goal.at.loop-number-init c).In_ok-finite in
+    let none = none-counted g (goal.at.loop-number-init g c).In_ok-finite in
     record {
       walk = subst (λ n. IsAtFamily b n 0 c.families-walk.result) (sym at.count_is) at;
       count = at.count_is;
@@ -53,7 +55,7 @@ loop-number-init c =
           (record { finite = c.in_ok-finite.finite; forever = 0 })) begun none;
     }
 
-module _ (c : After-family_size-size) where
+module _ (g : Over) (c : After-family_size-size g) where
   abbrev b : PlainBoard
   b = c.args.numbers.now
 
@@ -81,58 +83,23 @@ module _ (c : After-family_size-size) where
         (walk-within b (b.pebbles - 2) c.loop-number.number c.family_size-size.result c.loop-number.walk low at size_is)
 
 pub overflow_add-start : goal.overflow_add-start
-overflow_add-start c =
-    let here = goal.at.overflow_add-start c in
+overflow_add-start g c =
+    let here = goal.at.overflow_add-start g c in
     let b = c.args.numbers.now in
-    let inside = within here.After-family_size-size (some here.After-pebbles-fewer) in
+    let inside = within g here.After-family_size-size (some g here.After-pebbles-fewer) in
     let most = ways-fit b (b.pebbles - 1) (places b) c.places.ensures.is_board (omega arith) (omega arith) in
     let few : c.loop-number.walk.start + c.family_size-size.result ≤ 288136807515649 =
     omega (arith, inside, most) in
     search (rules, few)
 
 -- there are counts for all rounds
-long : (c : In-loop-number) → length c.loop-number.sizes.finite.items ≡ c.args.bound
-long c = (sizes-few c.args.numbers.now c.args.rounds.now.words.items c.args.bound c.args.from
+long : (g : Over) (c : In-loop-number g) → length c.loop-number.sizes.finite.items ≡ c.args.bound
+long g c = (sizes-few c.args.numbers.now c.args.rounds.now.words.items c.args.bound c.args.from
     (max c.args.from (min c.loop-number.walk.start c.args.to)) c.loop-number.sizes
     c.loop-number.invariant.walk.is_board c.loop-number.invariant.counted).size
 
-pub count_gaps_of-requires-clause-above : goal.count_gaps_of-requires-clause-above
-count_gaps_of-requires-clause-above c =
-    subst (IsAboveRounds c.args.rounds.now.words.items)
-    (sym (long (goal.at.count_gaps_of-requires-clause-above c).In-loop-number)) c.requires.bound
-
-pub count_gaps_of-requires-clause-family : goal.count_gaps_of-requires-clause-family
-count_gaps_of-requires-clause-family c =
-    subst (λ n. IsFamilyOf c.args.numbers.now n c.family-family.result) c.loop-number.invariant.count
-    c.family-family.ensures.family
-
-pub count_gaps_of-requires-clause-low : goal.count_gaps_of-requires-clause-low
-count_gaps_of-requires-clause-low c =
-    let here = (goal.at.count_gaps_of-requires-clause-low c).After-family_size-size in
-    let b = c.args.numbers.now in
-    let start = walk-start b (b.pebbles - 2) c.loop-number.number c.family_size-size.result c.loop-number.walk
-    (low here)
-    (at here) (size_is here) c.family-family.result
-    (subst (λ n. IsFamilyOf b n c.family-family.result) c.loop-number.invariant.count c.family-family.ensures.family)
-    c.family-family.ensures.number in
-    omega (arith, start, c.max-low.ensures)
-
-pub count_gaps_of-requires-clause-high : goal.count_gaps_of-requires-clause-high
-count_gaps_of-requires-clause-high c =
-    let here = (goal.at.count_gaps_of-requires-clause-high c).After-family_size-size in
-    let b = c.args.numbers.now in
-    let family = subst (λ n. IsFamilyOf b n c.family-family.result) c.loop-number.invariant.count
-    c.family-family.ensures.family in
-    let start = walk-start b (b.pebbles - 2) c.loop-number.number c.family_size-size.result c.loop-number.walk
-    (low here)
-    (at here) (size_is here) c.family-family.result family c.family-family.ensures.number in
-    let size = family-size b (b.pebbles - 2) c.loop-number.number c.family_size-size.result c.family-family.result
-    family
-    c.family-family.ensures.number (size_is here) in
-    omega (arith, start, size, c.min-high.ensures)
-
 -- where the count is before the part of a family, and after it
-module _ (c : After-min-high) (long : length c.loop-number.sizes.finite.items ≡ c.args.bound) where
+module _ (g : Over) (c : After-min-high g) (long : length c.loop-number.sizes.finite.items ≡ c.args.bound) where
   before : c.max-low.result < c.min-high.result
       → max c.args.from (min c.loop-number.walk.start c.args.to) ≡ c.max-low.result
   before less = omega (arith, less, c.max-low.ensures, c.min-high.ensures)
@@ -155,16 +122,53 @@ module _ (c : After-min-high) (long : length c.loop-number.sizes.finite.items �
       (subst (λ n. AreSizesBetween c.args.numbers.now c.args.rounds.now.words.items c.args.bound c.args.from n
       c.loop-number.sizes) (before less) c.loop-number.invariant.counted)
 
-pub count_gaps_of-requires-clause-counted : goal.count_gaps_of-requires-clause-counted
-count_gaps_of-requires-clause-counted c =
-    let at = goal.at.count_gaps_of-requires-clause-counted c in
-    (c.args.from, counted-so-far at.After-min-high (long at.In-loop-number) c.if-low-high.true)
+pub count_gaps_of-requires : goal.count_gaps_of-requires
+count_gaps_of-requires g c =
+    let all = goal.at.count_gaps_of-requires g c in
+    let here = all.After-family_size-size in
+    let b = c.args.numbers.now in
+    let above = subst (IsAboveRounds c.args.rounds.now.words.items) (sym (long g all.In-loop-number))
+    c.requires.bound in
+    let family = subst (λ n. IsFamilyOf b n c.family-family.result) c.loop-number.invariant.count
+    c.family-family.ensures.family in
+    let start = walk-start b (b.pebbles - 2) c.loop-number.number c.family_size-size.result c.loop-number.walk
+    (low g here) (at g here) (size_is g here) c.family-family.result family c.family-family.ensures.number in
+    let size = family-size b (b.pebbles - 2) c.loop-number.number c.family_size-size.result c.family-family.result
+    family c.family-family.ensures.number (size_is g here) in
+    let counted = counted-so-far g all.After-min-high (long g all.In-loop-number) c.if-low-high.true in (
+      omega (arith, c.requires.narrow),
+      (
+        c.requires.narrow,
+        (
+          c.requires.fits,
+          (
+            some g all.After-pebbles-fewer,
+            (
+              c.requires.rounds,
+              (
+                above,
+                (
+                  family,
+                  (
+                    omega (arith, start, c.max-low.ensures),
+                    (
+                      c.if-low-high.true,
+                      (omega (arith, start, size, c.min-high.ensures), (c.args.from, counted)),
+                    ),
+                  ),
+                ),
+              ),
+            ),
+          ),
+        ),
+      ),
+    )
 
 pub loop-number-preserved : goal.loop-number-preserved
-loop-number-preserved c =
-    let here = (goal.at.loop-number-preserved c).After-family_size-size in
-    let ends = (goal.at.loop-number-preserved c).After-min-high in
-    let all = long (goal.at.loop-number-preserved c).In-loop-number in
+loop-number-preserved g c =
+    let here = (goal.at.loop-number-preserved g c).After-family_size-size in
+    let ends = (goal.at.loop-number-preserved g c).After-min-high in
+    let all = long g (goal.at.loop-number-preserved g c).In-loop-number in
     let b : PlainBoard = c.args.numbers.now in
     let words : List ℕ = c.args.rounds.now.words.items in
     let number : ℕ = c.loop-number.number in
@@ -172,7 +176,8 @@ loop-number-preserved c =
     let next : IsAtFamily b (b.pebbles - 2) (number + 1) new =
     subst (λ n. IsAtFamily b n (number + 1) new) c.loop-number.invariant.count c.next_family.ensures.walk in
     let start : new.start ≡ c.loop-number.walk.start + c.family_size-size.result =
-    next-start b (b.pebbles - 2) number c.family_size-size.result c.loop-number.walk (low here) (at here) (size_is here)
+    next-start b (b.pebbles - 2) number c.family_size-size.result c.loop-number.walk (low g here) (at g here)
+    (size_is g here)
     new next in
     record {
       walk = subst (λ n. IsAtFamily b n (number + 1) new) (sym c.next_family.ensures.count) c.next_family.ensures.walk;
@@ -180,22 +185,22 @@ loop-number-preserved c =
       counted = elim c.if-low-high.branch [
         | then-low-high w ↦ rw w.sizes-is
             (subst (λ n. AreSizesBetween b words c.args.bound c.args.from n w.count_gaps_of.new.sizes)
-            (behind ends all new.start start w.if-low-high.true)
+            (behind g ends all new.start start w.if-low-high.true)
             (subst (λ n. AreSizesBetween b words n c.args.from c.min-high.result w.count_gaps_of.new.sizes)
             all
-            (w.count_gaps_of.ensures c.args.from (counted-so-far ends all w.if-low-high.true))))
+            (w.count_gaps_of.ensures c.args.from (counted-so-far g ends all w.if-low-high.true))))
         | else-low-high w ↦ rw w.sizes-is
             (subst (λ n. AreSizesBetween b words c.args.bound c.args.from n c.loop-number.sizes)
-            (same ends all new.start start w.if-low-high.false) c.loop-number.invariant.counted)
+            (same g ends all new.start start w.if-low-high.false) c.loop-number.invariant.counted)
       ];
     }
 
 pub returns : goal.returns
-returns c =
+returns g c =
     let b : PlainBoard = c.args.numbers.now in
     let all = c.ways-number-end.ensures.value ∙ ap (λ n. ways (n - 2) c.places.result) c.pebbles-fewer.ensures.value
     ∙ ap (ways (b.pebbles - 2)) c.places.ensures.value in
-    let least = some (goal.at.returns c).After-pebbles-fewer in
+    let least = some g (goal.at.returns g c).After-pebbles-fewer in
     let one : suc (b.pebbles - 2) ≡ b.pebbles - 1 = omega (arith, least) in
     let past = c.loop-number-test.false in
     let at : IsAtFamily b (b.pebbles - 2) c.loop-number.number c.loop-number.walk =

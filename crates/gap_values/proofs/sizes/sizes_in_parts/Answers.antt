@@ -41,7 +41,7 @@ module _ (g : Over) (c : In-Ok g) where
   before : AreFew c.args.bound c.loop-index.sizes
   before = sizes-few c.args.numbers.now c.args.rounds.now.words.items c.args.bound 0
       (min (c.loop-index.index * size) total)
-      c.loop-index.sizes c.pebbles.ensures.is_board c.loop-index.invariant
+      c.loop-index.sizes c.requires.rounds.is_board c.loop-index.invariant
 
   own : AreSizesBetween c.args.numbers.now c.args.rounds.now.words.items c.args.bound
       (min (c.loop-index.index * size) total)
@@ -61,7 +61,7 @@ module _ (g : Over) (c : In-Ok g) where
 
   more : AreFew c.args.bound c.in-Ok.part
   more = sizes-few c.args.numbers.now c.args.rounds.now.words.items c.args.bound (min (c.loop-index.index * size) total)
-      (min ((c.loop-index.index + 1) * size) total) c.in-Ok.part c.pebbles.ensures.is_board own
+      (min ((c.loop-index.index + 1) * size) total) c.in-Ok.part c.requires.rounds.is_board own
 
 pub add-requires-clause-same : goal.add-requires-clause-same
 add-requires-clause-same g c =

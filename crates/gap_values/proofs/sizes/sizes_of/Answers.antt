@@ -11,7 +11,7 @@ returns g c =
     let cut = c.trim.ensures.finite in
     rw c.trim.ensures.forever (subst (λ (l : List ℕ). AreValueCounts b l sizes.forever) (sym cut.is)
     (trimmed b sizes.finite.items sizes.forever _
-    (sizes-all b c.args.rounds.now.words.items c.rounds_in-bound.result sizes c.pebbles.ensures.is_board
+    (sizes-all b c.args.rounds.now.words.items c.rounds_in-bound.result sizes c.requires.rounds.is_board
     c.requires.rounds.words
     (subst (λ (l : List ℕ). IsAboveRounds l c.rounds_in-bound.result) c.deref.ensures.value c.rounds_in-bound.ensures)
     c.in_ok-sizes.ensures) cut.within cut.last cut.zeros))

@@ -8,7 +8,7 @@ returns-in-Finite-clause-said g c =
     let first = rw c.in-Finite.is at c.in_ok-write_opening.ensures in
     let request = rw (c.start-in-Finite.ensures.value, c.board-board.ensures) at c.request_at.ensures in
     IfOk-weaker c.write_request.result _ _
-    (λ following asked. opens_with _ (g.M.Moves.board c.args.moves.now) c.in-Finite.field-0 following _ _ _ _
+    (λ following asked. opens_with _ c.args.moves.now c.in-Finite.field-0 following _ _ _ _
     c.board-board.ensures value
     request first asked)
     c.write_request.ensures
@@ -17,5 +17,5 @@ pub returns-in_ok-push_str-in-Forever-clause-said : goal.returns-in_ok-push_str-
 returns-in_ok-push_str-in-Forever-clause-said g c =
     let value = rw (c.start.ensures.value, c.board-board.ensures, c.in-Forever.is) at c.value-value.ensures in
     let first = rw c.in-Forever.is at c.in_ok-write_opening.ensures in
-    opens_without _ (g.M.Moves.board c.args.moves.now) _ _ _ c.board-board.ensures value first
+    opens_without _ c.args.moves.now _ _ _ c.board-board.ensures value first
     c.in_ok-push_str-in-Forever.ensures.bytes

@@ -5,7 +5,7 @@ use Rattle.std.specs.Prelude.{Err, Ok}
 use Rattle.board_text.proofs.Cited.{Appends-trans}
 use Rattle.player.specs.Inside.Prompts.{IsToldHere, greeting_if, hint_there}
 use Rattle.player.specs.Inside.Steps.{IsResponseToMeaning}
-use Rattle.player.specs.Prompts.{BringsAndTells, NearlyTells}
+use Rattle.player.specs.Prompts.{NearlyTells, told_from}
 use Rattle.player.specs.Transcript.{AreResponses, Going}
 use Rattle.console.proofs.Cited.{Appends-none, then_more}
 use Rattle.player.proofs.HintedLines.{hint_is}
@@ -43,14 +43,14 @@ returns-in_err-meaning-clause-fault g c =
     let p = err_from_is_err_and c.from_residual.result c.from_residual.ensures.1 in
     rw (p.1, p.2)
     (no_line (AreResponses (g.P.Play.game c.args.play.now) (Going (g.P.Play.at c.args.play.now) 0))
-    _ _ _ _ _ i.said c.loop.lines i.text _ _ c.in_err-meaning.field-0.0 i.brought i.written i.come
+    _ _ _ _ i.said c.loop.lines i.text _ _ c.in_err-meaning.field-0.0 i.brought i.written i.come
     (omega (arith, i.few, c.loop-test.true)) c.in_err-meaning.ensures.fault)
 
 pub returns-in_default-clause-ok : goal.returns-in_default-clause-ok
 returns-in_default-clause-ok g c =
     let i = c.loop.invariant in
     let gives = rw c.in_default.is at c.in_ok-meaning.ensures.line in
-    stopped (AreResponses (g.P.Play.game c.args.play.now) (Going (g.P.Play.at c.args.play.now) 0)) _ _ _ _ _ i.said
+    stopped (AreResponses (g.P.Play.game c.args.play.now) (Going (g.P.Play.at c.args.play.now) 0)) _ _ _ _ i.said
     i.text _ _ i.brought i.written (Ok c.in_ok-end.end)
     (all_came _ _ _ i.said _ _ (omega
     (arith, i.few, c.loop-test.true)) i.come gives) c.in_ok-end.ensures.end c.in_ok-end.ensures.written
@@ -61,7 +61,7 @@ returns-in_err-end-clause-fault g c =
     let gives = rw c.in_default.is at c.in_ok-meaning.ensures.line in
     let p = err_from_is_err_and c.from_residual-in_err-end.result c.from_residual-in_err-end.ensures.1 in
     rw (p.1, p.2)
-    (not_stopped (AreResponses (g.P.Play.game c.args.play.now) (Going (g.P.Play.at c.args.play.now) 0)) _ _ _ _ _ i.said
+    (not_stopped (AreResponses (g.P.Play.game c.args.play.now) (Going (g.P.Play.at c.args.play.now) 0)) _ _ _ _ i.said
     i.text _ _ i.brought i.written (Err c.in_err-end.field-0.0)
     (all_came _ _ _ i.said _ _ (omega (arith, i.few, c.loop-test.true)) i.come gives) c.in_err-end.ensures.fault)
 
@@ -73,7 +73,7 @@ returns-in_err-end-2-clause-fault g c =
     let p = err_from_is_err_and c.from_residual-in_err-end-2.result c.from_residual-in_err-end-2.ensures.1 in
     rw (p.1, p.2)
     (broken (AreResponses (g.P.Play.game c.args.play.now) (Going (g.P.Play.at c.args.play.now) 0))
-    _ _ _ _ _ i.said i.text _ _ i.brought i.written _ _ next (omega (arith, i.few, c.loop-test.true))
+    _ _ _ _ i.said i.text _ _ i.brought i.written _ _ next (omega (arith, i.few, c.loop-test.true))
     (IsResponseToMeaning (g.P.Play.game c.args.play.now) (Going (g.P.Play.at c.loop.play)
     (g.P.Play.requests c.loop.play)) _)
     (λ said to says. brings_more _ _ i.said next.line i.text said _ to i.brought (says next.line next.spells))
@@ -84,7 +84,7 @@ returns-in-Some-end-clause-ok g c =
     let i = c.loop.invariant in
     let next = line_came _ _ _ i.said _ _ _ i.come (rw c.in-Some.is at c.in_ok-meaning.ensures.line) in
     let wrote = rw (i.same, c.in-Some-end.is) at c.in_ok-end-2.ensures.written in
-    ended (AreResponses (g.P.Play.game c.args.play.now) (Going (g.P.Play.at c.args.play.now) 0)) _ _ _ _ _ i.said
+    ended (AreResponses (g.P.Play.game c.args.play.now) (Going (g.P.Play.at c.args.play.now) 0)) _ _ _ _ i.said
     i.text _ _ i.written next (omega (arith, i.few, c.loop-test.true))
     c.in-Some-end.end wrote.0
     (brings_more _ _ i.said next.line i.text wrote.0 _ _ i.brought (wrote.2 next.line next.spells)) wrote.1
@@ -130,7 +130,7 @@ returns-clause-fault g c =
       i.text,
       _,
       _,
-      came_of _ _ i.said c.loop.lines (omega (arith, i.few, c.loop.auto.counter-end)) i.come,
+      came_of _ i.said c.loop.lines (omega (arith, i.few, c.loop.auto.counter-end)) i.come,
       inl (omega (arith, i.few, c.loop-test.false, c.loop.auto.counter-end)),
       i.brought,
       i.written,
@@ -146,9 +146,8 @@ returns-in_err-meaning-clause-told g c =
       rw (p.1, p.2) (record {
         ok = tt;
         fault = unread_told
-            (BringsAndTells c.args.shows (g.P.Play.game c.args.play.now) (Going (g.P.Play.at c.args.play.now) 0))
-            (AreResponses (g.P.Play.game c.args.play.now) (Going (g.P.Play.at c.args.play.now) 0)) _ _ _ _ _ i.said
-            c.loop.lines i.text _ _ i.told
+            (told_from c.args.shows (g.P.Play.game c.args.play.now) (Going (g.P.Play.at c.args.play.now) 0)) _ _ _ _
+            i.said c.loop.lines i.text _ _ i.told
             c.in_err-meaning.field-0.0 i.tells i.written i.come (omega (arith, i.few, c.loop-test.true))
             c.in_err-meaning.ensures.fault;
       }),
@@ -161,7 +160,7 @@ returns-in_default-clause-told g c =
     let gives = rw c.in_default.is at c.in_ok-meaning.ensures.line in
     let came = all_came _ _ _ i.said _ _ (omega (arith, i.few, c.loop-test.true)) i.come gives in
     let game = g.P.Play.game c.args.play.now in
-    let Tells = BringsAndTells c.args.shows game (Going (g.P.Play.at c.args.play.now) 0) in
+    let Tells = (told_from c.args.shows game (Going (g.P.Play.at c.args.play.now) 0)).Tells in
     let end = c.in_ok-end.end in
     let last = c.tell_last.ensures in
     let value = rw i.same at c.start_value.ensures in (
@@ -170,7 +169,7 @@ returns-in_default-clause-told g c =
         ok = (
           i.told,
           last.0,
-          stopped (Tells i.told) _ _ _ _ _ i.said i.text _ _ i.tells i.written (Ok end) came c.in_ok-end.ensures.end
+          stopped (Tells i.told) _ _ _ _ i.said i.text _ _ i.tells i.written (Ok end) came c.in_ok-end.ensures.end
               c.in_ok-end.ensures.written,
           last_told c.args.shows game c.start_value.result end last.0 value last.1,
           refl,
@@ -188,14 +187,13 @@ returns-in_err-end-clause-told g c =
     let gives = rw c.in_default.is at c.in_ok-meaning.ensures.line in
     let came = all_came _ _ _ i.said _ _ (omega (arith, i.few, c.loop-test.true)) i.come gives in
     let p = err_from_is_err_and c.from_residual-in_err-end.result c.from_residual-in_err-end.ensures.1 in
-    let Tells = BringsAndTells c.args.shows (g.P.Play.game c.args.play.now) (Going (g.P.Play.at c.args.play.now) 0) in
-    let Brings = AreResponses (g.P.Play.game c.args.play.now) (Going (g.P.Play.at c.args.play.now) 0) in
+    let telling = told_from c.args.shows (g.P.Play.game c.args.play.now) (Going (g.P.Play.at c.args.play.now) 0) in
     let fault = c.in_err-end.field-0.0 in (
       i.told,
       rw (p.1, p.2) (record {
         ok = tt;
-        fault = near Tells Brings _ _ _ _ _ i.told _ fault c.in_err-end.ensures.fault
-            (not_stopped (NearlyTells Tells Brings _ _ i.told) _ _ _ _ _ i.said i.text _ _
+        fault = near telling _ _ _ i.told _ fault c.in_err-end.ensures.fault
+            (not_stopped (NearlyTells telling _ i.told) _ _ _ _ i.said i.text _ _
             (inl i.tells) i.written (Err fault) came c.in_err-end.ensures.fault);
       }),
       i.more,
@@ -208,16 +206,15 @@ returns-in_err-end-2-clause-told g c =
     let fails = rw i.same at c.in_err-end-2.ensures.fault in
     let p = err_from_is_err_and c.from_residual-in_err-end-2.result c.from_residual-in_err-end-2.ensures.1 in
     let game = g.P.Play.game c.args.play.now in
-    let Tells = BringsAndTells c.args.shows game (Going (g.P.Play.at c.args.play.now) 0) in
-    let Brings = AreResponses game (Going (g.P.Play.at c.args.play.now) 0) in (
+    let telling = told_from c.args.shows game (Going (g.P.Play.at c.args.play.now) 0) in (
       i.told,
       rw (p.1, p.2) (record {
         ok = tt;
-        fault = near Tells Brings _ _ _ _ _ i.told _ c.in_err-end-2.field-0.0 fails
-            (broken (NearlyTells Tells Brings _ _ i.told) _ _ _ _ _ i.said i.text _ _ (inl i.tells) i.written _ _ next
+        fault = near telling _ _ _ i.told _ c.in_err-end-2.field-0.0 fails
+            (broken (NearlyTells telling _ i.told) _ _ _ _ i.said i.text _ _ (inl i.tells) i.written _ _ next
             (omega (arith, i.few, c.loop-test.true))
             (IsResponseToMeaning game (Going (g.P.Play.at c.loop.play) (g.P.Play.requests c.loop.play)) _)
-            (λ said to says. nearly_told game _ 0 c.args.shows _ _ i.told i.said next.line i.text said _ _ to i.brought
+            (λ said to says. nearly_told game _ 0 c.args.shows _ i.told i.said next.line i.text said _ _ to i.brought
             i.tells
             (says next.line next.spells))
             c.in_err-end-2.field-0.0 fails);
@@ -231,7 +228,7 @@ returns-in-Some-end-clause-told g c =
     let next = line_came _ _ _ i.said _ _ _ i.come (rw c.in-Some.is at c.in_ok-meaning.ensures.line) in
     let wrote = rw (i.same, c.in-Some-end.is) at c.in_ok-end-2.ensures.written in
     let game = g.P.Play.game c.args.play.now in
-    let Tells = BringsAndTells c.args.shows game (Going (g.P.Play.at c.args.play.now) 0) in
+    let Tells = (told_from c.args.shows game (Going (g.P.Play.at c.args.play.now) 0)).Tells in
     let last = c.tell_last-in-Some-end.ensures in
     let value = rw (c.in_ok-end-2.ensures.game, i.same) at c.start_value-in-Some-end.ensures in
     let hint = hint_there c.args.shows next.line in
@@ -241,7 +238,7 @@ returns-in-Some-end-clause-told g c =
         ok = (
           i.told ++ hint,
           last.0,
-          ended (Tells (i.told ++ hint)) _ _ _ _ _ i.said i.text _ _ i.written next
+          ended (Tells (i.told ++ hint)) _ _ _ _ i.said i.text _ _ i.written next
               (omega (arith, i.few, c.loop-test.true)) c.in-Some-end.end wrote.0
               (ends_told game _ 0 c.args.shows i.told i.said next.line i.text wrote.0 _ _ _ i.tells
               (wrote.2 next.line next.spells)) wrote.1,
@@ -268,7 +265,7 @@ returns-clause-told g c =
           i.text,
           _,
           _,
-          came_of _ _ i.said c.loop.lines (omega (
+          came_of _ i.said c.loop.lines (omega (
             arith,
             i.few,
             c.loop.auto.counter-end,

@@ -28,7 +28,7 @@ returns-in-Some-first_fault-clause-fault g c =
     let positions : Positions = normal_positions (least_by board.labels c.args.alike.now.group) in
     let refusals = refusals_by board c.args.alike.now.group in
     let starts : StartServes positions board proof =
-    record { labeller = c.in_default.ensures; adversary = c.in_default-bound_fault.ensures } in
+    record { labeller = c.in_default.ensures.fault; adversary = c.in_default-bound_fault.ensures } in
     let wrong =
     fault_of_seen (class_answer_row board) (MeetsRequests positions board proof.labeller)
     (IsWrongAnswer refusals board proof.labeller) c.args.proof.now.labeller.items proof.labeller
@@ -42,7 +42,7 @@ returns-clause-fault g c =
     let positions : Positions = normal_positions (least_by board.labels c.args.alike.now.group) in
     let refusals = refusals_by board c.args.alike.now.group in
     let starts : StartServes positions board proof =
-    record { labeller = c.in_default.ensures; adversary = c.in_default-bound_fault.ensures } in
+    record { labeller = c.in_default.ensures.fault; adversary = c.in_default-bound_fault.ensures } in
     let obeys =
     fault_of_seen (class_answer_row board) (MeetsRequests positions board proof.labeller)
     (IsWrongAnswer refusals board proof.labeller) c.args.proof.now.labeller.items proof.labeller

@@ -7,8 +7,11 @@ order-start-requires-clause-places c =
     rw c.start.ensures.value
     (placed c.args.checker.now.board.now c.args.checker.now.board.now.start c.start.ensures.is_board.start)
 
-pub returns : goal.returns
-returns c =
+pub returns-clause-start : goal.returns-clause-start
+returns-clause-start c = c.start.ensures.is_board.start
+
+pub returns-clause-fault : goal.returns-clause-fault
+returns-clause-fault c =
     let board = c.args.checker.now.board.now in
     let wanted = least_by board.labels c.args.checker.now.alike.now.group board.start in
     let is = rw c.start.ensures.value at c.order-start.ensures in

@@ -1,5 +1,5 @@
 use Rattle.std.proofs.Common.{◌≡◌, take}
-use Rattle.proof_check.specs.ClassNumbers.{class_numbers}
+use Rattle.proof_check.specs.RowNumbers.{class_numbers}
 use Rattle.proof_check.proofs.row_numbers.numbers_of.Given as goal
 
 abbrev pub invariant-loop-row : goal.invariant-loop-row

@@ -6,7 +6,7 @@ use Rattle.board_text.proofs.Cited.{after, texts_unique}
 use Rattle.proof_text.proofs.SpelledRows.{number_of}
 use Rattle.proof_text.proofs.RowWords.{no_digit_lf, after_position, after_word, class_request_parts}
 use Rattle.proof_text.proofs.RowWords.{class_request_taken}
-use Rattle.proof_text.specs.declared.proof.TheConstants.{MOST_TURNS}
+use Rattle.proof_text.specs.declared.proof.TheConstants.{MAX_TURNS}
 use Rattle.proof_text.specs.RowWords.{ClassRequestWords, AreClassRequestWords, class_request_words_line}
 use Rattle.proof_text.proofs.row_words.class_request_words.Goals as goal
 use Rattle.proof_text.proofs.row_words.class_request_words.Goals.{In_ok-are_places, In_ok-numeral}
@@ -63,7 +63,7 @@ returns c =
           c.places.new.self c.take-2.new.self p.2 n.2 c.in_ok-take.ensures.taken k.2 c.in_ok-take-2.ensures.taken,
       record {
         places = p.3;
-        number = number_of MOST_TURNS c.within-left.result n.0 c.in_ok-numeral.field-0
+        number = number_of MAX_TURNS c.within-left.result n.0 c.in_ok-numeral.field-0
             (omega arith) n.4 c.within-left.ensures;
         ask = k.4;
       },

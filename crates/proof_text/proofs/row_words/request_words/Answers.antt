@@ -6,7 +6,7 @@ use Rattle.proof_text.specs.RowWords.{RequestWords, AreRequestWords, request_wor
 use Rattle.proof_text.proofs.SpelledRows.{number_of, pebble_of}
 use Rattle.proof_text.proofs.RowWords.{no_digit_lf, numerals_unique, after_position, after_word, request_parts}
 use Rattle.proof_text.proofs.RowWords.{request_taken}
-use Rattle.proof_text.specs.declared.proof.TheConstants.{MOST_TURNS}
+use Rattle.proof_text.specs.declared.proof.TheConstants.{MAX_TURNS}
 use Rattle.proof_text.proofs.row_words.request_words.Goals as goal
 use Rattle.proof_text.proofs.row_words.request_words.Goals.{In_ok-are_places, In_ok-numeral}
 
@@ -61,7 +61,7 @@ returns c =
           c.numeral-2.new.self c.take-2.new.self p.2 n.2 c.in_ok-take.ensures.taken k.2 c.in_ok-take-2.ensures.taken,
       record {
         places = p.3;
-        number = number_of MOST_TURNS c.within-left.result n.0 c.in_ok-numeral.field-0
+        number = number_of MAX_TURNS c.within-left.result n.0 c.in_ok-numeral.field-0
             (omega arith) n.4 c.within-left.ensures;
         pebble = pebble_of c.args.pebbles c.below-ask.result k.0 c.in_ok-numeral-2.field-0
             (omega arith) k.4 c.below-ask.ensures;

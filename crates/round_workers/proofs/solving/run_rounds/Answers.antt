@@ -15,7 +15,7 @@ loop-alloc-smaller g c =
 pub returns-in_err-file_next-clause-shared : goal.returns-in_err-file_next-clause-shared
 returns-in_err-file_next-clause-shared g c =
     let few = bucket_few c.loop-alloc.solver c.loop-alloc.solver.rounds c.loop-alloc.invariant.kept in
-    let enough : c.args.least ≤ length (bucket c.loop-alloc.solver c.loop-alloc.solver.rounds) =
+    let enough : c.args.sharing.needed ≤ length (bucket c.loop-alloc.solver c.loop-alloc.solver.rounds) =
     c.in_err-file_next.ensures.shared in
     let games = ap (λ (n : Numbered). (graph_of n).configurations) c.loop-alloc.invariant.game in
     let refused = err_from_is_err_and c.from_residual.result c.from_residual.ensures.1 in

@@ -3,6 +3,7 @@ use Rattle.gap_values.specs.ClassValues.{AreClassValues}
 use Rattle.graphs.specs.Numbered.{graph_of}
 use Rattle.solver.specs.Words.{AreValueWords}
 use Rattle.round_workers.proofs.ClassValues.{class-values, each-class}
+use Rattle.round_workers.specs.declared.solving.TheConstants.{MIN_SHARED}
 use Rattle.round_workers.proofs.solving.solve_classes.Goals as goal
 
 pub of_classes-requires-in-Ok : goal.of_classes-requires-in-Ok
@@ -17,5 +18,5 @@ of_classes-requires-in-Ok g c =
 pub returns-in_err-run_rounds-clause-enough : goal.returns-in_err-run_rounds-clause-enough
 returns-in_err-run_rounds-clause-enough g c = λ refused.
     each-class c.args.board.now _
-    (subst (λ game. 131072 ≤ (graph_of game).configurations) c.in_ok-solver.ensures.0
-    (omega (arith, c.least_shared-least.ensures, c.in_err-run_rounds.ensures.shared)))
+    (subst (λ game. MIN_SHARED ≤ (graph_of game).configurations) c.in_ok-solver.ensures.0
+    c.in_err-run_rounds.ensures.shared)

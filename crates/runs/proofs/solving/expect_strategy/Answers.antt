@@ -5,7 +5,7 @@ use Rattle.runs.proofs.solving.expect_strategy.Goals as goal
 
 pub returns-in-Finite-clause-ok : goal.returns-in-Finite-clause-ok
 returns-in-Finite-clause-ok g c =
-    let board = g.M.Moves.board c.args.moves.now in
+    let board = c.args.moves.now in
     let number = c.in-Finite.field-0 in
     let has = rw (c.start.ensures.value, c.board.ensures) at (subst (HasValue board c.start.result.now) c.in-Finite.is
     c.value.ensures) in

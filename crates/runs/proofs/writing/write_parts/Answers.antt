@@ -1,7 +1,7 @@
 use Rattle.std.proofs.Common.{◌+◌, ◌++◌, ℕ, List, Vec, Global, take, drop, ap, sym}
 use Rattle.std.proofs.Common.{◌∙◌, subst}
-use Rattle.std.specs.Io.KnownBytes.{Appends}
 use Rattle.std.specs.List.{flat_map}
+use Rattle.board_text.specs.Streams.{AppendsAll, bytes_of}
 use Rattle.board_text.proofs.Cited.{Appends-trans}
 use Rattle.runs.proofs.WrittenParts.{parts_around, parts_more, prefix_on}
 use Rattle.runs.proofs.writing.write_parts.Goals as goal
@@ -27,7 +27,7 @@ loop-part-preserved g c =
     let front : List ℕ = flat_map (λ (p : Vec ℕ Global). p.items) (take index parts) in
     record {
       ready = c.in-Ok.ensures.unfailed;
-      written = subst (Appends (g.W.Sink.contents c.args.writer.now) (g.W.Sink.contents c.write_all.new.sink))
+      written = subst (AppendsAll (bytes_of g.W.Sink.contents c.args.writer.now c.write_all.new.sink))
           (sym (parts_more (λ (p : Vec ℕ Global). p.items) parts index part c.loop-part-test.true
           ∙ ap (λ (p : Vec ℕ Global). front ++ p.items) (sym c.part-item.is)))
           (Appends-trans (g.W.Sink.contents c.args.writer.now) (g.W.Sink.contents c.loop-part.writer)

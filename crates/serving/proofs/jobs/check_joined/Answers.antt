@@ -5,11 +5,16 @@ use Rattle.serving.proofs.jobs.check_joined.Goals as goal
 
 pub returns-clause-told : goal.returns-clause-told
 returns-clause-told g c =
-    let rows = rows_told c.args.console.now.terminals.errors c.run_keeping_text-result.result.result in (
+    let rows = rows_told c.args.console.now.terminals.errors c.run_joined_with_text-result.result.result in (
       _,
       (
         rows,
-        (c.run_keeping_text-result.result.result, c.of_check.ensures, c.run_keeping_text-result.ensures.ok, refl),
+        (
+          c.run_joined_with_text-result.result.result,
+          c.of_check.ensures,
+          c.run_joined_with_text-result.ensures.ok,
+          refl,
+        ),
         refl,
       ),
       then_more g.E.Sink.contents g.E.Sink.has_failed c.args.console.now.errors c.greet.new.errors

@@ -1,7 +1,7 @@
 use Rattle.std.proofs.Common.{[], inl, inr, refl, ◌∙◌}
 use Rattle.console.proofs.Cited.{none_more}
 use Rattle.serving.specs.Outcomes.{outcome_of_run}
-use Rattle.runs.specs.Run.{stream_of}
+use Rattle.runs.specs.PlayRun.{play_streams}
 use Rattle.runs.specs.declared.fault.RunFault.TheVariants.{Read}
 use Rattle.serving.proofs.Endings.{broken_run, opened_play, told_as}
 use Rattle.serving.proofs.plays.play.Goals as goal
@@ -10,8 +10,8 @@ pub returns-clause-done : goal.returns-clause-done
 returns-clause-done g c =
     opened_play c.args.playing.limit c.args.playing.side (g.F.Folder.at c.args.files.now.folder.now c.args.board.now) _
     c.in-Ok.ensures.opened
-    (stream_of g.I.Source.remaining g.I.Source.has_failed c.args.console.now.input c.run-ended.new.lines)
-    (stream_of g.O.Sink.contents g.O.Sink.has_failed c.args.console.now.output c.run-ended.new.writer)
+    (play_streams g.I.Source.remaining c.args.console.now.input c.run-ended.new.lines
+    g.O.Sink.contents c.args.console.now.output c.run-ended.new.writer)
     c.run-ended.result c.of.result.outcome (c.of.ensures ∙ c.of_run.ensures) c.run-ended.ensures.ok
     c.run-ended.ensures.fault
 

@@ -1,9 +1,9 @@
 use Rattle.std.proofs.Common.{[], inl, inr, refl, ◌∙◌}
 use Rattle.console.proofs.Cited.{none_more}
 use Rattle.serving.specs.Outcomes.{outcome_of_run}
-use Rattle.runs.specs.Run.{stream_of}
+use Rattle.runs.specs.PlayRun.{play_streams}
 use Rattle.runs.specs.declared.fault.RunFault.TheVariants.{Read}
-use Rattle.serving.proofs.Endings.{broken_run, opened_play_up_to, told_as}
+use Rattle.serving.proofs.Endings.{broken_run, opened_play_up_to, told_as, told_up_to}
 use Rattle.serving.proofs.plays.play_up_to.Goals as goal
 
 pub returns-clause-done : goal.returns-clause-done
@@ -13,9 +13,9 @@ returns-clause-done g c =
     (g.F.Folder.at c.args.files.now.folder.now c.args.board.now)
     (g.F.Folder.at c.args.files.now.folder.now c.args.symmetries.now) _ _ c.in-Ok.ensures.opened
     c.in-Ok-open.ensures.opened
-    (stream_of g.I.Source.remaining g.I.Source.has_failed c.args.console.now.input run.new.lines)
-    (stream_of g.O.Sink.contents g.O.Sink.has_failed c.args.console.now.output run.new.writer)
-    run.result c.of.result.outcome (c.of.ensures ∙ c.of_run.ensures) run.ensures.ok _ (λ same. rw same refl)
+    (play_streams g.I.Source.remaining c.args.console.now.input run.new.lines
+    g.O.Sink.contents c.args.console.now.output run.new.writer)
+    run.result c.of.result.outcome (c.of.ensures ∙ c.of_run.ensures) _ (λ same. rw same refl) run.ensures.ok
     run.ensures.fault
 
 pub returns-clause-unread : goal.returns-clause-unread
@@ -33,7 +33,8 @@ returns-clause-told g c =
     let run = c.run_up_to_symmetries-ended in
     let told = run.ensures.prompts in
     let same = c.of.ensures ∙ c.of_run.ensures in
-    (told.0, inr (_, _, c.in-Ok.ensures.opened, c.in-Ok-open.ensures.opened, (run.result, same, told.1)), told.2)
+    let so = told_up_to c.args.playing _ _ _ _ (λ same. rw same refl) run.result told.0 told.1 in
+    (told.0, inr (_, _, c.in-Ok.ensures.opened, c.in-Ok-open.ensures.opened, (run.result, same, so)), told.2)
 
 pub returns-in_default-clause-told : goal.returns-in_default-clause-told
 returns-in_default-clause-told g c = (

@@ -2,6 +2,7 @@ use Rattle.runs.specs.declared.fault.RunFault.TheVariants.{Memory}
 use Rattle.serving.specs.declared.outcome.Outcome.TheVariants.{Broken}
 use Rattle.std.proofs.Common.{inl, inr, refl, [], string_bytes}
 use Rattle.runs.specs.Run.{stream_of}
+use Rattle.serving.specs.Consoles.{serving_of}
 use Rattle.serving.specs.Serving.{EndsWith}
 use Rattle.serving.proofs.ErrorTexts.{ended, refused}
 use Rattle.serving.proofs.Served.{asked, helped, more_words, written}
@@ -35,8 +36,8 @@ returns-in-Err-Help g c =
             (rw (c.deref.ensures, c.in-Err-Help.field-0-is) at w.ok) (rw (c.deref.ensures, c.in-Err-Help.field-0-is)
             at w.prefix) w.fault w.failed,
         refl,
-        helped output c.write_text.result w.fault w.failed (λ o. EndsWith (g.F.Folder.at c.args.files.now.folder.now)
-            c.args.console.now.terminals c.args.files.now.explains input output errors c.tell_of_words.result [] o) (
+        helped output c.write_text.result w.fault w.failed (λ o. EndsWith c.args.files.now.explains
+            (serving_of input output errors c.tell_of_words.result) [] o) (
               ended g.E.Sink.contents g.E.Sink.has_failed c.args.console.now.errors c.requires.errors_ready
                   c.tell_of_words.new.errors
                   c.args.files.now.explains _ told,

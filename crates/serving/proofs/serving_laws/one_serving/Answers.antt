@@ -1,23 +1,18 @@
 use Rattle.std.proofs.Common.{ap}
 use Rattle.runs.specs.Run.{stream_of}
+use Rattle.serving.specs.Consoles.{serving_of}
 use Rattle.serving.proofs.OneServing.{both_given}
 use Rattle.serving.proofs.serving_laws.one_serving.Goals as goal
 
 pub returns : goal.returns
 returns g c = λ at terminals before words old new other_old other_new status other is also.
     both_given at is.files terminals is.off before
-    (record {
-      input = stream_of g.I.Source.remaining g.I.Source.has_failed old.input new.input;
-      output = stream_of g.O.Sink.contents g.O.Sink.has_failed old.output new.output;
-      errors = stream_of g.E.Sink.contents g.E.Sink.has_failed old.errors new.errors;
-      status = status;
-    })
-    (record {
-      input = stream_of g.I.Source.remaining g.I.Source.has_failed other_old.input other_new.input;
-      output = stream_of g.O.Sink.contents g.O.Sink.has_failed other_old.output other_new.output;
-      errors = stream_of g.E.Sink.contents g.E.Sink.has_failed other_old.errors other_new.errors;
-      status = other;
-    })
+    (serving_of (stream_of g.I.Source.remaining g.I.Source.has_failed old.input new.input)
+    (stream_of g.O.Sink.contents g.O.Sink.has_failed old.output new.output)
+    (stream_of g.E.Sink.contents g.E.Sink.has_failed old.errors new.errors) status)
+    (serving_of (stream_of g.I.Source.remaining g.I.Source.has_failed other_old.input other_new.input)
+    (stream_of g.O.Sink.contents g.O.Sink.has_failed other_old.output other_new.output)
+    (stream_of g.E.Sink.contents g.E.Sink.has_failed other_old.errors other_new.errors) other)
     (record {
       had_input = record { old = is.had_input.old; kept = λ k. ap g.I.Source.remaining k; sound = is.had_input.sound };
       had_output = record { old = is.had_output.old; kept = λ k. ap g.O.Sink.contents k; sound = is.had_output.sound };

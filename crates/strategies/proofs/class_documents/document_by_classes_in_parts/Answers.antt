@@ -6,7 +6,7 @@ use Rattle.strategies.proofs.class_documents.document_by_classes_in_parts.Goals 
 
 pub document_over-requires-clause-normal : goal.document_over-requires-clause-normal
 document_over-requires-clause-normal g c = λ κs lives.
-    rw (c.by_classes-alike.ensures, c.board.ensures) (by_none (g.M.Moves.board c.args.moves.now))
+    rw (c.by_classes-alike.ensures, c.board.ensures) (by_none c.args.moves.now)
 
 pub returns-clause-document : goal.returns-clause-document
 returns-clause-document g c =
@@ -14,7 +14,7 @@ returns-clause-document g c =
 
 pub returns-clause-form : goal.returns-clause-form
 returns-clause-form g c =
-    let board = g.M.Moves.board c.args.moves.now in
+    let board = c.args.moves.now in
     all_ok c.document_over.result
     (λ made is padded is_board.
     class_form_made board c.args.side c.requires.strategy made.proof is is_board.start padded)
@@ -23,7 +23,7 @@ returns-clause-form g c =
 
 pub returns-clause-rules : goal.returns-clause-rules
 returns-clause-rules g c =
-    let board = g.M.Moves.board c.args.moves.now in
+    let board = c.args.moves.now in
     all_ok c.document_over.result
     (λ made is padded is_board. class_rules_made board c.args.side c.requires.strategy made.proof is is_board.start)
     (rw (c.by_classes-alike.ensures) at c.document_over.ensures.document)
@@ -32,5 +32,5 @@ returns-clause-rules g c =
 pub returns-clause-fault : goal.returns-clause-fault
 returns-clause-fault g c =
     IfErr-weaker c.document_over.result _ _
-    (class_unmade c.args.side (g.M.Moves.board c.args.moves.now) c.args.bytes)
+    (class_unmade c.args.side c.args.moves.now c.args.bytes)
     (rw (c.by_classes-alike.ensures) at c.document_over.ensures.fault)

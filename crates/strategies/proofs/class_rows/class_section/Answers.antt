@@ -7,7 +7,7 @@ section-requires-clause-kind g c = rw c.at_start-here.ensures.at c.requires.kind
 pub section-requires-clause-room : goal.section-requires-clause-room
 section-requires-clause-room g c =
     rw (c.at_start-here.ensures.at, c.new-set.ensures, c.new-gaps.ensures)
-    (lists_have_room (g.M.Moves.board c.args.moves.now) c.args.alike.now c.args.most c.at_start-here.ensures.is_board)
+    (lists_have_room c.args.moves.now c.args.alike.now c.args.most c.at_start-here.ensures.is_board)
 
 pub returns-clause-ok : goal.returns-clause-ok
 returns-clause-ok g c = rw c.at_start-here.ensures.at at c.section.ensures.ok

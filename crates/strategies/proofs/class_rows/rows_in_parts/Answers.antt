@@ -13,7 +13,7 @@ some size = omega arith
 
 pub collect-requires-clause-ready : goal.collect-requires-clause-ready
 collect-requires-clause-ready g c = λ κs lives.
-    let board = g.M.Moves.board c.args.moves.now in
+    let board = c.args.moves.now in
     let stands = MayStandAt (by_order board)
     (g.R.SectionRow.side (over_normal board (normal_by board c.args.alike.now)) c.args.start) in
     rw (c.map.ensures.base, c.map.ensures.f, c.par_chunks.ensures.slice, c.par_chunks.ensures.size) (λ k d low x same. (
@@ -35,7 +35,7 @@ returns g c =
     let chain = made.1 in
     let parts_are = rw (c.map.ensures.base, c.par_chunks.ensures.slice, c.par_chunks.ensures.size) at chain.1 in
     let each = rw c.map.ensures.f at chain.2 in
-    let board = g.M.Moves.board c.args.moves.now in
+    let board = c.args.moves.now in
     rows_joined board
     (g.R.SectionRow.side (over_normal board (normal_by board c.args.alike.now)) c.args.start)
     (λ part. part.items) (λ v. v.items)

@@ -17,11 +17,11 @@ reached-requires-clause-kind g c = rw c.at_start-here.ensures.at c.requires.kind
 pub reached-requires-clause-room : goal.reached-requires-clause-room
 reached-requires-clause-room g c =
     rw (c.at_start-here.ensures.at, c.new-set.ensures, c.new-gaps.ensures)
-    (lists_have_room (g.M.Moves.board c.args.moves.now) c.args.alike.now c.args.most c.at_start-here.ensures.is_board)
+    (lists_have_room c.args.moves.now c.args.alike.now c.args.most c.at_start-here.ensures.is_board)
 
 pub rows_in_parts-requires-clause-numbers : goal.rows_in_parts-requires-clause-numbers
 rows_in_parts-requires-clause-numbers g c = λ κs lives.
-    let board = g.M.Moves.board c.args.moves.now in
+    let board = c.args.moves.now in
     let side = g.R.SectionRow.side (over_normal board (normal_by board c.args.alike.now)) c.args.start in
     rw c.deref.ensures.value
     (may_stand board (by_order board) (are_orders board) side _ _ (rw c.at_start-here.ensures.at at
@@ -30,7 +30,7 @@ rows_in_parts-requires-clause-numbers g c = λ κs lives.
 
 pub returns-clause-ok : goal.returns-clause-ok
 returns-clause-ok g c =
-    let board = g.M.Moves.board c.args.moves.now in
+    let board = c.args.moves.now in
     let side = g.R.SectionRow.side (over_normal board (normal_by board c.args.alike.now)) c.args.start in
     let made = rw c.deref.ensures.value at c.in_ok-rows_in_parts.ensures in
     let past : length c.deref-part-items.result.now ≤ c.loop-part.part-index = c.loop-part-test.false in

@@ -2,7 +2,7 @@ use Rattle.std.proofs.Common.{◌≡◌, ◌+◌, ◌-◌, ◌<◌, length, take
 use Rattle.std.specs.List.{remove}
 use Rattle.board_text.specs.PlainBoard.{places}
 use Rattle.classes.specs.Classes.{class_of}
-use Rattle.classes.specs.Numbers.{class_number, ways}
+use Rattle.classes.specs.Numbers.{number_by_greatest, ways}
 use Rattle.classes.proofs.Cited.{is-below}
 use Rattle.strategies.proofs.SiblingRanks.{rest-all, rest-class, rest-push, whole-class}
 use Rattle.strategies.proofs.gap_walk.rest_of.Goals as goal
@@ -29,7 +29,7 @@ returns-then-pebble-size c =
     c.member.ensures (class_of (remove (take size held) pebble))
     (rest-class board held c.requires.held size inside pebble c.if-pebble-size.true)
     (c.requires.rests.rows size (omega arith) pebble (omega (arith, c.if-pebble-size.true)))
-    ∙ ap class_number (sym (rest-push held size inside pebble c.if-pebble-size.true))
+    ∙ ap number_by_greatest (sym (rest-push held size inside pebble c.if-pebble-size.true))
 
 pub member-requires-2-clause-class : goal.member-requires-2-clause-class
 member-requires-2-clause-class c =
@@ -51,5 +51,5 @@ returns c =
     omega (arith, c.requires.pebble, c.if-pebble-size.false, c.if-pebble-size-2.false) in
     c.member-2.ensures (class_of (remove (take size held) size)) (whole-class board held c.requires.held size inside)
     (c.requires.rests.rows size (omega arith) size (omega arith))
-    ∙ ap class_number (sym (rest-all held size inside))
-    ∙ ap (λ n. class_number (class_of (remove (take (size + 1) held) n))) after
+    ∙ ap number_by_greatest (sym (rest-all held size inside))
+    ∙ ap (λ n. number_by_greatest (class_of (remove (take (size + 1) held) n))) after

@@ -1,8 +1,6 @@
 use Rattle.std.proofs.Common.{◌≡◌, ◌+◌, ◌*◌, ◌<◌, ◌∙◌, true, refl, ap, sym, subst}
 use Rattle.std.proofs.lemmas.Result.{err_from_is_err_and}
-use Rattle.board_text.specs.PlainBoard.{IsBoard}
 use Rattle.positions.specs.Claim.{claim_of}
-use Rattle.positions.specs.Value.{HasValue}
 use Rattle.proof_text.specs.Proof.{asks_adversary, asks_labeller}
 use Rattle.strategies.specs.Inside.NormalForm.{normal_by}
 use Rattle.strategies.specs.Sides.{HasStrategy, claim_for}
@@ -25,19 +23,17 @@ section_in_parts-requires-then-asks_adversary-clause-kind g c = λ κs lives. (c
 
 pub returns-in_err-labeller-clause-fault : goal.returns-in_err-labeller-clause-fault
 returns-in_err-labeller-clause-fault g c =
-    let board = g.M.Moves.board c.args.moves.now in
+    let board = c.args.moves.now in
     let group = c.args.alike.now in
     let form = c.requires.normal.form in
-    let is_board : IsBoard board = subst IsBoard c.board.ensures c.pebbles-pebbles.ensures.is_board in
+    let is_board = c.start_value-value.ensures.is_board in
     let pebbles : c.pebbles-pebbles.result ≡ board.pebbles =
     c.pebbles-pebbles.ensures.value ∙ ap (λ b. b.pebbles) c.board.ensures in
     let room = subst (λ p. c.args.bytes < (c.labeller_room-most.result + 1) * (13 + 4 * p)) pebbles
     c.labeller_room-most.ensures in
-    let value = c.value-value.result in
-    let has : HasValue board board.start value = subst (λ s. HasValue board s value)
-    (c.start.ensures.value ∙ ap (λ b. b.start) c.board-2.ensures) c.value-value.ensures in
-    let strategy : HasStrategy c.args.side value =
-    c.requires.strategy value has in
+    let value = c.start_value-value.result in
+    let has = c.start_value-value.ensures.value in
+    let strategy : HasStrategy c.args.side value = c.requires.strategy value has in
     let asked : asks_labeller (claim_for c.args.side (claim_of value)) ≡ true =
     ap asks_labeller (sym c.claim_for-claim.ensures) ∙ sym c.asks_labeller.ensures ∙ c.if-asks_labeller.true in
     let fault = c.in_err-labeller.field-0.0 in
@@ -48,19 +44,17 @@ returns-in_err-labeller-clause-fault g c =
 
 pub returns-in_err-adversary-clause-fault : goal.returns-in_err-adversary-clause-fault
 returns-in_err-adversary-clause-fault g c =
-    let board = g.M.Moves.board c.args.moves.now in
+    let board = c.args.moves.now in
     let group = c.args.alike.now in
     let form = c.requires.normal.form in
-    let is_board : IsBoard board = subst IsBoard c.board.ensures c.pebbles-pebbles.ensures.is_board in
+    let is_board = c.start_value-value.ensures.is_board in
     let pebbles : c.pebbles-pebbles.result ≡ board.pebbles =
     c.pebbles-pebbles.ensures.value ∙ ap (λ b. b.pebbles) c.board.ensures in
     let room = subst (λ p. c.args.bytes < (c.adversary_room-most.result + 1) * (13 + 2 * p)) pebbles
     c.adversary_room-most.ensures in
-    let value = c.value-value.result in
-    let has : HasValue board board.start value = subst (λ s. HasValue board s value)
-    (c.start.ensures.value ∙ ap (λ b. b.start) c.board-2.ensures) c.value-value.ensures in
-    let strategy : HasStrategy c.args.side value =
-    c.requires.strategy value has in
+    let value = c.start_value-value.result in
+    let has = c.start_value-value.ensures.value in
+    let strategy : HasStrategy c.args.side value = c.requires.strategy value has in
     let asked : asks_adversary (claim_for c.args.side (claim_of value)) ≡ true =
     ap asks_adversary (sym c.claim_for-claim.ensures) ∙ sym c.asks_adversary.ensures ∙ c.if-asks_adversary.true in
     let fault = c.in_err-adversary.field-0.0 in

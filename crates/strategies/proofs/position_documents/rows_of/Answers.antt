@@ -5,14 +5,14 @@ use Rattle.strategies.proofs.position_documents.rows_of.Goals as goal
 
 pub returns-clause-document : goal.returns-clause-document
 returns-clause-document g c =
-    let board = g.M.Moves.board c.args.moves.now in
+    let board = c.args.moves.now in
     rw c.claim_for.ensures (made_is board (normal_by board c.args.alike.now) c.requires.normal.form c.requires.start
     c.args.side c.args.value c.requires.value c.requires.strategy c.args.labeller.items c.args.adversary.items
     c.requires.labeller c.requires.adversary)
 
 pub returns-clause-padded : goal.returns-clause-padded
 returns-clause-padded g c =
-    let board = g.M.Moves.board c.args.moves.now in
+    let board = c.args.moves.now in
     let normal = normal_by board c.args.alike.now in
     record {
       places = filled_if board (class_labeller_side board normal c.args.value) _ _ c.args.labeller.items

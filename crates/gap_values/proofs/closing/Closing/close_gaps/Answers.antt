@@ -1,151 +1,171 @@
-use Rattle.std.proofs.Common.{◌≡◌, ◌∙◌, ◌+◌, ◌-◌, ◌<◌, ◌≤◌, ℕ, min, suc, length, sym, ap, subst, arith, rules}
+use Rattle.std.proofs.Common.{◌≡◌, ◌∙◌, ◌+◌, ◌-◌, ◌<◌, ◌≤◌, ℕ, min, suc, length, replicate, sym, ap, subst, arith}
+use Rattle.std.proofs.Common.{rules, inl, inr}
+use Rattle.std.proofs.lemmas.Bool.{cases_lt}
 use Rattle.board_text.specs.PlainBoard.{PlainBoard, places}
 use Rattle.classes.specs.Families.{least_places}
 use Rattle.classes.specs.Numbers.{ways, class_with}
 use Rattle.classes.proofs.Cited.{ways-fit}
-use Rattle.gap_values.specs.Inside.Families.{IsAtFamily}
-use Rattle.gap_values.specs.Inside.Sets.{ArePassed}
+use Rattle.classes.specs.FamilyWalks.{IsAtFamily}
+use Rattle.gap_values.specs.Inside.Sets.{ArePassed, AreSetsOf, IsOfRound}
 use Rattle.gap_values.proofs.ClosingSteps.{passed-join, passed-none, passed-over}
-use Rattle.gap_values.proofs.FamilyMembers.{next-start, size-of, walk-all, walk-of}
-use Rattle.gap_values.proofs.FamilyMembers.{walk-within, walk-zero}
+use Rattle.gap_values.proofs.TellingSteps.{round-none, sets-none}
+use Rattle.classes.proofs.Cited.{next-start, size-of, walk-all, walk-of}
+use Rattle.classes.proofs.Cited.{walk-within}
+use Rattle.gap_values.proofs.closing.Closing.close_gaps.Given.{Over}
 use Rattle.gap_values.proofs.closing.Closing.close_gaps.Goals as goal
-use Rattle.gap_values.proofs.closing.Closing.close_gaps.Goals.{After-family_size-size, After-index_among-to}
+use Rattle.gap_values.proofs.closing.Closing.close_gaps.Goals.{After-family_size-size, After-fill, After-index_among-to}
 use Rattle.gap_values.proofs.closing.Closing.close_gaps.Goals.{then-is_among, else-is_among}
 
-pub loop-number-init : goal.loop-number-init
-loop-number-init c =
+-- no gap was told yet
+none-told : (g : Over) (c : After-fill g)
+    → AreSetsOf c.args.self.now.board.now (IsOfRound c.args.self.now.round c.args.first c.args.part.now) c.fill.new.self
+none-told g c =
     let b = c.args.self.now.board.now in
-    let walk = c.families-walk.result in
-    let count : walk.count ≡ b.pebbles - 2 =
-    c.families-walk.ensures.count_is ∙ ap (λ n. n - 2) c.pebbles-fewer.ensures.value in
-    let own : IsAtFamily c.args.self.now.numbers.now walk.count 0 walk =
-    subst (λ n. IsAtFamily c.args.self.now.numbers.now n 0 walk)
-    (sym c.families-walk.ensures.count_is) c.families-walk.ensures in
-    let start : walk.start ≡ 0 =
-    walk-zero b (b.pebbles - 2) walk
-    (walk-of c.args.self.now.numbers.now b walk.count (b.pebbles - 2) c.requires.closing.numbers count 0 walk own) in
-    let none : min (walk.start - c.args.first) (length c.args.part.now) ≡ 0 = omega (arith, start) in
+    sets-none b c.requires.closing.is_board (IsOfRound c.args.self.now.round c.args.first c.args.part.now)
+    c.below.result c.fill.new.self
+    (c.fill.ensures.after (λ y e. e) ∙ ap (λ n. replicate n c.below.result) c.requires.told) c.below.ensures
+    (round-none c.args.self.now.round c.args.first c.args.part.now c.requires.fresh)
+
+pub returns-then-is_empty-clause-passed : goal.returns-then-is_empty-clause-passed
+returns-then-is_empty-clause-passed g c =
+    let none : length c.args.part.now ≡ 0 = search rules in
+    subst (λ n. ArePassed c.args.self.now.board.now c.args.self.now.sets.now c.args.self.now.round c.args.first 0 n
+    c.args.part.now c.args.part.now) (sym none)
+    (passed-none c.args.self.now.board.now c.args.self.now.sets.now c.args.self.now.round c.requires.closing.round
+    c.args.first 0 c.args.part.now)
+
+pub returns-then-is_empty-clause-told : goal.returns-then-is_empty-clause-told
+returns-then-is_empty-clause-told g c = none-told g (goal.at.returns-then-is_empty-clause-told g c).After-fill
+
+pub loop-walk-init : goal.loop-walk-init
+loop-walk-init g c =
+    let b = c.args.self.now.board.now in
+    let walk = c.family_of-number.result.1 in
+    let found = c.family_of-number.ensures in
+    let none : min (walk.start - c.args.first) (length c.args.part.now) ≡ 0 = omega (arith, found.from) in
     record {
-      walk = own;
-      count = count;
+      walk = subst (λ n. IsAtFamily c.args.self.now.numbers.now n c.family_of-number.result.0 walk)
+          (sym found.walk.count_is) found.walk;
+      count = found.walk.count_is ∙ ap (λ n. n - 2) c.pebbles-fewer.ensures.value;
       passed =
           subst (λ n. ArePassed b c.args.self.now.sets.now c.args.self.now.round c.args.first 0 n c.args.part.now
           c.args.part.now)
           (sym none) (passed-none b c.args.self.now.sets.now c.args.self.now.round c.requires.closing.round
           c.args.first 0 c.args.part.now);
+      told = none-told g (goal.at.loop-walk-init g c).After-fill;
     }
 
-module _ (c : After-family_size-size) where
+module _ (g : Over) (c : After-family_size-size g) where
   abbrev b : PlainBoard
   b = c.args.self.now.board.now
-
-  low : c.loop-number.number < ways (b.pebbles - 2) (places b)
-  low =
-      let all = c.ways-number-end.ensures.value ∙ ap (λ n. ways (n - 2) c.places.result) c.pebbles-fewer.ensures.value
-      ∙ ap (ways (b.pebbles - 2)) c.places.ensures.value in
-      omega (arith, all, c.loop-number-test.true)
-
-  at : IsAtFamily b (b.pebbles - 2) c.loop-number.number c.loop-number.walk
-  at = walk-of c.args.self.now.numbers.now b c.loop-number.walk.count (b.pebbles - 2) c.requires.closing.numbers
-      c.loop-number.invariant.count c.loop-number.number c.loop-number.walk c.loop-number.invariant.walk
-
-  size_is : c.family_size-size.result
-      ≡ least_places (places b) (class_with (places b) (b.pebbles - 2) c.loop-number.number)
-  size_is = size-of c.args.self.now.numbers.now b c.loop-number.walk.count (b.pebbles - 2) c.requires.closing.numbers
-      c.loop-number.invariant.count c.loop-number.number c.family_size-size.result c.family_size-size.ensures
 
   one : suc (b.pebbles - 2) ≡ b.pebbles - 1
   one = let some = c.requires.closing.some in omega arith
 
-  within : c.loop-number.walk.start + c.family_size-size.result ≤ ways (b.pebbles - 1) (places b)
-  within = subst (λ n. c.loop-number.walk.start + c.family_size-size.result ≤ ways n (places b)) one
-      (walk-within b (b.pebbles - 2) c.loop-number.number c.family_size-size.result c.loop-number.walk low at size_is)
+  at : IsAtFamily b (b.pebbles - 2) c.loop-walk.number c.loop-walk.walk
+  at = walk-of c.args.self.now.numbers.now b c.loop-walk.walk.count (b.pebbles - 2) c.requires.closing.numbers
+      c.loop-walk.invariant.count c.loop-walk.number c.loop-walk.walk c.loop-walk.invariant.walk
+
+  -- the walk isn't behind all families, since its gaps begin before the part's end
+  low : c.loop-walk.number < ways (b.pebbles - 2) (places b)
+  low = elim (cases_lt c.loop-walk.number (ways (b.pebbles - 2) (places b))) [
+    | inl before ↦ before
+    | inr past ↦
+        let end = walk-all b (b.pebbles - 2) c.loop-walk.number (b.pebbles - 1) c.loop-walk.walk past one at in
+        absurd (omega (arith, end, c.loop-walk-test.true, c.loop-walk.auto.part, c.requires.part))
+  ]
+
+  size_is : c.family_size-size.result
+      ≡ least_places (places b) (class_with (places b) (b.pebbles - 2) c.loop-walk.number)
+  size_is = size-of c.args.self.now.numbers.now b c.loop-walk.walk.count (b.pebbles - 2) c.requires.closing.numbers
+      c.loop-walk.invariant.count c.loop-walk.number c.family_size-size.result c.family_size-size.ensures
+
+  within : c.loop-walk.walk.start + c.family_size-size.result ≤ ways (b.pebbles - 1) (places b)
+  within = subst (λ n. c.loop-walk.walk.start + c.family_size-size.result ≤ ways n (places b)) one
+      (walk-within b (b.pebbles - 2) c.loop-walk.number c.family_size-size.result c.loop-walk.walk low at size_is)
+
+pub overflow_add-first : goal.overflow_add-first
+overflow_add-first g c =
+    let b = c.args.self.now.board.now in
+    let most = ways-fit b (b.pebbles - 1) (places b) c.requires.closing.is_board (omega arith) (omega arith) in
+    let few : c.args.first + length c.loop-walk.part ≤ 288136807515649 =
+    omega (arith, c.requires.part, c.loop-walk.auto.part, most) in
+    search (rules, few)
 
 pub overflow_add-start : goal.overflow_add-start
-overflow_add-start c =
-    let here = (goal.at.overflow_add-start c).After-family_size-size in
+overflow_add-start g c =
+    let here = (goal.at.overflow_add-start g c).After-family_size-size in
     let b = c.args.self.now.board.now in
-    let most = ways-fit b (b.pebbles - 1) (places b) c.places.ensures.is_board (omega arith) (omega arith) in
-    let few : c.loop-number.walk.start + c.family_size-size.result ≤ 288136807515649 =
-    omega (arith, within here, most) in
+    let most = ways-fit b (b.pebbles - 1) (places b) c.requires.closing.is_board (omega arith) (omega arith) in
+    let few : c.loop-walk.walk.start + c.family_size-size.result ≤ 288136807515649 =
+    omega (arith, within g here, most) in
     search (rules, few)
 
 -- the indexes of the family's gaps in the part
-module _ (c : After-index_among-to) where
+module _ (g : Over) (c : After-index_among-to g) where
   abbrev count : ℕ
   count = length c.args.part.now
 
-  from_is : c.index_among-from.result ≡ min (c.loop-number.walk.start - c.args.first) count
+  from_is : c.index_among-from.result ≡ min (c.loop-walk.walk.start - c.args.first) count
   from_is = c.index_among-from.ensures
-      ∙ ap (min (c.loop-number.walk.start - c.args.first)) c.loop-number.invariant.passed.same_length
+      ∙ ap (min (c.loop-walk.walk.start - c.args.first)) c.loop-walk.auto.part
 
   to_is : c.index_among-to.result
-      ≡ min (c.loop-number.walk.start + c.family_size-size.result - c.args.first) count
+      ≡ min (c.loop-walk.walk.start + c.family_size-size.result - c.args.first) count
   to_is = c.index_among-to.ensures
-      ∙ ap (min (c.loop-number.walk.start + c.family_size-size.result - c.args.first))
-      c.loop-number.invariant.passed.same_length
+      ∙ ap (min (c.loop-walk.walk.start + c.family_size-size.result - c.args.first)) c.loop-walk.auto.part
 
   order : c.index_among-from.result ≤ c.index_among-to.result
   order = omega (arith, from_is, to_is)
 
-pub loop-number-preserved : goal.loop-number-preserved
-loop-number-preserved c =
-    let here = (goal.at.loop-number-preserved c).After-family_size-size in
-    let ends = (goal.at.loop-number-preserved c).After-index_among-to in
+pub loop-walk-preserved : goal.loop-walk-preserved
+loop-walk-preserved g c =
+    let here = (goal.at.loop-walk-preserved g c).After-family_size-size in
+    let ends = (goal.at.loop-walk-preserved g c).After-index_among-to in
     let b = c.args.self.now.board.now in
     let sets = c.args.self.now.sets.now in
     let round : ℕ = c.args.self.now.round in
     let first : ℕ = c.args.first in
     let from : ℕ = c.index_among-from.result in
     let to : ℕ = c.index_among-to.result in
-    let number : ℕ = c.loop-number.number in
-    let walk = c.loop-number.walk in
+    let number : ℕ = c.loop-walk.number in
+    let walk = c.loop-walk.walk in
     let new = c.next_family.new.walk in
     let next = walk-of c.args.self.now.numbers.now b walk.count
-    (b.pebbles - 2) c.requires.closing.numbers c.loop-number.invariant.count
+    (b.pebbles - 2) c.requires.closing.numbers c.loop-walk.invariant.count
     (number + 1) new c.next_family.ensures.walk in
     let start : new.start ≡ walk.start + c.family_size-size.result =
-    next-start b (b.pebbles - 2) number c.family_size-size.result walk (low here) (at here) (size_is here) new next in
+    next-start b (b.pebbles - 2) number c.family_size-size.result walk (low g here) (at g here) (size_is g here) new
+    next in
     let end : to ≡ min (new.start - first) (length c.args.part.now) =
-    to_is ends ∙ ap (λ n. min (n - first) (length c.args.part.now)) (sym start) in
-    let was : ArePassed b sets round first 0 from c.args.part.now c.loop-number.part =
-    subst (λ n. ArePassed b sets round first 0 n c.args.part.now c.loop-number.part) (sym (from_is ends))
-    c.loop-number.invariant.passed in
-    record {
-      walk = subst (λ n. IsAtFamily c.args.self.now.numbers.now n (number + 1) new) (sym c.next_family.ensures.count)
-          c.next_family.ensures.walk;
-      count = c.next_family.ensures.count ∙ c.loop-number.invariant.count;
-      passed =
-          subst (λ n. ArePassed b sets round first 0 n c.args.part.now c.if-is_among.part) end
-          (elim c.if-is_among.branch [
-            | then-is_among w ↦ rw w.part-is
-                (passed-join b sets round c.requires.closing.round first 0 from to c.args.part.now c.loop-number.part
-                w.close_family.new.part (omega arith) (order ends) was w.close_family.ensures)
-            | else-is_among w ↦ rw w.part-is
-                (passed-join b sets round c.requires.closing.round first 0 from to c.args.part.now c.loop-number.part
-                c.loop-number.part (omega arith) (order ends) was
-                (passed-over b sets round c.requires.closing.round first from to c.loop-number.part
-                (λ index least under opened.
-                let yes = c.is_among.ensures.1 (index, least, under, opened) in
-                let no_one = w.if-is_among.false in
-                let bad : ⊥ = cc in bad)))
-          ]);
-    }
-
-pub returns : goal.returns
-returns c =
-    let b = c.args.self.now.board.now in
-    let all = c.ways-number-end.ensures.value ∙ ap (λ n. ways (n - 2) c.places.result) c.pebbles-fewer.ensures.value
-    ∙ ap (ways (b.pebbles - 2)) c.places.ensures.value in
-    let some = c.requires.closing.some in
-    let one : suc (b.pebbles - 2) ≡ b.pebbles - 1 = omega arith in
-    let past = c.loop-number-test.false in
-    let end = walk-all b (b.pebbles - 2) c.loop-number.number (b.pebbles - 1) c.loop-number.walk
-    (omega (arith, all, past)) one
-    (walk-of c.args.self.now.numbers.now b c.loop-number.walk.count (b.pebbles - 2) c.requires.closing.numbers
-    c.loop-number.invariant.count c.loop-number.number c.loop-number.walk c.loop-number.invariant.walk) in
-    let whole : min (c.loop-number.walk.start - c.args.first) (length c.args.part.now) ≡ length c.args.part.now =
-    omega (arith, end, c.requires.part) in
-    subst (λ n. ArePassed b c.args.self.now.sets.now c.args.self.now.round c.args.first 0 n c.args.part.now
-    c.loop-number.part) whole
-    c.loop-number.invariant.passed
+    to_is g ends ∙ ap (λ n. min (n - first) (length c.args.part.now)) (sym start) in
+    let was : ArePassed b sets round first 0 from c.args.part.now c.loop-walk.part =
+    subst (λ n. ArePassed b sets round first 0 n c.args.part.now c.loop-walk.part) (sym (from_is g ends))
+    c.loop-walk.invariant.passed in
+    let walk_is : IsAtFamily c.args.self.now.numbers.now new.count (number + 1) new =
+    subst (λ n. IsAtFamily c.args.self.now.numbers.now n (number + 1) new) (sym c.next_family.ensures.count)
+    c.next_family.ensures.walk in
+    let count_is : new.count ≡ b.pebbles - 2 = c.next_family.ensures.count ∙ c.loop-walk.invariant.count in
+    elim c.if-is_among.branch [
+      | then-is_among w ↦ rw (w.part-is, w.told-is) record {
+        walk = walk_is;
+        count = count_is;
+        passed = subst (λ n. ArePassed b sets round first 0 n c.args.part.now w.close_family.new.part) end
+            (passed-join b sets round c.requires.closing.round first 0 from to c.args.part.now c.loop-walk.part
+            w.close_family.new.part (omega arith) (order g ends) was w.close_family.ensures.passed);
+        told = w.close_family.ensures.told;
+      }
+      | else-is_among w ↦ rw (w.part-is, w.told-is) record {
+        walk = walk_is;
+        count = count_is;
+        passed = subst (λ n. ArePassed b sets round first 0 n c.args.part.now c.loop-walk.part) end
+            (passed-join b sets round c.requires.closing.round first 0 from to c.args.part.now c.loop-walk.part
+            c.loop-walk.part (omega arith) (order g ends) was
+            (passed-over b sets round c.requires.closing.round first from to c.loop-walk.part
+            (λ index least under opened.
+            let yes = c.is_among.ensures.1 (index, least, under, opened) in
+            let no_one = w.if-is_among.false in
+            let bad : ⊥ = cc in bad)));
+        told = c.loop-walk.invariant.told;
+      }
+    ]

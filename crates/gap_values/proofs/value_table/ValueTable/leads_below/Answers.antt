@@ -1,4 +1,4 @@
-use Rattle.std.proofs.Common.{Some, refl, subst}
+use Rattle.std.proofs.Common.{refl, subst}
 use Rattle.std.proofs.lemmas.Bool.{lt-ltb, ltb-true}
 use Rattle.gap_values.specs.BestOfGap.{IsBestOfGap}
 use Rattle.gap_values.proofs.LeadingBelow.{best-below, below-best, lasting-best}

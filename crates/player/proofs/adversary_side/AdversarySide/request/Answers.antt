@@ -18,7 +18,7 @@ pub invariant_of-self : goal.invariant_of-self
 invariant_of-self g c =
     let best = rw c.as_slice.ensures.value at c.in-Some.ensures.best in
     rw c.with-self-inside.ensures
-    (moved_is_configuration (g.M.Moves.board c.self.inside.moves.now) c.self.inside.configuration c.args.pebble
+    (moved_is_configuration c.self.inside.moves.now c.self.inside.configuration c.args.pebble
     c.in-Some.label
     best.0.legal.is_label c.self.invariant)
 
@@ -26,6 +26,6 @@ pub invariant_of-self-in-Some : goal.invariant_of-self-in-Some
 invariant_of-self-in-Some g c =
     let best = rw c.as_slice.ensures.value at c.in-Some.ensures.best in
     rw c.with-self-inside.ensures
-    (moved_is_configuration (g.M.Moves.board c.self.inside.moves.now) c.self.inside.configuration c.args.pebble
+    (moved_is_configuration c.self.inside.moves.now c.self.inside.configuration c.args.pebble
     c.in-Some.label
     best.0.legal.is_label c.self.invariant)

@@ -9,10 +9,10 @@ request_at-request-requires g c =
     let i = c.self.invariant in
     let legal = legal_there _ _ c.self.view_is c.self.inside.asked c.args.label i.best c.requires.legal in
     rw (c.as_slice.ensures.value, c.with-configuration.ensures) (record {
-      held = moved_is_configuration (g.M.Moves.board c.self.inside.moves.now) c.self.inside.configuration
+      held = moved_is_configuration c.self.inside.moves.now c.self.inside.configuration
           c.self.inside.asked c.args.label
           legal.is_label i.is_configuration;
-      finite = finite_after (g.M.Moves.board c.self.inside.moves.now) c.self.inside.configuration c.self.inside.asked
+      finite = finite_after c.self.inside.moves.now c.self.inside.configuration c.self.inside.asked
           c.args.label i.best
           legal;
     })
@@ -22,12 +22,12 @@ invariant_of-self g c =
     let i = c.self.invariant in
     let legal = legal_there _ _ c.self.view_is c.self.inside.asked c.args.label i.best c.requires.legal in
     let asked = rw c.in-Asks.is at c.in_ok-pebble.ensures in
-    let request = subst (λ (held : List ℕ). IsRequestAt (g.M.Moves.board c.self.inside.moves.now) held
+    let request = subst (λ (held : List ℕ). IsRequestAt c.self.inside.moves.now held
     c.request_at-request.result)
     c.as_slice.ensures.value c.request_at-request.ensures in
     record {
       is_configuration = rw c.with-configuration.ensures
-          (moved_is_configuration (g.M.Moves.board c.self.inside.moves.now) c.self.inside.configuration
+          (moved_is_configuration c.self.inside.moves.now c.self.inside.configuration
           c.self.inside.asked c.args.label
           legal.is_label i.is_configuration);
       best = rw asked.2.1 request.best;
@@ -38,7 +38,7 @@ returns-in-Asks-clause-said g c =
     let i = c.self.invariant in
     let legal = legal_there _ _ c.self.view_is c.self.inside.asked c.args.label i.best c.requires.legal in
     let asked = rw c.in-Asks.is at c.in_ok-pebble.ensures in
-    let request = subst (λ (held : List ℕ). IsRequestAt (g.M.Moves.board c.self.inside.moves.now) held
+    let request = subst (λ (held : List ℕ). IsRequestAt c.self.inside.moves.now held
     c.request_at-request.result)
     c.as_slice.ensures.value c.request_at-request.ensures in
     put_said _ _ c.self.view_is _ c.self.inside.asked c.args.label c.with-configuration.result _ _ _ _ _ _
@@ -50,7 +50,7 @@ returns-in-Ends-clause-said g c =
     let i = c.self.invariant in
     let legal = legal_there _ _ c.self.view_is c.self.inside.asked c.args.label i.best c.requires.legal in
     let asked = rw c.in-Ends.is at c.in_ok-pebble.ensures in
-    let request = subst (λ (held : List ℕ). IsRequestAt (g.M.Moves.board c.self.inside.moves.now) held
+    let request = subst (λ (held : List ℕ). IsRequestAt c.self.inside.moves.now held
     c.request_at-request.result)
     c.as_slice.ensures.value c.request_at-request.ensures in
     put_said _ _ c.self.view_is _ c.self.inside.asked c.args.label c.with-configuration.result _ _ _ _ _ _

@@ -21,7 +21,7 @@ returns-then-size-unread-clause-line g c =
     let i = c.loop-size.invariant in
     let found = rw c.unread.ensures at c.line_size-size.ensures in
     let inside = rw c.unread-in-loop-size.ensures at c.if-size-unread.true in
-    closed_line _ c.loop-size.self _ _ _ i.more c.line_size-size.result _
+    closed_line _ c.loop-size.self _ _ i.more c.line_size-size.result _
     (ap (λ u. u.has_ended) (sym c.self.view_is) ∙ c.if-self.false) i.grown i.read i.goes_on
     (omega (arith, c.if-size-gt-MOST_BYTES.false)) inside found.inside (found.feed inside)
     c.take_line.ensures.meaning c.take_line.ensures.rest c.take_line.ensures.same

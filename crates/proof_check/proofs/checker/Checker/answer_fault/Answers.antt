@@ -34,4 +34,22 @@ returns c =
     match_then c.turns_fault.result
     (λ serves. record { label = label; answer = answer; legal = legal; serves = serves })
     (λ fault wrong. rw rank_is (label, answer, inr (legal, wrong.0, wrong.1)))
-    (rw c.after_one-left.ensures at c.turns_fault.ensures result is (rw c.requires.moves at c.after.ensures.rank))
+    (rw c.requires.left at c.turns_fault.ensures result is (rw c.requires.moves at c.after-result.ensures.rank))
+
+pub returns-then-serves : goal.returns-then-serves
+returns-then-serves c =
+    let v = c.args.self.now in
+    let row = c.args.row.now in
+    let pebble = c.args.pebble in
+    let label = slice_index row.take pebble in
+    let fits : pebble < length row.take = search rules in
+    let legal = (rw c.requires.moves at c.is_legal.ensures).0 c.if-not-is_legal.false in
+    let result = moved (configuration_at v.board row.at) pebble label in
+    record {
+      label = label;
+      answer = answer_is v.board.pebbles row.take pebble c.requires.pebble fits;
+      legal = legal;
+      serves = rw c.requires.left at c.serves.ensures c.if-serves.true result
+          (result_is v.board row.at pebble label c.requires.row.is_rank legal.is_label)
+          (rw c.requires.moves at c.after-result.ensures.rank);
+    }

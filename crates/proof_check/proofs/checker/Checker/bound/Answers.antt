@@ -1,13 +1,13 @@
-use Rattle.std.proofs.Common.{◌≡◌, ℕ, suc, ◌<◌, ◌≤◌, ◌∙◌, refl}
+use Rattle.std.proofs.Common.{ℕ, ◌<◌, ◌≤◌, ◌∙◌, refl, arith}
 use Rattle.board_text.specs.declared.board.TheConstants.{MAX_LABELS}
 use Rattle.positions.specs.Game.{Legal, moved}
 use Rattle.positions.specs.Ranks.{configuration_at}
 use Rattle.positions.proofs.Cited.{configuration_at_is}
 use Rattle.proof_text.specs.Proof.{request_row}
-use Rattle.proof_text.specs.Rules.{IsListedBelow}
 use Rattle.proof_check.proofs.AdversarySteps.{legal_few, next_legal, met_on, all_met}
 use Rattle.proof_check.proofs.FoundRows.{row_for}
 use Rattle.proof_check.proofs.GapBounds.{IsServed, bound_of_gap, served_more}
+use Rattle.proof_check.proofs.RowCounts.{below_count}
 use Rattle.proof_check.proofs.RowTests.{result_is}
 use Rattle.proof_check.proofs.checker.Checker.bound.Goals as goal
 
@@ -32,16 +32,17 @@ loop-label-preserved c =
     let all = c.adversary.ensures in
     let is = result_is v.board at ask label c.requires.is_rank legal.is_label in
     let ranks = rw c.moves-moves.ensures at c.results-results.ensures.ranks in
+    let held = c.count-above.ensures (omega (arith, c.if-above-eq0.false)) in
     let found = row_for v.board (request_row v.board) (λ r. r.at) (λ r. r.at)
     (λ r. refl) c.adversary.result.now v.proof.adversary
     all.rows all.ready.ranked _ (moved configuration ask label) is
-    (c.rank.ensures ∙ ranks label legal.is_label) c.in-Some-find.found.now c.in-Some-find.ensures in
+    (c.rank.ensures ∙ ranks label legal.is_label) held.0 held.1 in
     met_on IsLegal Meets few skipped c.loop-label.answers before c.take_next.new.self label c.in-Some.ensures
     (λ small _. record {
-      row = request_row v.board c.in-Some-find.found.now;
+      row = request_row v.board held.0;
       among = found.among;
       at = found.at_is;
-      below = c.raised-bound.ensures.above small;
+      below = below_count held.0.left c.count-above.result bound held.2 c.raised-bound.ensures.above small;
     })
 
 pub returns : goal.returns

@@ -12,7 +12,6 @@ use Rattle.proof_text.proofs.RowLemmas.{row_unordered, row_early, row_next, six_
 use Rattle.proof_text.proofs.class_rows.AdversaryClassRowRowBoard.read.Goals as goal
 use Rattle.proof_text.proofs.class_rows.AdversaryClassRowRowBoard.read.Goals.{In-Some}
 use Rattle.proof_text.proofs.class_rows.AdversaryClassRowRowBoard.read.Goals.{then-not-values-via-then-not-values}
-use Rattle.proof_text.proofs.class_rows.AdversaryClassRowRowBoard.read.Goals.{}
 use Rattle.proof_text.proofs.class_rows.AdversaryClassRowRowBoard.read.Goals.{then-not-values-via-else-not-values+then-not-values-2}
 
 -- the words of the row

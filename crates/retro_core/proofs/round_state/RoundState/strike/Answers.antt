@@ -11,8 +11,8 @@ use Rattle.retro_core.proofs.round_state.RoundState.strike.Given.{Over}
 use Rattle.retro_core.proofs.round_state.RoundState.strike.Goals.{After-strike, then-count-eq1, else-count-eq1}
 use Rattle.retro_core.proofs.round_state.RoundState.strike.Goals as goal
 
-pub struck-requires : goal.struck-requires
-struck-requires g c =
+pub answered_gap-requires : goal.answered_gap-requires
+answered_gap-requires g c =
     let some : 0 < length c.todo-todo.result.now = some-of _ _ c.is_empty.ensures c.if-is_empty.false in
     let low = (due-read _ _ _ _ _ _ c.self.view_is c.self.invariant.0 c.self.invariant.1 c.args.seat c.requires
     c.index.result.now c.todo-todo.result.now c.index.ensures c.todo-todo.ensures some).worth.is_rank in

@@ -67,9 +67,7 @@ returns-in_err-play-clause-prompts g c =
           refl,
           rounds_found c.args.self.shows_size c.in_ok-board.board c.values.result c.in_ok-values.values
               c.in_ok-values.was rounds.0 rounds.1,
-          c.play.result,
-          ap run_of_play (sym c.in_err-play.was),
-          told.1,
+          (c.play.result, ap run_of_play (sym c.in_err-play.was), told.1),
         ),
       )),
       then_more g.E.Sink.contents g.E.Sink.has_failed _ _ _ notice (rounds.0 ++ told.0) c.tell_size.ensures
@@ -93,9 +91,7 @@ returns-clause-prompts g c =
           refl,
           rounds_found c.args.self.shows_size c.in_ok-board.board c.values.result c.in_ok-values.values
               c.in_ok-values.was rounds.0 rounds.1,
-          c.play.result,
-          ap run_of_play (sym c.in_ok-play.was),
-          told.1,
+          (c.play.result, ap run_of_play (sym c.in_ok-play.was), told.1),
         ),
       ),
       then_more g.E.Sink.contents g.E.Sink.has_failed _ _ _ notice (rounds.0 ++ told.0) c.tell_size.ensures

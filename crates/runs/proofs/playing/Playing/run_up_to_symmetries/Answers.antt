@@ -45,7 +45,8 @@ pub returns-in_err-board-clause-prompts : goal.returns-in_err-board-clause-promp
 returns-in_err-board-clause-prompts g c =
     let p = err_from_is_err_and c.from_residual.result c.from_residual.ensures.1 in (
       [],
-      rw (p.1, p.2) (inl (c.in_err-board.field-0.0, refl, inl (c.in_err-board.ensures.fault, tt), (refl, refl), refl)),
+      rw (p.1, p.2)
+          (inl (c.in_err-board.field-0.0, refl, inl (c.in_err-board.ensures.fault, refl), (refl, refl), refl)),
       none_more g.E.Sink.contents g.E.Sink.has_failed c.args.errors.now,
     )
 
@@ -148,9 +149,7 @@ returns-in_err-play-clause-prompts g c =
             c.in_ok-text.text.items c.in_ok-text.ensures.ok
             c.in_ok-symmetries.symmetries (rw c.as_slice.ensures.value at c.in_ok-symmetries.ensures.found)
             c.in_ok-values.ensures.few,
-        c.play.result,
-        ap run_of_play (sym c.in_err-play.was),
-        told.1,
+        (c.play.result, ap run_of_play (sym c.in_err-play.was), told.1),
       )),
       told.2,
     )
@@ -165,9 +164,7 @@ returns-clause-prompts g c =
             c.in_ok-text.text.items c.in_ok-text.ensures.ok
             c.in_ok-symmetries.symmetries (rw c.as_slice.ensures.value at c.in_ok-symmetries.ensures.found)
             c.in_ok-values.ensures.few,
-        c.play.result,
-        ap run_of_play (sym c.in_ok-play.was),
-        told.1,
+        (c.play.result, ap run_of_play (sym c.in_ok-play.was), told.1),
       ),
       told.2,
     )

@@ -8,9 +8,9 @@ use Rattle.graphs.proofs.Cited.{ordered-gaps, dominator-some, dominator-none}
 use Rattle.solver.specs.Solving.{Solving}
 use Rattle.solver.proofs.solver.Solver.dominator.Given
 use Rattle.solver.proofs.solver.Solver.dominator.Goals as goal
-use Rattle.solver.proofs.solver.Solver.dominator.Goals.{After-struck}
+use Rattle.solver.proofs.solver.Solver.dominator.Goals.{After-answered_gap}
 
-module _ (g : Given.Over) (c : After-struck g) where
+module _ (g : Given.Over) (c : After-answered_gap g) where
   abbrev game : Numbered
   game = c.self.inside.stage.game
 
@@ -25,7 +25,7 @@ module _ (g : Given.Over) (c : After-struck g) where
 
 pub gap_pebble-requires : goal.gap_pebble-requires
 gap_pebble-requires g c =
-    let at = (goal.at.gap_pebble-requires g c).After-struck in
+    let at = (goal.at.gap_pebble-requires g c).After-answered_gap in
     let low = subst (λ (m : Numbered). c.in-Some.gap < (graph_of m).gaps) c.graph.ensures c.in-Some.ensures.1 in
     let own : c.space.result.now ≡ (game g at).board = c.space.ensures ∙ ap (λ (v : Solving). v.game.board)
     (sym c.self.view_is) in
@@ -34,7 +34,7 @@ gap_pebble-requires g c =
 
 pub returns-in-Some : goal.returns-in-Some
 returns-in-Some g c =
-    let at = (goal.at.returns-in-Some g c).After-struck in
+    let at = (goal.at.returns-in-Some g c).After-answered_gap in
     let low = subst (λ (m : Numbered). c.in-Some.gap < (graph_of m).gaps) c.graph.ensures c.in-Some.ensures.1 in
     let own : c.space.result.now ≡ (game g at).board = c.space.ensures ∙ ap (λ (v : Solving). v.game.board)
     (sym c.self.view_is) in
@@ -48,7 +48,7 @@ returns-in-Some g c =
 
 pub returns-in-None : goal.returns-in-None
 returns-in-None g c =
-    let at = (goal.at.returns-in-None g c).After-struck in
+    let at = (goal.at.returns-in-None g c).After-answered_gap in
     let none = subst (λ (m : Numbered). (graph_of m).gaps ≤ (graph_of m).struck c.args.rank) c.graph.ensures
     c.in-None.ensures in
     subst (λ (v : Solving). IsSmallest (IsDominator v.game.board (configuration_of v.game c.args.rank)) None)

@@ -8,8 +8,8 @@ use Rattle.solver.specs.Inside.Stage.{PlainStage}
 use Rattle.solver.proofs.StruckRanks.{in_list}
 use Rattle.solver.proofs.stage.Stage.answers_among.Goals as goal
 
-pub struck-requires : goal.struck-requires
-struck-requires g c =
+pub answered_gap-requires : goal.answered_gap-requires
+answered_gap-requires g c =
     let low = c.requires (get_or c.args.ranks.now c.loop-rank.rank-index 0)
     (in_list c.args.ranks.now c.loop-rank.rank-index 0 c.loop-rank-test.true) in
     let same = ap (λ (v : PlainStage). (graph_of v.game).configurations) c.self.view_is in

@@ -82,9 +82,9 @@ module _ (g : Given.Over) (c : After-index-rank g) where
     nothing high = subst (λ (u : Numbered). is_struck (graph_of u) rank ≡ false) same
         (le-ltb ((graph_of t).struck rank) (graph_of t).gaps high)
 
-pub struck-requires : goal.struck-requires
-struck-requires g c =
-    let b = (goal.at.struck-requires g c).After-index-rank in
+pub answered_gap-requires : goal.answered_gap-requires
+answered_gap-requires g c =
+    let b = (goal.at.answered_gap-requires g c).After-index-rank in
     let i = low g b in
     let size = ap (λ (t : Numbered). (graph_of t).configurations) (tables g b) in
     omega (arith, i, size)
@@ -110,7 +110,7 @@ loop-index-preserved g c =
     let s : PlainStage = c.args.self.now in
     let test : ℕ → Bool = test g b in
     let rest : List ℕ = filter test (drop (suc c.loop-index.index) s.strikes) in
-    elim c.match-struck.branch [
+    elim c.match-answered_gap.branch [
       | in-Some w ↦ rw w.self-is (record {
         striking = subst (λ n. IsStriking w.strike.new.self (filter test (drop n s.strikes)))
             (sym (add-one c.loop-index.index))

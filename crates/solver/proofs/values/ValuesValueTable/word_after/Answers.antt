@@ -12,14 +12,14 @@ use Rattle.solver.proofs.RankValues.{held-value, rank-few, rank-inside}
 use Rattle.solver.proofs.values.ValuesValueTable.word_after.Goals as goal
 use Rattle.solver.proofs.values.ValuesValueTable.word_after.Goals.{After-as_slice}
 
-pub put-requires-clause-room : goal.put-requires-clause-room
-put-requires-clause-room c =
+pub arrange-requires-clause-room : goal.arrange-requires-clause-room
+arrange-requires-clause-room c =
     let is = subst IsBoard (c.self.view_is ∙ c.requires.board) c.self.invariant.is_board in
     omega (
       arith,
       is.pebbles,
       c.requires.is_gap.size,
-      ap length c.of-class.ensures.class,
+      ap length c.arranged-class.ensures.class,
       length-class_of c.args.gap.now,
     )
 
@@ -31,9 +31,9 @@ module _ (c : After-as_slice) where
   same = c.self.view_is ∙ c.requires.board
 
   member : c.as_slice.result.now ≡ member_with c.args.gap.now c.args.label
-  member = result-class (places c.args._board.now) c.args.gap.now c.of-class.result c.put.new.self
+  member = result-class (places c.args._board.now) c.args.gap.now c.arranged-class.result c.arrange.new.self
       c.as_slice.result.now c.args.label
-      c.requires.is_gap.falls c.of-class.ensures.class c.put.ensures c.as_slice.ensures.value
+      c.requires.is_gap.falls c.arranged-class.ensures.class c.arrange.ensures c.as_slice.ensures.value
 
   is : IsConfiguration b c.as_slice.result.now
   is =

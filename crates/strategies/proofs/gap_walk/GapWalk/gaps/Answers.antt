@@ -1,6 +1,6 @@
 use Rattle.std.proofs.Common.{◌≡◌, ◌+◌, ◌-◌, set, ap, sym, ◌∙◌, arith}
 use Rattle.classes.specs.ClassGaps.{gap_at}
-use Rattle.classes.specs.Numbers.{class_number}
+use Rattle.classes.specs.Numbers.{number_by_greatest}
 use Rattle.strategies.proofs.SiblingRanks.{gaps-end, gaps-more}
 use Rattle.strategies.proofs.gap_walk.GapWalk.gaps.Goals as goal
 
@@ -22,4 +22,4 @@ returns c =
     (set c.loop-pebble.numbers (c.pebbles-last.result - 1) c.last_gap.result) (omega (arith, pebbles.value))
     (gaps-more held (c.pebbles-last.result - 1) c.last_gap.result c.loop-pebble.numbers
     (omega (arith, pebbles.value, pebbles.is_board.pebbles)) before
-    (c.last_gap.ensures ∙ ap (λ n. class_number (gap_at held n)) (sym last)))
+    (c.last_gap.ensures ∙ ap (λ n. number_by_greatest (gap_at held n)) (sym last)))

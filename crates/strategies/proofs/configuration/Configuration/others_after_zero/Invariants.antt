@@ -1,5 +1,0 @@
-use Rattle.strategies.proofs.OthersFirst.{AreMovedFrom}
-use Rattle.strategies.proofs.configuration.Configuration.others_after_zero.Given as goal
-
-abbrev pub invariant-loop-index : goal.invariant-loop-index
-invariant-loop-index l = AreMovedFrom l.self-inside.places l.places l.pebble l.index
