@@ -1,3 +1,4 @@
+pub mod PlaceSteps
 pub mod ValueOrder
 pub mod BestAnswers
 pub mod BestRequests

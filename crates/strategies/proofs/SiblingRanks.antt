@@ -47,7 +47,7 @@ module _ (board : PlainBoard) (some : 0 < board.pebbles) where
   abbrev last : ℕ
   last = board.pebbles - 1
 
-  placed : (held : List ℕ) → IsConfiguration board held → (place : ℕ) → place < places board
+  pub placed : (held : List ℕ) → IsConfiguration board held → (place : ℕ) → place < places board
       → IsConfiguration board (moved held last place)
   placed held is place low = record {
     each_pebble = length-set held last place ∙ is.each_pebble;
@@ -72,23 +72,26 @@ module _ (board : PlainBoard) (some : 0 < board.pebbles) where
   pub others-moved : (held : List ℕ) (place : ℕ) → others_held board (moved held last place) ≡ others_held board held
   others-moved held place = take-set held last place
 
-  pub walk-moved : (members : PlainBoard) (held : List ℕ) (first : ℕ) (rests : List ℕ) (place : ℕ)
-      → IsGapWalk board members held first rests
-      → place < places board → IsGapWalk board members (moved held last place) first rests
-  walk-moved members held first rests place is low = record {
+  pub rows-moved : (held rests : List ℕ) (place : ℕ) → AreNumberRows held board.pebbles rests
+      → AreNumberRows (moved held last place) board.pebbles rests
+  rows-moved held rests place are = record {
+    room = are.room;
+    rows = λ size low pebble inside. are.rows size low pebble inside
+        ∙ sym (ap (λ l. number_by_greatest (class_of (remove l pebble)))
+        (take-set-le size held last place (omega (arith, low))));
+  }
+
+  pub walk-moved : (members : PlainBoard) (held : List ℕ) (first : ℕ) (rests gaps next : List ℕ) (place : ℕ)
+      → IsGapWalk board members held first rests gaps
+      → place < places board → AreGapNumbers (moved held last place) board.pebbles next
+      → IsGapWalk board members (moved held last place) first rests next
+  walk-moved members held first rests gaps next place is low are = record {
     same_board = is.same_board;
     is_configuration = placed held is.is_configuration place low;
     ranks = λ other inside. is.ranks other inside ∙ sym (set-set held last place other);
-    numbers = record {
-      room = is.numbers.room;
-      rows = λ size low pebble inside. is.numbers.rows size low pebble inside
-          ∙ sym (ap (λ l. number_by_greatest (class_of (remove l pebble))) (before held size place low));
-    };
+    numbers = rows-moved held rests place is.numbers;
+    gaps_are = are;
   }
-    where
-      before : (held : List ℕ) (size place : ℕ) → size < board.pebbles
-          → take size (set held last place) ≡ take size held
-      before held size place low = take-set-le size held last place (omega (arith, low))
 
 -- ---- gaps
 

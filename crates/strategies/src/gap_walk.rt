@@ -6,7 +6,6 @@ ghost use Rattle.board_text.specs.PlainBoard.{IsBoard, IsConfiguration, places};
 ghost use Rattle.positions.specs.Game.{moved};
 ghost use Rattle.positions.specs.Ranks.{configurations, configuration_at};
 ghost use Rattle.classes.specs.Classes.{class_of};
-ghost use Rattle.classes.specs.ClassGaps.{gap_at};
 ghost use Rattle.classes.specs.Numbers.{number_by_greatest};
 ghost use Rattle.strategies.specs.Inside.MovesAt.{position};
 ghost use Rattle.strategies.specs.Inside.Walks.{AreGapNumbers, AreNumberRows};
@@ -32,6 +31,8 @@ pub(crate) struct GapWalk<'a> {
     /// For the first pebbles, of each number, a row: for each of them the number of the class of
     /// their places but its own, and after these the number of the class of all.
     rests: [u32; ROOM],
+    /// For each pebble, the number of the class of its gap.
+    gaps: [u32; MAX_PEBBLES],
 }
 
 /// The number of entries of a row for each number of pebbles.
@@ -46,7 +47,7 @@ impl<'a> Model for GapWalk<'a> {
     ghost view = { λ w. position w.space.now w.configuration };
 
     ghost invariant = { λ w.
-        IsGapWalk w.space.now w.members.now w.configuration w.first w.rests };
+        IsGapWalk w.space.now w.members.now w.configuration w.first w.rests w.gaps };
 }
 
 impl<'a> GapWalk<'a> {
@@ -60,12 +61,14 @@ impl<'a> GapWalk<'a> {
         let configuration = Places::at(space, rank);
         let mut rests = [0; ROOM];
         fill_rests(members, configuration.as_slice(), 0, &mut rests);
+        let gaps = gaps_of(members, configuration.as_slice(), &rests);
         GapWalk {
             space,
             members,
             configuration,
             first: space.with(rank, last, 0),
             rests,
+            gaps,
         }
     }
 
@@ -79,6 +82,7 @@ impl<'a> GapWalk<'a> {
             return;
         };
         self.configuration.set(self.space.pebbles() - 1, place);
+        self.gaps = gaps_of(self.members, self.configuration.as_slice(), &self.rests);
     }
 
     /// The same, if the place of another pebble than the last one can differ. The rows of the first
@@ -92,6 +96,7 @@ impl<'a> GapWalk<'a> {
         let next = Places::at(self.space, rank);
         let same = count_same(self.configuration.as_slice(), next.as_slice(), last);
         fill_rests(self.members, next.as_slice(), same, &mut self.rests);
+        self.gaps = gaps_of(self.members, next.as_slice(), &self.rests);
         self.first = self.space.with(rank, last, 0);
         self.configuration = next;
     }
@@ -129,49 +134,30 @@ impl<'a> GapWalk<'a> {
 
     /// For each pebble, the number of the class of its gap. The entries after those of the pebbles
     /// say nothing.
-    pub(crate) fn gaps(&self) -> [u32; MAX_PEBBLES]
-        ensures { AreGapNumbers self.now.held self.now.board.pebbles result }
+    pub(crate) fn gaps(&self) -> &[u32; MAX_PEBBLES]
+        ensures { AreGapNumbers self.now.held self.now.board.pebbles result.now }
     {
-        let last = self.pebbles() - 1;
-        let mut numbers = [0; MAX_PEBBLES];
-        for pebble in 0..last {
-            numbers[pebble as usize] = self.gap(pebble);
-        }
-        numbers[last as usize] = self.last_gap();
-        numbers
+        &self.gaps
     }
+}
 
-    /// The number of the class of the gap of `pebble`.
-    pub(crate) fn number(&self, pebble: u8) -> u32
-        requires { pebble < self.now.board.pebbles }
-        ensures { result ≡ number_by_greatest (gap_at self.now.held pebble) }
-    {
-        let last = self.pebbles() - 1;
-        if pebble < last {
-            self.gap(pebble)
-        } else {
-            self.last_gap()
-        }
+/// For each pebble, the number of the class of its gap at the configuration `held`, by the rows
+/// for its first pebbles.
+fn gaps_of(members: &MemberTables, held: &[u16], rests: &[u32; ROOM]) -> [u32; MAX_PEBBLES]
+    requires held { IsConfiguration members.now held.now }
+    requires some { 0 < length held.now }
+    requires few { length held.now ≤ MAX_PEBBLES }
+    requires rests { AreNumberRows held.now (length held.now) rests.now }
+    ensures { AreGapNumbers held.now (length held.now) result }
+{
+    let last = held.len() - 1;
+    let row = MAX_PEBBLES * last;
+    let mut numbers = [0; MAX_PEBBLES];
+    for pebble in 0..last {
+        numbers[pebble] = members.member(last as u8 - 1, rests[row + pebble], held[last]);
     }
-
-    /// The number of the class of the gap of `pebble`, another one than the last.
-    fn gap(&self, pebble: u8) -> u32
-        requires { pebble + 1 < self.now.board.pebbles }
-        ensures { result ≡ number_by_greatest (gap_at self.now.held pebble) }
-    {
-        let last = self.space.pebbles() - 1;
-        let number = self.rests[MAX_PEBBLES * last as usize + pebble as usize];
-        let place = self.configuration.as_slice()[last as usize];
-        self.members.member(last - 1, number, place)
-    }
-
-    /// The number of the class of the last pebble's gap.
-    fn last_gap(&self) -> u32
-        ensures { result ≡ number_by_greatest (gap_at self.now.held (self.now.board.pebbles - 1)) }
-    {
-        let last = self.space.pebbles() as usize - 1;
-        self.rests[MAX_PEBBLES * last + last]
-    }
+    numbers[last] = rests[row + last];
+    numbers
 }
 
 /// How many of the first pebbles, of which there are at most `most`, have the same places in both.

@@ -1,5 +1,5 @@
 -- Walks over configurations by ranks: those that differ in the last pebble's place alone.
-use Rattle.std.specs.Prelude.{◌≡◌, ℕ, ◌+◌, ◌-◌, ◌*◌, ◌<◌, ◌≤◌, List, length}
+use Rattle.std.specs.Prelude.{◌≡◌, ℕ, ◌+◌, ◌-◌, ◌*◌, ◌^◌, ◌<◌, ◌≤◌, List, length}
 use Rattle.std.specs.Prelude.{slice_index, take}
 use Rattle.std.specs.List.{remove}
 use Rattle.board_text.specs.PlainBoard.{PlainBoard, IsConfiguration, places}
@@ -32,17 +32,26 @@ pub record AreGapNumbers (held : List ℕ) (bound : ℕ) (numbers : List ℕ) : 
 
 -- tables for the same board, and from the first rank on its configurations that differ in the last
 -- pebble's place alone, by that place
-pub record IsGapWalk (board members : PlainBoard) (held : List ℕ) (first : ℕ) (rests : List ℕ)
-    : Type 0 where
+pub record IsGapWalk (board members : PlainBoard) (held : List ℕ) (first : ℕ)
+    (rests gaps : List ℕ) : Type 0 where
   pub same_board : members ≡ board
   pub is_configuration : IsConfiguration board held
   pub ranks : (place : ℕ) → place < places board
       → configuration_at board (first + place) ≡ moved held (board.pebbles - 1) place
   pub numbers : AreNumberRows held board.pebbles rests
+  pub gaps_are : AreGapNumbers held board.pebbles gaps
+
+-- for each pebble, the difference in rank that one step of its place makes
+pub record ArePlaceSteps (board : PlainBoard) (steps : List ℕ) : Type 0 where
+  pub room : length steps ≡ MAX_PEBBLES
+  pub each : (pebble : ℕ) → pebble < board.pebbles
+      → slice_index steps pebble ≡ places board ^ (board.pebbles - 1 - pebble)
 
 -- the position is the configuration of the rank, on a board of the limits
-pub record IsBestWalk (board : PlainBoard) (rank : ℕ) (position : HeldPosition) : Type 0 where
+pub record IsBestWalk (board : PlainBoard) (rank : ℕ) (steps : List ℕ)
+    (position : HeldPosition) : Type 0 where
   pub same_board : position.board ≡ board
   pub below : rank < configurations board
   pub held_is : position.held ≡ configuration_at board rank
   pub few : configurations board ≤ MAX_CONFIGURATIONS
+  pub steps_are : ArePlaceSteps board steps

@@ -1,7 +1,7 @@
 use Rattle.std.proofs.Common.{◌<◌, ℕ, subst, arith}
 use Rattle.board_text.specs.PlainBoard.{IsConfiguration}
 use Rattle.positions.proofs.Cited.{configuration_at_is}
-use Rattle.strategies.specs.Inside.Walks.{AreNumberRows}
+use Rattle.strategies.specs.Inside.Walks.{AreGapNumbers, AreNumberRows}
 use Rattle.strategies.proofs.SiblingRanks.{sibling-ranks}
 use Rattle.strategies.proofs.gap_walk.GapWalk.at.Goals as goal
 use Rattle.strategies.proofs.gap_walk.GapWalk.at.Goals.{After-as_slice}
@@ -13,6 +13,11 @@ pub fill_rests-requires-clause-held : goal.fill_rests-requires-clause-held
 fill_rests-requires-clause-held c =
     rw (c.as_slice.ensures.value, c.requires.same_board)
     (is (goal.at.fill_rests-requires-clause-held c).After-as_slice)
+
+pub gaps_of-gaps-requires-clause-held : goal.gaps_of-gaps-requires-clause-held
+gaps_of-gaps-requires-clause-held c =
+    rw (c.as_slice-2.ensures.value, c.requires.same_board)
+    (is (goal.at.gaps_of-gaps-requires-clause-held c).After-as_slice)
 
 pub invariant_of-result : goal.invariant_of-result
 invariant_of-result c =
@@ -27,4 +32,6 @@ invariant_of-result c =
           (rw c.pebbles-last.ensures.value at c.with.ensures.rank) place low);
       numbers = subst (λ (n : ℕ). AreNumberRows c.at-configuration.result n c.fill_rests.new.rests) there.each_pebble
           (rw c.as_slice.ensures.value at c.fill_rests.ensures);
+      gaps_are = subst (λ (n : ℕ). AreGapNumbers c.at-configuration.result n c.gaps_of-gaps.result) there.each_pebble
+          (rw c.as_slice-2.ensures.value at c.gaps_of-gaps.ensures);
     }

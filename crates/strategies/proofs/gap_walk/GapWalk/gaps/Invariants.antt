@@ -1,5 +1,0 @@
-use Rattle.strategies.specs.Inside.Walks.{AreGapNumbers}
-use Rattle.strategies.proofs.gap_walk.GapWalk.gaps.Given as goal
-
-abbrev pub invariant-loop-pebble : goal.invariant-loop-pebble
-invariant-loop-pebble l = AreGapNumbers l.self.held l.pebble l.numbers
