@@ -34,9 +34,7 @@ pub use laws::{
 pub use numbers::{arranged_order, class_order, moved_order, places_at, places_order};
 pub use parsing::{parse, parse_classes, parse_symmetric};
 pub use positions::{Claim, Turns};
-pub use printing::{
-    first_lines, print, print_classes, print_classes_in_parts, print_symmetric, size_of_lines,
-};
+pub use printing::{first_lines, print, print_classes, print_classes_in_parts, print_symmetric};
 pub use proof::{AdversaryRow, LabellerRow, MAX_TURNS, Proof, Ranked};
 pub use row_text::{PlaceWords, RowText};
 pub use symmetries_text::parse_symmetries;

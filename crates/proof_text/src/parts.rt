@@ -94,7 +94,7 @@ fn lines_of<B: BoardOfRows, R: Row<B>>(
     ensures { IfOk result (λ lines. (claim : ClaimData)
         → lines.bytes ≡ flat_map (R.reading (B.board board.now) claim).form.line rows.now) }
 {
-    let size = size_of_lines(board.labels(), board.pebbles(), rows.len());
+    let size = size_of_lines(board, rows.len());
     let mut lines = RowText::new(String::with_capacity(alloc, size)?);
     write_rows(&mut lines, words, board, rows)?;
     Ok(lines)
