@@ -61,6 +61,11 @@ rows_if : {R X : Type 0} (board : PlainBoard) (side : Side R) (shown : R → X) 
 rows_if board side shown true rows others are same none = same refl are
 rows_if board side shown false rows others are same none = ap (map shown) are ∙ sym (none refl)
 
+-- whether rows are asked for, said in two ways
+pub if_asked : {R : Type 0} (board : PlainBoard) (side : Side R) (asked other : Bool) (rows : List R) → asked ≡ other
+    → AreClassRowsIf asked board side rows → AreClassRowsIf other board side rows
+if_asked {R} board side asked other rows same = subst (λ (b : Bool). AreClassRowsIf b board side rows) same
+
 -- what is filled
 pub filled_if : {R : Type 0} (board : PlainBoard) (side : Side R) (P : R → Type 0) (asked : Bool) (rows : List R)
     → ((row : R) → side.IsFilled row → P row) → AreClassRowsIf asked board side rows → All P rows

@@ -1,5 +1,5 @@
 -- The document by classes that is made of its rows: its form, and the rules that it doesn't break.
-use Rattle.std.proofs.Common.{Option, None, Result, Ok, Err, subst, sym}
+use Rattle.std.proofs.Common.{Option, Result, Ok, Err, subst, sym}
 use Rattle.std.specs.Prelude.{IfOk}
 use Rattle.board_text.specs.PlainBoard.{PlainBoard, IsConfiguration}
 use Rattle.positions.specs.Value.{HasValue}
@@ -8,10 +8,9 @@ use Rattle.positions.specs.declared.value.Value.{Value}
 use Rattle.proof_text.specs.ClassProof.{plain_class_proof}
 use Rattle.proof_text.specs.Documents.{IsClassDocument, IsClassProof}
 use Rattle.proof_text.specs.Positions.{class_positions}
-use Rattle.proof_text.specs.Proof.{PlainProof}
 use Rattle.proof_text.specs.Rules.{BreaksNoRule}
 use Rattle.proof_text.specs.declared.class_proof.ClassProof.{ClassProof}
-use Rattle.strategies.specs.ClassDocument.{FitsFormat, IsClassDocumentFor, IsClassDocumentOf}
+use Rattle.strategies.specs.ClassDocument.{FitsFormat, IsClassDocumentFor}
 use Rattle.strategies.specs.Inside.ClassSide.{AreClassPadded}
 use Rattle.strategies.specs.Sides.{HasStrategy}
 use Rattle.strategies.proofs.KeptRules.{breaks_no_class_rule}
@@ -42,8 +41,3 @@ module _ (board : PlainBoard) (side : Option Side)
     answers_padded = padded.answers;
     asked_padded = padded.asked;
   }
-
--- the document for both sides is the whole one
-pub whole_made : (board : PlainBoard) (document : PlainProof) → IsClassDocumentFor None board document
-    → IsClassDocumentOf board document
-whole_made board document made = subst (IsClassDocumentOf board) (sym made.2) made.1

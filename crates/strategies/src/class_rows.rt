@@ -1,4 +1,4 @@
-//! The rows of a section over normal places, made one after the other or in parts.
+//! The rows of a section over normal places, made in parts.
 
 ghost use Rattle.std.specs.Prelude.{◌≤◌, All, IfErr, IfOk, flat_map};
 ghost use Rattle.strategies.specs.Inside.NumberedPositions.{normal_kind, over_normal};
@@ -22,29 +22,8 @@ use std::thread::Threads;
 use symmetries::Alike;
 
 /// One side's rows of the document over normal places of a board whose start has the value
-/// `start`, if they are at most `most`.
-pub(crate) fn class_section<R: SectionRow, V: ValueTable>(
-    alloc: Global,
-    moves: &GapMoves<'_, V>,
-    alike: &Alike,
-    start: Value,
-    most: usize,
-) -> Result<Vec<R>, Unmade>
-    requires kind { R.names (normal_kind moves.now alike.now) }
-    requires normal { IsNormalBy moves.now alike.now }
-    ensures ok { IfOk result (λ rows. AreSection (by_order moves.now)
-        (R.side (over_normal moves.now (normal_by moves.now alike.now)) start) rows.items) }
-    ensures fault { IfErr result (HasNoSection (by_order moves.now)
-        (R.side (over_normal moves.now (normal_by moves.now alike.now)) start) most) }
-{
-    let mut here = NormalWalk::at_start(alloc, moves, alike, R::names_answers());
-    let set = ListedNumbers::new(alloc, most);
-    let gaps = ListedNumbers::new(alloc, most);
-    section(alloc, &mut here, set, gaps, start)
-}
-
-/// The same rows, made in at most `parts` parts. Threads make them where each has a thousand rows
-/// or more to make, and one can be started.
+/// `start`, if they are at most `most`, made in at most `parts` parts. Threads make them where each
+/// has a thousand rows or more to make, and one can be started.
 pub(crate) fn section_in_parts<R: SectionRow + Send + Sync, V: ValueTable + Sync>(
     rt: &(impl Threads + Sync),
     alloc: Global,
@@ -62,13 +41,14 @@ pub(crate) fn section_in_parts<R: SectionRow + Send + Sync, V: ValueTable + Sync
     ensures fault { IfErr result (HasNoSection (by_order moves.now)
         (R.side (over_normal moves.now (normal_by moves.now alike.now)) start) most) }
 {
-    if parts == 1 {
-        // One walk keeps the best answers that it finds on the way for the rows.
-        return class_section(alloc, moves, alike, start, most);
-    }
-    let mut here = NormalWalk::at_start(alloc, moves, alike, false);
+    // One walk keeps the best answers that it finds on the way for the rows.
+    let is_one_walk = parts == 1;
+    let mut here = NormalWalk::at_start(alloc, moves, alike, is_one_walk && R::names_answers());
     let set = ListedNumbers::new(alloc, most);
     let gaps = ListedNumbers::new(alloc, most);
+    if is_one_walk {
+        return section(alloc, &mut here, set, gaps, start);
+    }
     let set = reached::<R, NormalWalk<'_, '_, V>, ListedNumbers>(&mut here, set, gaps)?;
     let numbers = set.in_order(alloc)?;
     let mut rows = Vec::with_capacity(alloc, numbers.len())?;

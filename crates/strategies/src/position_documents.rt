@@ -1,19 +1,14 @@
 //! Making the rows of a board's document over normal places.
 
-ghost use Rattle.std.specs.Prelude.{◌≡◌, ◌≤◌, IfErr, IfOk};
-ghost use Rattle.board_text.specs.PlainBoard.{IsBoard, IsConfiguration};
-ghost use Rattle.positions.specs.Claim.{claim_of};
+ghost use Rattle.std.specs.Prelude.{◌≤◌, IfErr, IfOk};
+ghost use Rattle.board_text.specs.PlainBoard.{IsBoard};
 ghost use Rattle.positions.specs.Value.{HasValue};
 ghost use Rattle.positions.specs.declared.value.Value.{Value as ValueData};
 ghost use Rattle.proof_text.specs.ClassProof.{plain_class_proof};
-ghost use Rattle.proof_text.specs.Proof.{asks_adversary as asks_adversary_by};
-ghost use Rattle.proof_text.specs.Proof.{asks_labeller as asks_labeller_by};
-ghost use Rattle.strategies.specs.Inside.ClassSide.{class_labeller_side, class_adversary_side};
-ghost use Rattle.strategies.specs.Inside.ClassSide.{AreClassRowsIf, AreClassPadded};
-ghost use Rattle.strategies.specs.Inside.Side.{Side};
+ghost use Rattle.strategies.specs.Inside.ClassSide.{AreClassPadded};
 ghost use Rattle.strategies.specs.Inside.LongSections.{HasNoRows, IsDocumentOverFor};
 ghost use Rattle.strategies.specs.Inside.NormalForm.{IsNormalBy, normal_by};
-ghost use Rattle.strategies.specs.Sides.{HasStrategy, claim_for as claim_by};
+ghost use Rattle.strategies.specs.Sides.{HasStrategy};
 
 use crate::class_documents::{adversary_room, labeller_room};
 use crate::class_rows::section_in_parts;
@@ -22,7 +17,7 @@ use crate::sides::{asks_adversary, asks_labeller, claim_for};
 use crate::unmade::Unmade;
 use gap_values::ValueTable;
 use positions::{Side, Value};
-use proof_text::{AdversaryClassRow, ClassProof, LabellerClassRow};
+use proof_text::ClassProof;
 use std::alloc::Global;
 use std::thread::Threads;
 use symmetries::Alike;
@@ -73,38 +68,10 @@ pub(crate) fn document_over<V: ValueTable + Sync>(
     } else {
         Vec::new(alloc)
     };
-    Ok(rows_of(moves, alike, value, side, labeller, adversary))
-}
-
-/// The document over normal places of the board of `moves`, whose start has the value `value`,
-/// for `side` alone or for both, with the rows of each side that it has.
-pub(crate) fn rows_of<V: ValueTable>(
-    moves: &GapMoves<'_, V>,
-    alike: &Alike,
-    value: Value,
-    side: Option<Side>,
-    labeller: Vec<LabellerClassRow>,
-    adversary: Vec<AdversaryClassRow>,
-) -> MadeDocument<ClassProof>
-    requires normal { IsNormalBy moves.now alike.now }
-    requires start { IsConfiguration moves.now moves.now.start }
-    requires value { HasValue moves.now moves.now.start value }
-    requires strategy { HasStrategy side value }
-    requires labeller { AreClassRowsIf (asks_labeller_by (claim_by side (claim_of value)))
-        moves.now (class_labeller_side moves.now (normal_by moves.now alike.now) value)
-        labeller.items }
-    requires adversary { AreClassRowsIf (asks_adversary_by (claim_by side (claim_of value)))
-        moves.now (class_adversary_side moves.now (normal_by moves.now alike.now) value)
-        adversary.items }
-    ensures value { result.value ≡ value }
-    ensures document { IsDocumentOverFor side moves.now (normal_by moves.now alike.now)
-        (plain_class_proof moves.now result.proof) }
-    ensures padded { AreClassPadded moves.now result.proof }
-{
     let proof = ClassProof {
-        claim: claim_for(side, value),
+        claim,
         labeller,
         adversary,
     };
-    MadeDocument { value, proof }
+    Ok(MadeDocument { value, proof })
 }

@@ -1,23 +1,20 @@
 //! The best moves at configurations given by ranks, by tables that are made once.
 
 ghost use Rattle.std.specs.Prelude.{◌≡◌, ◌-◌, ◌<◌, ◌≤◌, IfOk};
-ghost use Rattle.board_text.specs.PlainBoard.{IsBoard, IsConfiguration, places};
+ghost use Rattle.board_text.specs.PlainBoard.{IsBoard, places};
 ghost use Rattle.classes.specs.Lists.{AreClassLists};
 ghost use Rattle.classes.specs.Numbers.{ways};
 ghost use Rattle.positions.specs.Ranks.{configurations, configuration_at, rank_of};
-ghost use Rattle.positions.specs.Value.{HasValue};
 ghost use Rattle.strategies.specs.Inside.MovesAt.{position};
 ghost use Rattle.strategies.specs.Inside.RankMoves.{AreBestOfAll, IsBestOfNumber, class_of_gap};
 
 use crate::answer::Answer;
 use crate::gap_moves::GapMoves;
 use crate::gap_walk::GapWalk;
-use crate::position_walk::PositionWalk;
-use crate::walk::Walk;
 use board_text::{Board, Memory};
 use classes::{ClassNumbers, MemberTables, Places};
 use gap_values::ValueTable;
-use positions::{MAX_CONFIGURATIONS, Space, Value};
+use positions::{MAX_CONFIGURATIONS, Space};
 use std::alloc::Global;
 use std::marker::Model;
 
@@ -52,7 +49,8 @@ impl<'a> RankMoves<'a> {
         space: &'a Space,
     ) -> Result<RankMoves<'a>, Memory>
         requires same_board { space.now ≡ moves.now }
-        ensures { IfOk result (λ ranked. ranked ≡ moves.now) }
+        ensures value { IfOk result (λ ranked. ranked ≡ moves.now) }
+        ensures few { IfOk result (λ _. configurations moves.now ≤ MAX_CONFIGURATIONS) }
     {
         let board = moves.board();
         let numbers = ClassNumbers::of(alloc, board)?;
@@ -90,16 +88,6 @@ impl<'a> RankMoves<'a> {
         ensures few { configurations self.now ≤ MAX_CONFIGURATIONS }
     {
         self.space.rank(self.board.start())
-    }
-
-    /// The value of the start.
-    pub(crate) fn start_value(&self) -> Value
-        ensures value { HasValue self.now self.now.start result }
-        ensures start { IsConfiguration self.now self.now.start }
-        ensures few { configurations self.now ≤ MAX_CONFIGURATIONS }
-    {
-        let (value, _) = Walk::at(self, self.start()).best_request();
-        value
     }
 
     /// A walk that gives gaps, at the configuration of `rank`.

@@ -47,7 +47,7 @@ pub fn document_text<V: ValueTable>(
 {
     let ranked = RankMoves::of(alloc, moves, space)?;
     let words = PlaceWords::of(alloc, space.labels())?;
-    let value = ranked.start_value();
+    let value = moves.start_value();
     let labeller = section_lines::<LabellerRow>(alloc, &ranked, &words, value)?;
     let adversary = match value {
         Value::Finite(_) => section_lines::<AdversaryRow>(alloc, &ranked, &words, value)?,
@@ -79,7 +79,7 @@ pub fn document_text_in_parts<V: ValueTable>(
 {
     let ranked = RankMoves::of(alloc, moves, space)?;
     let words = PlaceWords::of(alloc, space.labels())?;
-    let value = ranked.start_value();
+    let value = moves.start_value();
     let claim = claim_for(side, value);
     let labeller = if asks_labeller(claim) {
         section_lines_in_parts::<LabellerRow>(rt, alloc, &ranked, &words, value, parts)?
@@ -117,10 +117,9 @@ impl RankMoves<'_> {
         ensures text { IfOk result (λ made. IsDocumentText side self.now
             (flat_map (λ part. part.items) made.parts.items)) }
     {
-        let space = self.space();
         let claim = claim_for(side, value);
         let mut parts = Vec::new(alloc);
-        parts.push(first_lines(alloc, claim, space.labels(), space.pebbles(), 0)?.finish()?)?;
+        parts.push(first_lines(alloc, claim)?.finish()?)?;
         if asks_labeller(claim) {
             add_section(alloc, &mut parts, "labeller", labeller)?;
         }

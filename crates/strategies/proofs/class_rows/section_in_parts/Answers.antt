@@ -11,6 +11,21 @@ use Rattle.strategies.proofs.RowsAt.{may_stand, section_in_order}
 use Rattle.strategies.proofs.SetRooms.{lists_have_room}
 use Rattle.strategies.proofs.class_rows.section_in_parts.Goals as goal
 
+pub section-requires-clause-kind : goal.section-requires-clause-kind
+section-requires-clause-kind g c = rw c.at_start-here.ensures.at c.requires.kind
+
+pub section-requires-clause-room : goal.section-requires-clause-room
+section-requires-clause-room g c =
+    rw (c.at_start-here.ensures.at, c.new-set.ensures, c.new-gaps.ensures)
+    (lists_have_room c.args.moves.now c.args.alike.now c.args.most c.at_start-here.ensures.is_board)
+
+pub returns-then-is_one_walk-2-clause-ok : goal.returns-then-is_one_walk-2-clause-ok
+returns-then-is_one_walk-2-clause-ok g c = rw c.at_start-here.ensures.at at c.section.ensures.ok
+
+pub returns-then-is_one_walk-2-clause-fault : goal.returns-then-is_one_walk-2-clause-fault
+returns-then-is_one_walk-2-clause-fault g c =
+    rw (c.at_start-here.ensures.at, c.new-set.ensures) at c.section.ensures.fault
+
 pub reached-requires-clause-kind : goal.reached-requires-clause-kind
 reached-requires-clause-kind g c = rw c.at_start-here.ensures.at c.requires.kind
 

@@ -3,9 +3,9 @@ use Rattle.strategies.proofs.text.document_text_in_parts.Goals as goal
 
 pub returns-clause-value : goal.returns-clause-value
 returns-clause-value g c =
-    let has = rw c.in_ok-ranked.ensures at c.start_value-value.ensures.value in
+    let has = c.start_value-value.ensures.value in
     IfOk-weaker c.text_of.result _ _ (λ made same. rw same has) c.text_of.ensures.value
 
 pub text_of-requires-clause-strategy : goal.text_of-requires-clause-strategy
 text_of-requires-clause-strategy g c =
-    c.requires.strategy c.start_value-value.result (rw c.in_ok-ranked.ensures at c.start_value-value.ensures.value)
+    c.requires.strategy c.start_value-value.result (c.start_value-value.ensures.value)
