@@ -2,12 +2,12 @@
 
 ghost use Rattle.std.specs.Prelude.{◌≡◌, ◌↔◌, All, IfErr, IfOk, IsTrue};
 ghost use Rattle.positions.specs.declared.value.Value.{Value as ValueData};
-ghost use Rattle.strategies.specs.Inside.NumberedPositions.{AreExpanded, AreNumberedPositions};
-ghost use Rattle.strategies.specs.Inside.NumberedPositions.{HasRoomForEach};
-ghost use Rattle.strategies.specs.Inside.NumberedPositions.{IsSideOf};
+ghost use Rattle.strategies.specs.Inside.NumberedPositions.{AreNumberedPositions, HasRoomForEach};
+ghost use Rattle.strategies.specs.Inside.NumberedPositions.{IsSideOf, MayTakeSteps};
 ghost use Rattle.strategies.specs.Inside.NumberedPositions.{NumberedPositions, PositionKind};
-ghost use Rattle.strategies.specs.Inside.NumberedPositions.{SideMoves, over_kind};
-ghost use Rattle.strategies.specs.Inside.Reached.{AreReachedWith, NothingIsReached};
+ghost use Rattle.strategies.specs.Inside.NumberedPositions.{SideMoves, TakesSteps, over_kind};
+ghost use Rattle.strategies.specs.Inside.NumberedPositions.{step_sets};
+ghost use Rattle.strategies.specs.Inside.Reached.{NothingIsReached};
 ghost use Rattle.strategies.specs.Inside.Sections.{HasNoSection};
 ghost use Rattle.strategies.specs.Inside.Side.{AreReached, AreRowsAt, AreSection, IsRowAt};
 ghost use Rattle.strategies.specs.Inside.Side.{MayStandAt, Side};
@@ -48,19 +48,14 @@ pub(crate) trait SectionRow: Copy {
         reached: &mut S,
         expanded: &mut S,
     ) -> Result<(), Memory>
-        requires room { HasRoomForEach (over_kind (W.kind here.now)) (S.room reached.old) (S.room
-            expanded.old) }
-        requires expanded { AreExpanded (over_kind (W.kind here.now)) (moves (over_kind (W.kind
-            here.now))).Step
-            (S.reached expanded.old).Among (S.reached reached.old).Among }
-        ensures added { IfOk result (λ _. AreReachedWith (S.reached reached.old)
-            ((moves (over_kind (W.kind here.now))).Leads (W.held here.now))
-            (S.reached reached.new)) }
-        ensures expanded { IfOk result (λ _. AreExpanded (over_kind (W.kind here.now))
+        requires { MayTakeSteps (over_kind (W.kind here.now))
             (moves (over_kind (W.kind here.now))).Step
-            (S.reached expanded.new).Among (S.reached reached.new).Among) }
-        ensures room { IfOk result (λ _. S.room reached.new ≡ S.room reached.old) }
-        ensures gap_room { IfOk result (λ _. S.room expanded.new ≡ S.room expanded.old) };
+            (step_sets S.reached S.room reached.old expanded.old) }
+        ensures { IfOk result (λ _. TakesSteps (over_kind (W.kind here.now))
+            (moves (over_kind (W.kind here.now))).Step
+            ((moves (over_kind (W.kind here.now))).Leads (W.held here.now))
+            (step_sets S.reached S.room reached.old expanded.old)
+            (step_sets S.reached S.room reached.new expanded.new)) };
 
     /// The row of the reached position of `number`, where `here` is, if it has one. The start has
     /// the value `start`.

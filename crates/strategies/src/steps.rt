@@ -1,10 +1,9 @@
 //! The positions that best answers, and best requests, lead to from others.
 
 ghost use Rattle.std.specs.Prelude.{◌≡◌, ◌<◌, IfOk};
-ghost use Rattle.strategies.specs.Inside.NumberedPositions.{AreExpanded, HasRoomForEach};
-ghost use Rattle.strategies.specs.Inside.NumberedPositions.{HasRoomFor, IsAnswerStep};
-ghost use Rattle.strategies.specs.Inside.NumberedPositions.{LegalLeads};
-ghost use Rattle.strategies.specs.Inside.NumberedPositions.{answer_moves, over_kind, request_moves};
+ghost use Rattle.strategies.specs.Inside.NumberedPositions.{HasRoomFor, IsAnswerStep, LegalLeads};
+ghost use Rattle.strategies.specs.Inside.NumberedPositions.{MayTakeSteps, TakesSteps, answer_moves};
+ghost use Rattle.strategies.specs.Inside.NumberedPositions.{over_kind, request_moves, step_sets};
 ghost use Rattle.strategies.specs.Inside.Reached.{AreReachedWith};
 
 use crate::position_walk::PositionWalk;
@@ -21,19 +20,14 @@ pub(crate) fn add_answers<W: PositionWalk, S: ReachedNumbers>(
     reached: &mut S,
     expanded: &mut S,
 ) -> Result<(), Memory>
-    requires room { HasRoomForEach (over_kind (W.kind here.now)) (S.room reached.old) (S.room
-        expanded.old) }
-    requires expanded { AreExpanded (over_kind (W.kind here.now)) (IsAnswerStep (over_kind (W.kind
-        here.now)))
-        (S.reached expanded.old).Among (S.reached reached.old).Among }
-    ensures added { IfOk result (λ _. AreReachedWith (S.reached reached.old)
-        ((answer_moves (over_kind (W.kind here.now))).Leads (W.held here.now)) (S.reached
-        reached.new)) }
-    ensures expanded { IfOk result (λ _. AreExpanded (over_kind (W.kind here.now))
+    requires { MayTakeSteps (over_kind (W.kind here.now))
         (IsAnswerStep (over_kind (W.kind here.now)))
-        (S.reached expanded.new).Among (S.reached reached.new).Among) }
-    ensures room { IfOk result (λ _. S.room reached.new ≡ S.room reached.old) }
-    ensures gap_room { IfOk result (λ _. S.room expanded.new ≡ S.room expanded.old) }
+        (step_sets S.reached S.room reached.old expanded.old) }
+    ensures { IfOk result (λ _. TakesSteps (over_kind (W.kind here.now))
+        (IsAnswerStep (over_kind (W.kind here.now)))
+        ((answer_moves (over_kind (W.kind here.now))).Leads (W.held here.now))
+        (step_sets S.reached S.room reached.old expanded.old)
+        (step_sets S.reached S.room reached.new expanded.new)) }
 {
     for pebble in 0..here.board().pebbles() {
         add_answer(here, pebble, reached, expanded)?;
@@ -50,19 +44,14 @@ fn add_answer<W: PositionWalk, S: ReachedNumbers>(
     expanded: &mut S,
 ) -> Result<(), Memory>
     requires pebble { pebble < (over_kind (W.kind here.now)).board.pebbles }
-    requires room { HasRoomForEach (over_kind (W.kind here.now)) (S.room reached.old) (S.room
-        expanded.old) }
-    requires expanded { AreExpanded (over_kind (W.kind here.now)) (IsAnswerStep (over_kind (W.kind
-        here.now)))
-        (S.reached expanded.old).Among (S.reached reached.old).Among }
-    ensures added { IfOk result (λ _. AreReachedWith (S.reached reached.old)
-        (IsAnswerStep (over_kind (W.kind here.now)) (W.held here.now) pebble) (S.reached
-        reached.new)) }
-    ensures expanded { IfOk result (λ _. AreExpanded (over_kind (W.kind here.now))
+    requires sets { MayTakeSteps (over_kind (W.kind here.now))
         (IsAnswerStep (over_kind (W.kind here.now)))
-        (S.reached expanded.new).Among (S.reached reached.new).Among) }
-    ensures room { IfOk result (λ _. S.room reached.new ≡ S.room reached.old) }
-    ensures gap_room { IfOk result (λ _. S.room expanded.new ≡ S.room expanded.old) }
+        (step_sets S.reached S.room reached.old expanded.old) }
+    ensures { IfOk result (λ _. TakesSteps (over_kind (W.kind here.now))
+        (IsAnswerStep (over_kind (W.kind here.now)))
+        (IsAnswerStep (over_kind (W.kind here.now)) (W.held here.now) pebble)
+        (step_sets S.reached S.room reached.old expanded.old)
+        (step_sets S.reached S.room reached.new expanded.new)) }
 {
     let gap = here.gap(pebble);
     if expanded.contains(gap) {
@@ -84,19 +73,13 @@ pub(crate) fn add_results<W: PositionWalk, S: ReachedNumbers>(
     reached: &mut S,
     expanded: &mut S,
 ) -> Result<(), Memory>
-    requires room { HasRoomForEach (over_kind (W.kind here.now)) (S.room reached.old) (S.room
-        expanded.old) }
-    requires expanded { AreExpanded (over_kind (W.kind here.now)) (LegalLeads (over_kind (W.kind
-        here.now)))
-        (S.reached expanded.old).Among (S.reached reached.old).Among }
-    ensures added { IfOk result (λ _. AreReachedWith (S.reached reached.old)
-        ((request_moves (over_kind (W.kind here.now))).Leads (W.held here.now)) (S.reached
-        reached.new)) }
-    ensures expanded { IfOk result (λ _. AreExpanded (over_kind (W.kind here.now))
+    requires { MayTakeSteps (over_kind (W.kind here.now)) (LegalLeads (over_kind (W.kind here.now)))
+        (step_sets S.reached S.room reached.old expanded.old) }
+    ensures { IfOk result (λ _. TakesSteps (over_kind (W.kind here.now))
         (LegalLeads (over_kind (W.kind here.now)))
-        (S.reached expanded.new).Among (S.reached reached.new).Among) }
-    ensures room { IfOk result (λ _. S.room reached.new ≡ S.room reached.old) }
-    ensures gap_room { IfOk result (λ _. S.room expanded.new ≡ S.room expanded.old) }
+        ((request_moves (over_kind (W.kind here.now))).Leads (W.held here.now))
+        (step_sets S.reached S.room reached.old expanded.old)
+        (step_sets S.reached S.room reached.new expanded.new)) }
 {
     let (_, request) = here.best_request();
     let Some(pebble) = request else {

@@ -18,7 +18,7 @@ use Rattle.strategies.specs.Inside.Numbering.{Numbering, IsNumbering, by_order, 
 use Rattle.strategies.specs.Inside.Numbering.{number_of_gap}
 use Rattle.strategies.specs.Inside.ReachedOver.{number_over, IsAnswerStepOver, LegalLeadsOver}
 use Rattle.strategies.specs.Inside.ReachedOver.{IsRequestStepOver, IsReachedOver}
-use Rattle.strategies.specs.Inside.Reached.{Room}
+use Rattle.strategies.specs.Inside.Reached.{AreReachedWith, ReachedBy, Room}
 use Rattle.strategies.specs.Inside.Side.{Side, AreOfReached}
 
 -- a row at the places asks for a best request
@@ -216,3 +216,33 @@ pub record HasRoomForEach (over : NumberedPositions) (reached expanded : Room) :
   pub numbers : HasRoomFor over reached
   pub gaps : (held : List ℕ) (pebble : ℕ) → IsConfiguration over.board held
       → pebble < over.board.pebbles → over.gap held pebble < expanded.bound
+
+-- a set of the numbers that were reached, one of the gaps that were expanded, and their room
+pub record StepSets : Type 1 where
+  pub reached : ReachedBy
+  pub expanded : ReachedBy
+  pub numbers : Room
+  pub gaps : Room
+
+abbrev pub step_sets : {S : Type 0} → (S → ReachedBy) → (S → Room) → S → S → StepSets
+step_sets reached room numbers gaps = record {
+  reached = reached numbers;
+  expanded = reached gaps;
+  numbers = room numbers;
+  gaps = room gaps;
+}
+
+-- both sets have room, and where requests of the expanded gaps lead is reached
+pub record MayTakeSteps (over : NumberedPositions) (Step : List ℕ → ℕ → ℕ → Type 0)
+    (sets : StepSets) : Type 0 where
+  pub room : HasRoomForEach over sets.numbers sets.gaps
+  pub expanded : AreExpanded over Step sets.expanded.Among sets.reached.Among
+
+-- the numbers of which the fact holds are reached too, and so is where requests of the expanded
+-- gaps lead; the room is the same
+pub record TakesSteps (over : NumberedPositions) (Step : List ℕ → ℕ → ℕ → Type 0) (P : ℕ → Type 0)
+    (before after : StepSets) : Type 0 where
+  pub added : AreReachedWith before.reached P after.reached
+  pub expanded : AreExpanded over Step after.expanded.Among after.reached.Among
+  pub room : after.numbers ≡ before.numbers
+  pub gap_room : after.gaps ≡ before.gaps

@@ -23,8 +23,13 @@ loop-pebble-preserved g c = record {
   gap_room = c.in_ok-add_answer.ensures.gap_room ∙ c.loop-pebble.invariant.gap_room;
 }
 
-pub returns-clause-added : goal.returns-clause-added
-returns-clause-added g c =
+pub returns : goal.returns
+returns g c =
     let end = rw c.board.ensures.board at c.pebbles-pebble-end.ensures.value in
-    answers_added (over_kind (g.W.PositionWalk.kind c.args.here.now)) (g.W.PositionWalk.held c.args.here.now)
-    c.loop-pebble.pebble _ _ (omega (arith, end, c.loop-pebble-test.false)) c.loop-pebble.invariant.added
+    record {
+      added = answers_added (over_kind (g.W.PositionWalk.kind c.args.here.now)) (g.W.PositionWalk.held c.args.here.now)
+          c.loop-pebble.pebble _ _ (omega (arith, end, c.loop-pebble-test.false)) c.loop-pebble.invariant.added;
+      expanded = c.loop-pebble.invariant.expanded;
+      room = c.loop-pebble.invariant.room;
+      gap_room = c.loop-pebble.invariant.gap_room;
+    }
