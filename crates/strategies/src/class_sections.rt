@@ -7,7 +7,7 @@ ghost use Rattle.strategies.specs.Inside.NumberedPositions.{request_moves};
 use crate::position_walk::PositionWalk;
 use crate::reached_numbers::ReachedNumbers;
 use crate::sections::{SectionRow, turns};
-use crate::steps::{add_answers, add_results};
+use crate::steps::{add_new_answers, add_results};
 use board_text::Memory;
 use positions::Value;
 use proof_text::{AdversaryClassRow, LabellerClassRow, places_at};
@@ -34,7 +34,7 @@ impl SectionRow for LabellerClassRow {
         reached: &mut S,
         expanded: &mut S,
     ) -> Result<(), Memory> {
-        add_answers(here, reached, expanded)
+        add_new_answers(here, reached, expanded)
     }
 
     fn at<W: PositionWalk>(here: &W, number: u64, start: Value) -> Option<LabellerClassRow> {

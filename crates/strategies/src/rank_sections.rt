@@ -104,9 +104,10 @@ impl SectionRow for LabellerRow {
     fn add_steps<W: PositionWalk, S: ReachedNumbers>(
         here: &W,
         reached: &mut S,
-        expanded: &mut S,
+        _expanded: &mut S,
     ) -> Result<(), Memory> {
-        add_answers(here, reached, expanded)
+        // A table has the best answers, and to look there costs less than to note their gaps.
+        add_answers(here, reached)
     }
 
     fn at<W: PositionWalk>(here: &W, number: u64, start: Value) -> Option<LabellerRow> {

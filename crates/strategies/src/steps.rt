@@ -1,7 +1,8 @@
 //! The positions that best answers, and best requests, lead to from others.
 
 ghost use Rattle.std.specs.Prelude.{◌≡◌, ◌<◌, IfOk};
-ghost use Rattle.strategies.specs.Inside.NumberedPositions.{HasRoomFor, IsAnswerStep, LegalLeads};
+ghost use Rattle.strategies.specs.Inside.NumberedPositions.{HasRoomFor, IsAnswerStep, IsPosition};
+ghost use Rattle.strategies.specs.Inside.NumberedPositions.{LegalLeads};
 ghost use Rattle.strategies.specs.Inside.NumberedPositions.{MayTakeSteps, TakesSteps, answer_moves};
 ghost use Rattle.strategies.specs.Inside.NumberedPositions.{over_kind, request_moves, step_sets};
 ghost use Rattle.strategies.specs.Inside.Reached.{AreReachedWith};
@@ -12,10 +13,27 @@ use board_text::Memory;
 use positions::{Value, legal_labels};
 
 /// Adds the positions after the best answer to each request where `here` is, if they have a value
-/// of 1 or more. Those of a request whose gap is in `expanded` are there: all requests of a gap
-/// lead to the same, and without this a chain of 60 labels and four pebbles made seven million
-/// look-ups for half a million classes.
+/// of 1 or more.
 pub(crate) fn add_answers<W: PositionWalk, S: ReachedNumbers>(
+    here: &W,
+    reached: &mut S,
+) -> Result<(), Memory>
+    requires room { HasRoomFor (over_kind (W.kind here.now)) (S.room reached.old) }
+    ensures added { IfOk result (λ _. AreReachedWith (S.reached reached.old)
+        ((answer_moves (over_kind (W.kind here.now))).Leads (W.held here.now))
+        (S.reached reached.new)) }
+    ensures room { IfOk result (λ _. S.room reached.new ≡ S.room reached.old) }
+{
+    for pebble in 0..here.board().pebbles() {
+        add_answer(here, pebble, reached)?;
+    }
+    Ok(())
+}
+
+/// The same. Those of a request whose gap is in `expanded` are there: all requests of a gap lead to
+/// the same, and without this a chain of 60 labels and four pebbles made seven million look-ups for
+/// half a million classes.
+pub(crate) fn add_new_answers<W: PositionWalk, S: ReachedNumbers>(
     here: &W,
     reached: &mut S,
     expanded: &mut S,
@@ -30,14 +48,14 @@ pub(crate) fn add_answers<W: PositionWalk, S: ReachedNumbers>(
         (step_sets S.reached S.room reached.new expanded.new)) }
 {
     for pebble in 0..here.board().pebbles() {
-        add_answer(here, pebble, reached, expanded)?;
+        add_new_answer(here, pebble, reached, expanded)?;
     }
     Ok(())
 }
 
 /// Adds the position after the best answer to a request of `pebble` where `here` is, if it has a
 /// value of 1 or more. It is there if the request's gap is in `expanded`.
-fn add_answer<W: PositionWalk, S: ReachedNumbers>(
+fn add_new_answer<W: PositionWalk, S: ReachedNumbers>(
     here: &W,
     pebble: u8,
     reached: &mut S,
@@ -57,12 +75,31 @@ fn add_answer<W: PositionWalk, S: ReachedNumbers>(
     if expanded.contains(gap) {
         return Ok(());
     }
+    add_answer(here, pebble, reached)?;
+    expanded.add(gap)?;
+    Ok(())
+}
+
+/// Adds the position after the best answer to a request of `pebble` where `here` is, if it has a
+/// value of 1 or more.
+fn add_answer<W: PositionWalk, S: ReachedNumbers>(
+    here: &W,
+    pebble: u8,
+    reached: &mut S,
+) -> Result<(), Memory>
+    requires pebble { pebble < (over_kind (W.kind here.now)).board.pebbles }
+    requires position { IsPosition (over_kind (W.kind here.now)) (W.held here.now) }
+    requires room { HasRoomFor (over_kind (W.kind here.now)) (S.room reached.old) }
+    ensures added { IfOk result (λ _. AreReachedWith (S.reached reached.old)
+        (IsAnswerStep (over_kind (W.kind here.now)) (W.held here.now) pebble)
+        (S.reached reached.new)) }
+    ensures room { IfOk result (λ _. S.room reached.new ≡ S.room reached.old) }
+{
     if let Some(best) = here.best_answer(pebble) {
         if Value::Finite(0) < best.value {
             reached.add(here.after(pebble, best.label))?;
         }
     }
-    expanded.add(gap)?;
     Ok(())
 }
 

@@ -8,9 +8,7 @@ pub loop-pebble-init : goal.loop-pebble-init
 loop-pebble-init g c = record {
   added = reached_start (g.S.ReachedNumbers.reached c.args.reached.now)
       (IsAnswerStep (over_kind (g.W.PositionWalk.kind c.args.here.now)) (g.W.PositionWalk.held c.args.here.now));
-  expanded = c.requires.expanded;
   room = refl;
-  gap_room = refl;
 }
 
 pub loop-pebble-preserved : goal.loop-pebble-preserved
@@ -18,18 +16,11 @@ loop-pebble-preserved g c = record {
   added = reached_more _ _ _
       (IsAnswerStep (over_kind (g.W.PositionWalk.kind c.args.here.now)) (g.W.PositionWalk.held c.args.here.now))
       c.loop-pebble.pebble c.loop-pebble.invariant.added c.in_ok-add_answer.ensures.added;
-  expanded = c.in_ok-add_answer.ensures.expanded;
   room = c.in_ok-add_answer.ensures.room ∙ c.loop-pebble.invariant.room;
-  gap_room = c.in_ok-add_answer.ensures.gap_room ∙ c.loop-pebble.invariant.gap_room;
 }
 
-pub returns : goal.returns
-returns g c =
+pub returns-clause-added : goal.returns-clause-added
+returns-clause-added g c =
     let end = rw c.board.ensures.board at c.pebbles-pebble-end.ensures.value in
-    record {
-      added = answers_added (over_kind (g.W.PositionWalk.kind c.args.here.now)) (g.W.PositionWalk.held c.args.here.now)
-          c.loop-pebble.pebble _ _ (omega (arith, end, c.loop-pebble-test.false)) c.loop-pebble.invariant.added;
-      expanded = c.loop-pebble.invariant.expanded;
-      room = c.loop-pebble.invariant.room;
-      gap_room = c.loop-pebble.invariant.gap_room;
-    }
+    answers_added (over_kind (g.W.PositionWalk.kind c.args.here.now)) (g.W.PositionWalk.held c.args.here.now)
+    c.loop-pebble.pebble _ _ (omega (arith, end, c.loop-pebble-test.false)) c.loop-pebble.invariant.added
