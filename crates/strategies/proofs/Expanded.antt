@@ -1,12 +1,13 @@
 -- The positions after the answers to the requests of one gap are added once.
-use Rattle.std.proofs.Common.{◌≡◌, ℕ, ◌<◌, ◌↔◌, inl, inr, List, ap, ◌∙◌, subst}
+use Rattle.std.proofs.Common.{◌≡◌, ℕ, ◌<◌, ◌↔◌, inl, inr, List, Result, Ok, Err, IfOk, ap, sym, ◌∙◌, subst}
 use Rattle.board_text.specs.PlainBoard.{IsConfiguration}
 use Rattle.positions.specs.Counts.{IsSmallest}
 use Rattle.positions.specs.Game.{Legal, moved}
 use Rattle.std.proofs.Common.{None}
 use Rattle.strategies.specs.Best.{IsBestRequest, LowersValue}
 use Rattle.strategies.specs.Inside.NumberedPositions.{AreExpanded, IsOfGaps, LegalLeads}
-use Rattle.strategies.specs.Inside.NumberedPositions.{NumberedPositions, position_number, request_moves}
+use Rattle.strategies.specs.Inside.NumberedPositions.{NumberedPositions, StepSets, TakesSteps, position_number}
+use Rattle.strategies.specs.Inside.NumberedPositions.{request_moves}
 use Rattle.strategies.specs.Inside.Reached.{AreReachedWith, NothingIsReached, ReachedBy}
 use Rattle.strategies.proofs.AddedNumbers.{reached_known, reached_same}
 use Rattle.strategies.proofs.BestRequests.{same_request}
@@ -39,6 +40,21 @@ pub gap_known : (over : NumberedPositions) (Leads : List ℕ → ℕ → ℕ →
     → AreReachedWith numbers (Leads from pebble) numbers
 gap_known over Leads from pebble gap expanded numbers is inside gap_is are there =
     reached_known numbers (Leads from pebble) (are from pebble is inside (subst expanded.Among gap_is there))
+
+-- what was expanded stays so while more is reached, and no gap is noted
+pub steps_taken : {V E : Type 0} (over : NumberedPositions) (Step : List ℕ → ℕ → ℕ → Type 0) (P : ℕ → Type 0)
+    (before after : StepSets) (result : Result V E)
+    → AreExpanded over Step before.expanded.Among before.reached.Among → after.expanded ≡ before.expanded
+    → after.gaps ≡ before.gaps → IfOk result (λ _. AreReachedWith before.reached P after.reached)
+    → IfOk result (λ _. after.numbers ≡ before.numbers) → IfOk result (λ _. TakesSteps over Step P before after)
+steps_taken over Step P before after (Ok value) are same gaps added room = record {
+  added = added;
+  expanded = subst (λ (set : ReachedBy). AreExpanded over Step set.Among after.reached.Among) (sym same)
+      (λ from pebble is inside there to leads. (added.each to).1 (inl (are from pebble is inside there to leads)));
+  room = room;
+  gap_room = gaps;
+}
+steps_taken over Step P before after (Err fault) are same gaps added room = tt
 
 -- ---- the best request
 
