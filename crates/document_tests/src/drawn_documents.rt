@@ -4,7 +4,7 @@
 //! made once more.
 
 ghost use Rattle.std.specs.Prelude.{◌≡◌, IfOk};
-ghost use Rattle.proof_text.specs.Documents.{IsDocument};
+ghost use Rattle.strategies.specs.Document.{IsMadeDocument};
 
 use crate::assertions::{assert_same, assert_text};
 use crate::documents::print_document;
@@ -25,7 +25,7 @@ const BOARDS: u64 = 1_000;
 
 /// The text of a document of a board that has a space.
 fn text_of(rt: &impl Abort, alloc: Global, space: &Space, made: Result<Proof, Memory>) -> String
-    requires { IfOk made (IsDocument space.now) }
+    requires { IfOk made (IsMadeDocument space.now) }
 {
     let proof = made.expect(rt, "a document");
     print_document(alloc, space, &proof).expect(rt, "its text")
@@ -40,7 +40,7 @@ fn document_by_gaps(
 ) -> Result<Proof, Memory>
     requires space { space.now ≡ board.now }
     requires values { values.now ≡ board.now }
-    ensures { IfOk result (IsDocument board.now) }
+    ensures { IfOk result (IsMadeDocument board.now) }
 {
     let moves = GapMoves::new(board, values);
     match document_by(alloc, &moves, space) {

@@ -4,7 +4,7 @@
 //! made once more.
 
 ghost use Rattle.std.specs.Prelude.{◌≡◌, IfOk};
-ghost use Rattle.proof_text.specs.Documents.{IsDocument};
+ghost use Rattle.strategies.specs.Document.{IsMadeDocument};
 
 use crate::assertions::{assert_same, assert_text, board_of};
 use crate::documents::{check_document, print_document};
@@ -32,7 +32,7 @@ use strategies::{best_answer, best_request, document};
 /// The answer of `document`, which is asked once more if it was refused memory.
 pub(crate) fn document_of(alloc: Global, board: &Board, values: &Values) -> Result<Proof, Memory>
     requires { values.now ≡ board.now }
-    ensures { IfOk result (IsDocument board.now) }
+    ensures { IfOk result (IsMadeDocument board.now) }
 {
     match document(alloc, board, values) {
         Err(Memory) => document(alloc, board, values),
