@@ -9,7 +9,6 @@ pub mod ArrangedAgain
 pub mod MovedPlaces
 pub mod NamedPlaces
 pub mod AskedPlaces
-pub mod RowHeads
 pub mod RowWords
 pub mod SpelledRows
 pub mod PartedLines

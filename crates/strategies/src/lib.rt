@@ -15,7 +15,6 @@ mod laws_of_class_documents;
 mod laws_of_documents;
 mod laws_of_sides;
 mod laws_of_symmetric_documents;
-mod line_walk;
 mod lines;
 mod listed_numbers;
 mod marked_numbers;
