@@ -9,6 +9,7 @@ pub mod ArrangedAgain
 pub mod MovedPlaces
 pub mod NamedPlaces
 pub mod AskedPlaces
+pub mod RowHeads
 pub mod RowWords
 pub mod SpelledRows
 pub mod PartedLines

@@ -1,12 +1,14 @@
 //! The lines of a document, as they are appended to a text.
 
-ghost use Rattle.std.specs.Prelude.{◌≡◌, ◌+◌, ◌*◌, ◌≤◌, ◌++◌, length, OnOk};
+ghost use Rattle.std.specs.Prelude.{◌≡◌, ◌+◌, ◌*◌, ◌≤◌, ◌++◌, ◌∷◌, ℕ, List, [], length, OnOk};
 ghost use Rattle.board_text.specs.BoardText.{end_line};
 ghost use Rattle.board_text.specs.LineForms.{number_line};
 ghost use Rattle.board_text.specs.PlaceForms.{spaced_places};
 ghost use Rattle.board_text.specs.PlainBoard.{PlainBoard};
 ghost use Rattle.proof_text.specs.ProofText.{answer_line, request_line, class_request_line};
+ghost use Rattle.proof_text.specs.Inside.RowText.{end_of_answer, head_of};
 
+use crate::row_heads::RowHead;
 use crate::row_text::{PlaceWords, ROOM, RowText, SIZE_OF_NUMBER};
 use board_text::MAX_PEBBLES;
 use itoa::Buffer;
@@ -45,6 +47,42 @@ impl RowText {
         self.make_room(SIZE_OF_LINE)?;
         self.put_str("at");
         self.put_places(words, at);
+        self.put_answers(words, turns, take);
+        Ok(())
+    }
+
+    /// Appends the same line where `head` has the word and all places but `last`.
+    pub fn push_answer_after(
+        &mut self,
+        words: &PlaceWords,
+        head: &RowHead,
+        last: u16,
+        turns: Turns,
+        take: &[u16],
+    ) -> Result<(), AllocError>
+        requires { length take.now ≤ MAX_PEBBLES }
+        ensures { OnOk result ((board : PlainBoard) → (others : List ℕ)
+            → words.now ≡ board.labels → head.now ≡ head_of board.labels others
+            → self.new.bytes ≡ self.old.bytes ++ answer_line board (record {
+              at = others ++ last ∷ [];
+              turns = turns;
+              answers = take.now;
+            })) }
+    {
+        self.make_room(SIZE_OF_LINE)?;
+        self.put_head(head);
+        self.put_place(words, last);
+        self.put_answers(words, turns, take);
+        Ok(())
+    }
+
+    /// Appends what a labeller's row has after its places, for which there is room.
+    #[inline(always)]
+    fn put_answers(&mut self, words: &PlaceWords, turns: Turns, take: &[u16])
+        requires room { self.old.count + 10 + (length take.now + 1) * SIZE_OF_NUMBER ≤ ROOM }
+        ensures { (board : PlainBoard) → words.now ≡ board.labels
+            → self.new.bytes ≡ self.old.bytes ++ end_of_answer board turns take.now }
+    {
         self.put_str(" for");
         match turns {
             Turns::Count(number) => self.put_number(words, number),
@@ -53,7 +91,6 @@ impl RowText {
         self.put_str(" take");
         self.put_places(words, take);
         self.put_str("\n");
-        Ok(())
     }
 
     /// The same, for any number of places.

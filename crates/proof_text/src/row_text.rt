@@ -8,6 +8,7 @@ ghost use Rattle.std.specs.Str.{IsAscii};
 ghost use Rattle.board_text.specs.PlaceForms.{place_word};
 ghost use Rattle.proof_text.specs.Inside.RowText.{IsWordWith, bytes_of_word};
 
+use crate::row_heads::{RowHead, SIZE_OF_HEAD};
 use board_text::Memory;
 use itoa::Buffer;
 use std::alloc::{AllocError, Global};
@@ -103,7 +104,7 @@ impl PlaceWords {
     }
 
     /// The word of `place`, if it is one of the board.
-    fn word(&self, place: u16) -> Option<Word>
+    pub(crate) fn word(&self, place: u16) -> Option<Word>
         ensures { MatchOption result (self.now < place)
             (IsWordWith (32 ∷ place_word self.now place)) }
     {
@@ -187,6 +188,18 @@ impl RowText {
         let count = self.count;
         self.room[count..count + 4].copy_from_slice(&word.bytes);
         self.count = count + word.size as usize;
+    }
+
+    /// Appends a head, for which there is room.
+    #[inline(always)]
+    pub(crate) fn put_head(&mut self, head: &RowHead)
+        requires { self.old.count + SIZE_OF_HEAD ≤ ROOM }
+        ensures bytes { self.new.bytes ≡ self.old.bytes ++ head.now }
+        ensures count { self.new.count ≤ self.old.count + SIZE_OF_HEAD }
+    {
+        let count = self.count;
+        self.room[count..count + SIZE_OF_HEAD].copy_from_slice(head.room());
+        self.count = count + head.len();
     }
 
     /// Makes room for `size` bytes.
