@@ -1,6 +1,6 @@
 //! A walk over configurations, which gives the gaps of their pebbles.
 
-ghost use Rattle.std.specs.Prelude.{◌≡◌, ◌+◌, ◌-◌, ◌<◌, ◌≤◌, IfSome, length, take};
+ghost use Rattle.std.specs.Prelude.{◌≡◌, ◌+◌, ◌-◌, ◌<◌, ◌≤◌, IfSome, length, take, true};
 ghost use Rattle.std.specs.List.{remove};
 ghost use Rattle.board_text.specs.PlainBoard.{IsBoard, IsConfiguration, places};
 ghost use Rattle.positions.specs.Game.{moved};
@@ -8,7 +8,7 @@ ghost use Rattle.positions.specs.Ranks.{configurations, configuration_at};
 ghost use Rattle.classes.specs.Classes.{class_of};
 ghost use Rattle.classes.specs.Numbers.{number_by_greatest};
 ghost use Rattle.strategies.specs.Inside.MovesAt.{position};
-ghost use Rattle.strategies.specs.Inside.Walks.{AreGapNumbers, AreNumberRows};
+ghost use Rattle.strategies.specs.Inside.Walks.{AreGapNumbers, AreNumberRows, others_held};
 
 use board_text::MAX_PEBBLES;
 use classes::{MemberTables, Places};
@@ -113,6 +113,21 @@ impl<'a> GapWalk<'a> {
             return None;
         }
         Some(place as u16)
+    }
+
+    /// Whether the configuration of `rank` is found to differ in the last pebble's place alone.
+    pub(crate) fn is_near(&self, rank: u32) -> bool
+        ensures { result ≡ true → others_held self.now.board (configuration_at self.now.board rank)
+            ≡ others_held self.now.board self.now.held }
+    {
+        self.place_at(rank).is_some()
+    }
+
+    /// The places of all pebbles but the last.
+    pub(crate) fn others(&self) -> &[u16]
+        ensures { result.now ≡ others_held self.now.board self.now.held }
+    {
+        &self.configuration.as_slice()[..self.space.pebbles() as usize - 1]
     }
 
     /// The places of the configuration.

@@ -15,6 +15,7 @@ mod laws_of_class_documents;
 mod laws_of_documents;
 mod laws_of_sides;
 mod laws_of_symmetric_documents;
+mod line_walk;
 mod lines;
 mod listed_numbers;
 mod marked_numbers;

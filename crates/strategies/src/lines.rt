@@ -7,11 +7,10 @@ ghost use Rattle.strategies.specs.Inside.Lines.{AreLinesBetween, AreSectionLines
 ghost use Rattle.strategies.specs.Inside.Numbering.{by_rank};
 ghost use Rattle.strategies.specs.Inside.Side.{AreReached};
 
+use crate::line_walk::LineWalk;
 use crate::marks::Marks;
-use crate::position_walk::PositionWalk;
 use crate::rank_moves::RankMoves;
 use crate::rank_sections::{LineRow, reached_marks};
-use crate::walk::Walk;
 use board_text::Memory;
 use positions::{MAX_CONFIGURATIONS, Value};
 use proof_text::{PlaceWords, RowText};
@@ -131,14 +130,14 @@ fn lines_between<R: LineRow>(
         moves.now)
         marks.now span.start span.end) }
 {
-    let mut walk = Walk::at(moves, moves.start());
+    let mut here = LineWalk::at_start(moves, words);
     let mut text = RowText::new(String::new(alloc));
     let mut rows = 0;
     let mut from = span.start;
     while let Some(rank) = marks.first_between(from, span.end) {
-        walk.go_to(rank as u64);
-        if let Some(row) = R::at(&walk, rank as u64, start) {
-            row.write(&walk, words, &mut text)?;
+        here.go_to(rank);
+        if let Some(row) = R::at(here.walk(), rank as u64, start) {
+            row.write(&here, &mut text)?;
             rows += 1;
         }
         from = rank + 1;

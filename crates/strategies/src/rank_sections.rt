@@ -11,6 +11,7 @@ ghost use Rattle.strategies.specs.Inside.Numbering.{by_rank};
 ghost use Rattle.strategies.specs.Inside.Side.{AreReached, AreSection, adversary_side};
 ghost use Rattle.strategies.specs.Inside.Side.{labeller_side};
 
+use crate::line_walk::LineWalk;
 use crate::marked_numbers::MarkedNumbers;
 use crate::marks::Marks;
 use crate::position_walk::PositionWalk;
@@ -21,7 +22,7 @@ use crate::steps::{add_answers, add_results};
 use crate::walk::Walk;
 use board_text::Memory;
 use positions::Value;
-use proof_text::{AdversaryRow, LabellerRow, PlaceWords, RowText};
+use proof_text::{AdversaryRow, LabellerRow, RowText};
 use std::alloc::{AllocError, Global};
 
 /// A row that has a line in a text.
@@ -29,16 +30,9 @@ pub(crate) trait LineRow: SectionRow {
     // The line of a row.
     ghost line: { PlainBoard → Self → List ℕ };
 
-    /// Appends the row's line to `text`. The row is at the configuration where `here` is, and the
-    /// `words` are those of the board's places.
-    fn write(
-        &self,
-        here: &Walk<'_>,
-        words: &PlaceWords,
-        text: &mut RowText,
-    ) -> Result<(), AllocError>
-        requires words { words.now ≡ here.now.board.labels }
-        requires here { (start : ValueData) × ((Self.side (over_ranks here.now.board) start).at
+    /// Appends the row's line to `text`. The row is at the configuration where `here` is.
+    fn write(&self, here: &LineWalk<'_>, text: &mut RowText) -> Result<(), AllocError>
+        requires { (start : ValueData) × ((Self.side (over_ranks here.now.board) start).at
             ((Self.side (over_ranks here.now.board) start).shown self.now) ≡ here.now.held) }
         ensures { OnOk result
             (text.new.bytes ≡ text.old.bytes ++ line here.now.board self.now) };
@@ -159,14 +153,11 @@ impl LineRow for LabellerRow {
 
     ghost line = { labeller_line };
 
-    fn write(
-        &self,
-        here: &Walk<'_>,
-        words: &PlaceWords,
-        text: &mut RowText,
-    ) -> Result<(), AllocError> {
-        let pebbles = here.board().pebbles() as usize;
-        text.push_answer(words, here.held(), self.turns, &self.take[..pebbles])
+    fn write(&self, here: &LineWalk<'_>, text: &mut RowText) -> Result<(), AllocError> {
+        let held = here.walk().held();
+        let pebbles = held.len();
+        let take = &self.take[..pebbles];
+        text.push_answer_after(here.words(), here.head(), held[pebbles - 1], self.turns, take)
     }
 }
 
@@ -175,12 +166,7 @@ impl LineRow for AdversaryRow {
 
     ghost line = { adversary_line };
 
-    fn write(
-        &self,
-        here: &Walk<'_>,
-        words: &PlaceWords,
-        text: &mut RowText,
-    ) -> Result<(), AllocError> {
-        text.push_request(words, here.held(), self.left, self.ask)
+    fn write(&self, here: &LineWalk<'_>, text: &mut RowText) -> Result<(), AllocError> {
+        text.push_request(here.words(), here.walk().held(), self.left, self.ask)
     }
 }

@@ -10,6 +10,7 @@ use Rattle.positions.specs.declared.space.TheConstants.{MAX_CONFIGURATIONS}
 use Rattle.classes.specs.Classes.{class_of}
 use Rattle.classes.specs.ClassGaps.{gap_at}
 use Rattle.classes.specs.Numbers.{number_by_greatest}
+use Rattle.proof_text.specs.Inside.RowText.{head_of}
 use Rattle.strategies.specs.Inside.MovesAt.{HeldPosition}
 
 -- the places of all pebbles but the last
@@ -55,3 +56,8 @@ pub record IsBestWalk (board : PlainBoard) (rank : ℕ) (steps : List ℕ)
   pub held_is : position.held ≡ configuration_at board rank
   pub few : configurations board ≤ MAX_CONFIGURATIONS
   pub steps_are : ArePlaceSteps board steps
+
+-- the words are those of the board's places, and the head has the word and all places but the last
+pub record IsLineWalk (here : HeldPosition) (labels : ℕ) (head : List ℕ) : Type 0 where
+  pub same_labels : labels ≡ here.board.labels
+  pub head_is : head ≡ head_of here.board.labels (others_held here.board here.held)

@@ -1,6 +1,7 @@
 use Rattle.std.proofs.Common.{◌≡◌, ◌∷◌, ◌++◌, [], List, ℕ, refl, ap, ◌∙◌, arith}
 use Rattle.strategies.specs.Inside.Marks.{IsMarked}
-use Rattle.strategies.specs.Inside.NumberedPositions.{PositionKind, over_ranks}
+use Rattle.strategies.specs.Inside.MovesAt.{HeldPosition}
+use Rattle.strategies.specs.Inside.NumberedPositions.{over_ranks}
 use Rattle.strategies.proofs.ListedNumbers.{all_listed, next_listed}
 use Rattle.strategies.proofs.WrittenLines.{first_of_all, no_line, one_line}
 use Rattle.strategies.proofs.lines.lines_between.Goals as goal
@@ -13,8 +14,8 @@ loop-rank-preserved g c =
     let line = g.R.LineRow.line board in
     let marks = c.args.marks.now in
     let was = c.loop-rank.invariant in
-    let here : c.go_to.new.self.board ≡ board =
-    ap (λ (k : PositionKind). k.board) c.go_to.ensures.kind ∙ was.here in
+    let here : c.walk.result.now.board ≡ board =
+    ap (λ (p : HeldPosition). p.board) (c.walk.ensures ∙ c.go_to.ensures) ∙ was.here in
     let first = c.in-Some.ensures.first.0 in
     let ranks : List ℕ = was.ranks ++ c.in-Some.rank ∷ [] in
     let listed = next_listed (IsMarked marks) c.args.span.start c.loop-rank.from was.ranks c.in-Some.rank was.after
@@ -56,6 +57,6 @@ returns g c =
 
 pub at-requires-clause-kind : goal.at-requires-clause-kind
 at-requires-clause-kind g c =
-    let here : c.go_to.new.self.board ≡ c.args.moves.now =
-    ap (λ (k : PositionKind). k.board) c.go_to.ensures.kind ∙ c.loop-rank.invariant.here in
+    let here : c.walk.result.now.board ≡ c.args.moves.now =
+    ap (λ (p : HeldPosition). p.board) (c.walk.ensures ∙ c.go_to.ensures) ∙ c.loop-rank.invariant.here in
     rw here (g.met.R.LineRow.ranked _ (record { ranks = refl; few = c.start.ensures.few }))

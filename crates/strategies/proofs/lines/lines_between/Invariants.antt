@@ -6,7 +6,7 @@ use Rattle.strategies.proofs.lines.lines_between.Given as goal
 
 abbrev pub invariant-loop-rank : goal.invariant-loop-rank
 invariant-loop-rank g l = record {
-  here : l.walk.board ≡ l.fn.moves;
+  here : l.here.board ≡ l.fn.moves;
   ranks : List ℕ;
   listed : AreListed (IsMarked l.fn.marks) l.fn.span.start l.from ranks;
   lines : AreLinesAt l.fn.moves (g.R.SectionRow.side (over_ranks l.fn.moves) l.fn.start) (g.R.LineRow.line l.fn.moves)
