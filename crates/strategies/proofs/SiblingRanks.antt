@@ -5,15 +5,16 @@ use Rattle.std.proofs.Common.{inl, inr, refl, sym, ap, ◌∙◌, subst, arith}
 use Rattle.std.specs.List.{All, remove}
 use Rattle.std.proofs.Math.Nat.{pow-zero}
 use Rattle.std.proofs.lemmas.Bool.{cases_eq}
-use Rattle.std.proofs.lemmas.List.{get_or-set_other, get_or-set_same, length-set, length-take-le, set-set, take-set}
-use Rattle.std.proofs.lemmas.List.{take-set-le}
+use Rattle.std.proofs.lemmas.List.{get_or-set_other, get_or-set_same, length-set, length-take-le, set-get_or, set-set}
+use Rattle.std.proofs.lemmas.List.{take-set, take-set-le}
 use Rattle.std.proofs.lemmas.List.{take_all, take_more}
 use Rattle.std.proofs.lemmas.List.Edits.{length-remove}
-use Rattle.std.proofs.lemmas.List.Elements.{All-set, All-take}
+use Rattle.std.proofs.lemmas.List.Elements.{All-set, All-take, All-weaker}
 use Rattle.board_text.specs.PlainBoard.{PlainBoard, IsConfiguration, places}
+use Rattle.board_text.proofs.Cited.{labels_and_places}
 use Rattle.positions.specs.Game.{moved}
 use Rattle.positions.specs.Ranks.{configurations, configuration_at, number_of, rank_of}
-use Rattle.positions.proofs.Cited.{configuration_at-rank_of, configuration_at_is}
+use Rattle.positions.proofs.Cited.{configuration_at-rank_of, configuration_at_is, rank_of-configuration_at}
 use Rattle.classes.specs.Classes.{IsClass, class_of, put}
 use Rattle.classes.specs.ClassGaps.{gap_at}
 use Rattle.classes.specs.Numbers.{number_by_greatest, ways}
@@ -53,6 +54,17 @@ module _ (board : PlainBoard) (some : 0 < board.pebbles) where
     each_pebble = length-set held last place ∙ is.each_pebble;
     each_place = All-set (λ p. p < places board) held last place low is.each_place;
   }
+
+  -- the rank has the last place as its lowest digit
+  pub first-near : (rank : ℕ) → rank < configurations board
+      → rank ≡ rank_of board (moved (configuration_at board rank) last 0) + get_or (configuration_at board rank) last 0
+  first-near rank below =
+      let held : List ℕ = configuration_at board rank in
+      let is : IsConfiguration board held = configuration_at_is board rank below in
+      let size : length held ≡ board.pebbles = is.each_pebble in
+      sym (rank_of-configuration_at board rank below)
+      ∙ ap (rank_of board) (sym (set-get_or held last 0))
+      ∙ number-last (places board) held last (get_or held last 0) (omega (arith, size, some))
 
   pub sibling-ranks : (rank first : ℕ) → rank < configurations board
       → first ≡ rank_of board (moved (configuration_at board rank) last 0)
@@ -105,7 +117,13 @@ module _ (board : PlainBoard) (held : List ℕ) (is : IsConfiguration board held
   pub others-places : All (λ p. p < places board) (others_held board held)
   others-places = All-take (λ p. p < places board) (board.pebbles - 1) held is.each_place
 
-  whole : held ≡ others_held board held ++ get_or held (board.pebbles - 1) 0 ∷ []
+  pub others-labels : All (λ p. p ≤ board.labels) (others_held board held)
+  others-labels =
+      All-weaker (λ p. p < places board) (λ p. p ≤ board.labels)
+      (λ p low. let most = (labels_and_places board).1 in omega (arith, low, most)) (others_held board held)
+      others-places
+
+  pub whole : held ≡ others_held board held ++ get_or held (board.pebbles - 1) 0 ∷ []
   whole =
       let end : board.pebbles - 1 + 1 ≡ length held = omega (arith, size) in
       sym (take_all (board.pebbles - 1 + 1) held (omega (arith, end)))

@@ -1,10 +1,11 @@
 //! A walk over configurations, which gives the gaps of their pebbles.
 
-ghost use Rattle.std.specs.Prelude.{◌≡◌, ◌+◌, ◌-◌, ◌<◌, ◌≤◌, IfSome, length, take, true};
+ghost use Rattle.std.specs.Prelude.{◌≡◌, ◌+◌, ◌-◌, ◌<◌, ◌≤◌, ◌∷◌, ◌++◌, [], All, IfSome, length};
+ghost use Rattle.std.specs.Prelude.{take, true};
 ghost use Rattle.std.specs.List.{remove};
 ghost use Rattle.board_text.specs.PlainBoard.{IsBoard, IsConfiguration, places};
 ghost use Rattle.positions.specs.Game.{moved};
-ghost use Rattle.positions.specs.Ranks.{configurations, configuration_at};
+ghost use Rattle.positions.specs.Ranks.{configurations, configuration_at, rank_of};
 ghost use Rattle.classes.specs.Classes.{class_of};
 ghost use Rattle.classes.specs.Numbers.{number_by_greatest};
 ghost use Rattle.strategies.specs.Inside.MovesAt.{position};
@@ -57,8 +58,8 @@ impl<'a> GapWalk<'a> {
         requires rank { rank < configurations space.now }
         ensures { result ≡ position space.now (configuration_at space.now rank) }
     {
-        let last = space.pebbles() - 1;
         let configuration = Places::at(space, rank);
+        let first = first_near(space, rank, configuration.as_slice());
         let mut rests = [0; ROOM];
         fill_rests(members, configuration.as_slice(), 0, &mut rests);
         let gaps = gaps_of(members, configuration.as_slice(), &rests);
@@ -66,7 +67,7 @@ impl<'a> GapWalk<'a> {
             space,
             members,
             configuration,
-            first: space.with(rank, last, 0),
+            first,
             rests,
             gaps,
         }
@@ -97,7 +98,7 @@ impl<'a> GapWalk<'a> {
         let same = count_same(self.configuration.as_slice(), next.as_slice(), last);
         fill_rests(self.members, next.as_slice(), same, &mut self.rests);
         self.gaps = gaps_of(self.members, next.as_slice(), &self.rests);
-        self.first = self.space.with(rank, last, 0);
+        self.first = first_near(self.space, rank, next.as_slice());
         self.configuration = next;
     }
 
@@ -125,9 +126,18 @@ impl<'a> GapWalk<'a> {
 
     /// The places of all pebbles but the last.
     pub(crate) fn others(&self) -> &[u16]
-        ensures { result.now ≡ others_held self.now.board self.now.held }
+        ensures value { result.now ≡ others_held self.now.board self.now.held }
+        ensures few { length result.now ≤ MAX_PEBBLES }
+        ensures places { All (λ place. place ≤ self.now.board.labels) result.now }
     {
         &self.configuration.as_slice()[..self.space.pebbles() as usize - 1]
+    }
+
+    /// The place of the last pebble.
+    pub(crate) fn last(&self) -> u16
+        ensures { others_held self.now.board self.now.held ++ result ∷ [] ≡ self.now.held }
+    {
+        self.configuration.as_slice()[self.space.pebbles() as usize - 1]
     }
 
     /// The places of the configuration.
@@ -173,6 +183,18 @@ fn gaps_of(members: &MemberTables, held: &[u16], rests: &[u32; ROOM]) -> [u32; M
     }
     numbers[last] = rests[row + last];
     numbers
+}
+
+/// The rank of the configuration with the place 0 for the last pebble, by the `rank` and the places
+/// `held` of one that differs in this place alone.
+fn first_near(space: &Space, rank: u32, held: &[u16]) -> u32
+    requires rank { rank < configurations space.now }
+    requires held { held.now ≡ configuration_at space.now rank }
+    ensures first { result ≡ rank_of space.now
+        (moved (configuration_at space.now rank) (space.now.pebbles - 1) 0) }
+    ensures is_board { IsBoard space.now }
+{
+    rank - held[space.pebbles() as usize - 1] as u32
 }
 
 /// How many of the first pebbles, of which there are at most `most`, have the same places in both.

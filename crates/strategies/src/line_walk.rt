@@ -1,6 +1,6 @@
 //! A walk over configurations by their ranks, with what their rows' lines begin with.
 
-ghost use Rattle.std.specs.Prelude.{◌≡◌, ◌<◌};
+ghost use Rattle.std.specs.Prelude.{◌≡◌, ◌<◌, ◌≤◌};
 ghost use Rattle.positions.specs.Ranks.{configurations, configuration_at, rank_of};
 ghost use Rattle.proof_text.specs.Inside.RowText.{head_of};
 ghost use Rattle.strategies.specs.Inside.MovesAt.{position};
@@ -9,6 +9,7 @@ ghost use Rattle.strategies.specs.Inside.Walks.{others_held};
 use crate::position_walk::PositionWalk;
 use crate::rank_moves::RankMoves;
 use crate::walk::Walk;
+use positions::MAX_CONFIGURATIONS;
 use proof_text::{PlaceWords, RowHead};
 use std::marker::Model;
 
@@ -38,8 +39,9 @@ impl<'a> LineWalk<'a> {
     /// A walk by `moves`, at the start.
     pub(crate) fn at_start(moves: &'a RankMoves<'a>, words: &'a PlaceWords) -> LineWalk<'a>
         requires { words.now ≡ moves.now.labels }
-        ensures { result ≡ position moves.now
+        ensures start { result ≡ position moves.now
             (configuration_at moves.now (rank_of moves.now moves.now.start)) }
+        ensures few { configurations moves.now ≤ MAX_CONFIGURATIONS }
     {
         let walk = Walk::at(moves, moves.start());
         let head = RowHead::of(words, walk.others());

@@ -12,15 +12,19 @@ use std::alloc::Global;
 use std::marker::Model;
 
 /// The numbers that were reached, and those of them from which no step was taken yet, a mark for
-/// each. They are taken in ascending order, again and again from the first, so that a walk goes
-/// over places that are near to one another.
+/// each. They are taken in ascending order, near ones together, and again and again from the
+/// first, so that a walk goes over places that are near to one another.
 #[derive(Drop)]
 pub(crate) struct MarkedNumbers {
     marks: Marks,
     left: Marks,
-    /// The number after the one that was taken last.
+    /// The number from which the next one is looked for: one of those near to the one that was
+    /// taken last.
     next: u32,
 }
+
+/// Numbers are near that differ in what is left by this one. They have one word of marks.
+const NEAR: u32 = 64;
 
 impl Model for MarkedNumbers {
     ghost use Rattle.strategies.specs.Inside.ReachedMarks.{ReachedMarks, AreLeftOfReached};
@@ -88,7 +92,7 @@ impl ReachedNumbers for MarkedNumbers {
             return Ok(None);
         };
         self.left.clear(number);
-        self.next = number + 1;
+        self.next = number - number % NEAR;
         Ok(Some(number as u64))
     }
 

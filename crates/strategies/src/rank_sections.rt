@@ -154,10 +154,10 @@ impl LineRow for LabellerRow {
     ghost line = { labeller_line };
 
     fn write(&self, here: &LineWalk<'_>, text: &mut RowText) -> Result<(), AllocError> {
-        let held = here.walk().held();
-        let pebbles = held.len();
+        let walk = here.walk();
+        let pebbles = walk.board().pebbles() as usize;
         let take = &self.take[..pebbles];
-        text.push_answer_after(here.words(), here.head(), held[pebbles - 1], self.turns, take)
+        text.push_answer_after(here.words(), here.head(), walk.last(), self.turns, take)
     }
 }
 

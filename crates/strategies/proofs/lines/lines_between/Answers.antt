@@ -14,8 +14,8 @@ loop-rank-preserved g c =
     let line = g.R.LineRow.line board in
     let marks = c.args.marks.now in
     let was = c.loop-rank.invariant in
-    let here : c.walk.result.now.board ≡ board =
-    ap (λ (p : HeldPosition). p.board) (c.walk.ensures ∙ c.go_to.ensures) ∙ was.here in
+    let there : c.go_to.new.self.board ≡ board = ap (λ (p : HeldPosition). p.board) c.go_to.ensures ∙ was.here in
+    let here : c.walk.result.now.board ≡ board = ap (λ (p : HeldPosition). p.board) c.walk.ensures ∙ there in
     let first = c.in-Some.ensures.first.0 in
     let ranks : List ℕ = was.ranks ++ c.in-Some.rank ∷ [] in
     let listed = next_listed (IsMarked marks) c.args.span.start c.loop-rank.from was.ranks c.in-Some.rank was.after
@@ -23,17 +23,17 @@ loop-rank-preserved g c =
     in
     elim c.match-at.branch [
       | in-Some-at+in_ok-write w ↦ rw (w.text-is, w.rows-is) (record {
-        here = here;
+        here = there;
         ranks = ranks;
         listed = listed;
         lines = one_line board side line was.ranks c.loop-rank.text.bytes _ c.loop-rank.rows c.in-Some.rank
-            w.in-Some-at.row was.lines (rw here at w.in-Some-at.ensures) (rw here at w.in_ok-write.ensures);
+            w.in-Some-at.row was.lines (rw here at w.in-Some-at.ensures) (rw there at w.in_ok-write.ensures);
         after = omega (arith, was.after, first.0);
         before = omega (arith, first.1);
         few = omega (arith, was.few, first.0);
       })
       | in_default-at w ↦ rw (w.text-is, w.rows-is) (record {
-        here = here;
+        here = there;
         ranks = ranks;
         listed = listed;
         lines = no_line board side line was.ranks c.loop-rank.text.bytes c.loop-rank.rows c.in-Some.rank was.lines
@@ -59,4 +59,4 @@ pub at-requires-clause-kind : goal.at-requires-clause-kind
 at-requires-clause-kind g c =
     let here : c.walk.result.now.board ≡ c.args.moves.now =
     ap (λ (p : HeldPosition). p.board) (c.walk.ensures ∙ c.go_to.ensures) ∙ c.loop-rank.invariant.here in
-    rw here (g.met.R.LineRow.ranked _ (record { ranks = refl; few = c.start.ensures.few }))
+    rw here (g.met.R.LineRow.ranked _ (record { ranks = refl; few = c.at_start-here.ensures.few }))
