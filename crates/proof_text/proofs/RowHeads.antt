@@ -6,7 +6,7 @@ use Rattle.std.specs.Str.{IsAscii}
 use Rattle.std.proofs.lemmas.List.{append-nil, length-append, length-drop, length-take-le, take_more}
 use Rattle.std.proofs.lemmas.Str.{IsAscii-append}
 use Rattle.board_text.specs.PlaceForms.{place_word, spaced_places}
-use Rattle.proof_text.specs.Inside.RowText.{IsRowHead, head_of}
+use Rattle.proof_text.specs.Inside.RowText.{IsRowHead, row_head}
 use Rattle.proof_text.proofs.GatheredWords.{put_taken}
 
 -- ---- a word more
@@ -17,7 +17,9 @@ module _ (size k few : ℕ) (bytes ys : List ℕ) (is : IsRowHead bytes size) (f
   all = is.room
 
   short : length ys ≡ k
-  short = long ∙ length-take-le k (drop size bytes) (let rest = length-drop size bytes in omega (arith, rest, all, fits))
+  short =
+      let rest = length-drop size bytes in
+      long ∙ length-take-le k (drop size bytes) (omega (arith, rest, all, fits))
 
   pub head-bytes : take (size + few) (put_mid size k bytes ys) ≡ take size bytes ++ take few ys
   head-bytes = put_taken size k few bytes ys (omega (arith, all, fits)) (omega (arith, short, most))
@@ -40,8 +42,9 @@ spaced-more labels (first ∷ others) place =
     (sym (append_assoc (place_word labels first) (spaced_places labels others) (32 ∷ place_word labels place)))
 
 -- the head of one place more
-pub head-place : (labels : ℕ) (places : List ℕ) (index place : ℕ) → index < length places → get_or places index 0 ≡ place
-    → head_of labels (take (index + 1) places) ≡ head_of labels (take index places) ++ 32 ∷ place_word labels place
+pub head-place : (labels : ℕ) (places : List ℕ) (index place : ℕ) → index < length places
+    → get_or places index 0 ≡ place
+    → row_head labels (take (index + 1) places) ≡ row_head labels (take index places) ++ 32 ∷ place_word labels place
 head-place labels places index place inside is =
-    ap (head_of labels) (take_more places index 0 inside ∙ ap (λ p. take index places ++ p ∷ []) is)
+    ap (row_head labels) (take_more places index 0 inside ∙ ap (λ p. take index places ++ p ∷ []) is)
     ∙ ap (λ l. 97 ∷ 116 ∷ l) (spaced-more labels (take index places) place)

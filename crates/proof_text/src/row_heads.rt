@@ -1,7 +1,7 @@
 //! The heads of rows' lines.
 
 ghost use Rattle.std.specs.Prelude.{◌≡◌, ◌+◌, ◌≤◌, ◌++◌, [], All, length, take};
-ghost use Rattle.proof_text.specs.Inside.RowText.{bytes_of_word, head_of};
+ghost use Rattle.proof_text.specs.Inside.RowText.{bytes_of_word, row_head};
 ghost use Rattle.std.specs.Str.{IsAscii};
 
 use crate::row_text::{PlaceWords, Word};
@@ -38,7 +38,7 @@ impl RowHead {
     pub fn of(words: &PlaceWords, places: &[u16]) -> RowHead
         requires few { length places.now ≤ MAX_PEBBLES }
         requires places { All (λ place. place ≤ words.now) places.now }
-        ensures { result ≡ head_of words.now places.now }
+        ensures { result ≡ row_head words.now places.now }
     {
         let mut head = RowHead::word();
         for index in 0..places.len() {
@@ -70,7 +70,7 @@ impl RowHead {
 
     /// The word alone.
     fn word() -> RowHead
-        ensures value { result ≡ head_of 0 [] }
+        ensures value { result ≡ row_head 0 [] }
     {
         let mut bytes = [b' '; SIZE_OF_HEAD];
         bytes[0] = b'a';

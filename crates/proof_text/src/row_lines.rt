@@ -6,7 +6,7 @@ ghost use Rattle.board_text.specs.LineForms.{number_line};
 ghost use Rattle.board_text.specs.PlaceForms.{spaced_places};
 ghost use Rattle.board_text.specs.PlainBoard.{PlainBoard};
 ghost use Rattle.proof_text.specs.ProofText.{answer_line, request_line, class_request_line};
-ghost use Rattle.proof_text.specs.Inside.RowText.{end_of_answer, head_of};
+ghost use Rattle.proof_text.specs.Inside.RowText.{end_of_answer, row_head};
 
 use crate::row_heads::RowHead;
 use crate::row_text::{PlaceWords, ROOM, RowText, SIZE_OF_NUMBER};
@@ -62,7 +62,7 @@ impl RowText {
     ) -> Result<(), AllocError>
         requires { length take.now ≤ MAX_PEBBLES }
         ensures { OnOk result ((board : PlainBoard) → (others : List ℕ)
-            → words.now ≡ board.labels → head.now ≡ head_of board.labels others
+            → words.now ≡ board.labels → head.now ≡ row_head board.labels others
             → self.new.bytes ≡ self.old.bytes ++ answer_line board (record {
               at = others ++ last ∷ [];
               turns = turns;

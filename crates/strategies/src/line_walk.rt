@@ -2,7 +2,7 @@
 
 ghost use Rattle.std.specs.Prelude.{◌≡◌, ◌<◌, ◌≤◌};
 ghost use Rattle.positions.specs.Ranks.{configurations, configuration_at, rank_of};
-ghost use Rattle.proof_text.specs.Inside.RowText.{head_of};
+ghost use Rattle.proof_text.specs.Inside.RowText.{row_head};
 ghost use Rattle.strategies.specs.Inside.MovesAt.{position};
 ghost use Rattle.strategies.specs.Inside.Walks.{others_held};
 
@@ -76,7 +76,7 @@ impl<'a> LineWalk<'a> {
 
     /// The head of the lines of rows here.
     pub(crate) fn head(&self) -> &RowHead
-        ensures { result.now ≡ head_of self.now.board.labels (others_held self.now.board
+        ensures { result.now ≡ row_head self.now.board.labels (others_held self.now.board
             self.now.held) }
     {
         &self.head

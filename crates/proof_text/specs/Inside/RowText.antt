@@ -35,8 +35,8 @@ pub record IsGathered (written room : List ℕ) (count : ℕ) : Type 0 where
   pub gathered : IsUtf8 (take count room)
 
 -- what the lines of rows with these places begin with
-abbrev pub head_of : ℕ → List ℕ → List ℕ
-head_of labels places = codes "at" ++ spaced_places labels places
+abbrev pub row_head : ℕ → List ℕ → List ℕ
+row_head labels places = codes "at" ++ spaced_places labels places
 
 -- what a labeller's row has after its places
 abbrev pub end_of_answer : PlainBoard → Turns → List ℕ → List ℕ

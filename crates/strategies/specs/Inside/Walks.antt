@@ -10,7 +10,7 @@ use Rattle.positions.specs.declared.space.TheConstants.{MAX_CONFIGURATIONS}
 use Rattle.classes.specs.Classes.{class_of}
 use Rattle.classes.specs.ClassGaps.{gap_at}
 use Rattle.classes.specs.Numbers.{number_by_greatest}
-use Rattle.proof_text.specs.Inside.RowText.{head_of}
+use Rattle.proof_text.specs.Inside.RowText.{row_head}
 use Rattle.strategies.specs.Inside.MovesAt.{HeldPosition}
 
 -- the places of all pebbles but the last
@@ -60,4 +60,4 @@ pub record IsBestWalk (board : PlainBoard) (rank : ℕ) (steps : List ℕ)
 -- the words are those of the board's places, and the head has the word and all places but the last
 pub record IsLineWalk (here : HeldPosition) (labels : ℕ) (head : List ℕ) : Type 0 where
   pub same_labels : labels ≡ here.board.labels
-  pub head_is : head ≡ head_of here.board.labels (others_held here.board here.held)
+  pub head_is : head ≡ row_head here.board.labels (others_held here.board here.held)
