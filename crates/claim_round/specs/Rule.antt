@@ -1,7 +1,6 @@
 -- The rule of a round's table, which holds between any two steps of any threads.
 use Rattle.std.specs.Prelude.{◌≡◌, ℕ, ◌+◌, ◌*◌, ◌<◌, ◌≤◌, Bool, [], length}
-use Rattle.graphs.specs.declared.graph.Numbering.TheVariants.{Ordered}
-use Rattle.graphs.specs.Numbered.{numbered, graph_of}
+use Rattle.graphs.specs.Numbered.{numbered, graph_of, Ordered}
 use Rattle.std.specs.List.{All, sum_by}
 use Rattle.atomic_table.specs.Table.{State}
 use Rattle.solver.specs.Solving.{IsSolving}

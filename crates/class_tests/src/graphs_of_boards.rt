@@ -4,20 +4,19 @@
 //! made once more.
 
 ghost use Rattle.std.specs.Prelude.{◌≡◌, IfSome};
-ghost use Rattle.graphs.specs.Numbered.{numbered};
+ghost use Rattle.graphs.specs.Numbered.{numbered, Ordered, Classes};
 
 use crate::assertions::{assert_same, board_of};
 use board_text::Board;
 use fakes::boards::{CYCLE_WITHOUT_LABELS, THREE_CYCLE};
-use graphs::{Graph, MAX_PLACES, Numbering};
+use graphs::{Graph, MAX_PLACES};
 use positions::is_small;
 use std::alloc::Global;
 use std::process::Abort;
 
-/// A board of two pebbles with its graph by a numbering.
+/// A board of two pebbles with its graph, by ranks or by classes.
 struct Worked {
     text: &'static str,
-    numbering: Numbering,
     /// The members of each gap, by place.
     members: &'static [&'static [u32]],
     /// The gap in which each configuration is an answer.
@@ -27,7 +26,6 @@ struct Worked {
 /// The three-cycle, in which 1 dominates 0, 2 dominates 1, and 0 dominates 2.
 const CYCLE_BY_RANKS: Worked = Worked {
     text: THREE_CYCLE,
-    numbering: Numbering::Ordered,
     // pebble 0 beside 0, 1, 2, then pebble 1
     members: &[
         &[0, 3, 6],
@@ -54,7 +52,6 @@ const CYCLE_BY_RANKS: Worked = Worked {
 /// The same, of which 0 0, 1 0, 1 1, 2 0, 2 1, 2 2 are the classes.
 const CYCLE_BY_CLASSES: Worked = Worked {
     text: THREE_CYCLE,
-    numbering: Numbering::Classes,
     members: &[&[0, 1, 3], &[1, 2, 4], &[3, 4, 5]],
     struck: &[None, Some(0), None, Some(2), Some(1), None],
 };
@@ -63,7 +60,6 @@ const CYCLE_BY_CLASSES: Worked = Worked {
 /// The classes are 0 0, 1 0, 1 1, 2 0, 2 1, 2 2, 3 0, 3 1, 3 2, 3 3.
 const BLANKS_BY_CLASSES: Worked = Worked {
     text: CYCLE_WITHOUT_LABELS,
-    numbering: Numbering::Classes,
     members: &[&[0, 1, 3, 6], &[1, 2, 4, 7], &[3, 4, 5, 8], &[6, 7, 8, 9]],
     struck: &[
         None,
@@ -82,7 +78,6 @@ const BLANKS_BY_CLASSES: Worked = Worked {
 /// The same by ranks. Beside a pebble without a label each label of the other is an answer.
 const BLANKS_BY_RANKS: Worked = Worked {
     text: CYCLE_WITHOUT_LABELS,
-    numbering: Numbering::Ordered,
     members: &[
         &[0, 4, 8, 12],
         &[1, 5, 9, 13],
@@ -113,16 +108,29 @@ const BLANKS_BY_RANKS: Worked = Worked {
     ],
 };
 
-/// The graph of a board that isn't too large.
-fn graph_of(alloc: Global, board: &Board, numbering: Numbering) -> Option<Graph>
-    ensures { IfSome result (λ graph. graph ≡ numbered board.now numbering) }
+/// The graph of the configurations of a board that isn't too large.
+fn graph_of_ranks(alloc: Global, board: &Board) -> Option<Graph>
+    ensures { IfSome result (λ graph. graph ≡ numbered board.now Ordered) }
 {
     if !is_small(board) {
         return None;
     }
-    match Graph::of(alloc, board, numbering) {
+    match Graph::of_ranks(alloc, board) {
         Ok(graph) => Some(graph),
-        Err(_) => Graph::of(alloc, board, numbering).ok(),
+        Err(_) => Graph::of_ranks(alloc, board).ok(),
+    }
+}
+
+/// The graph of the classes of a board that isn't too large.
+fn graph_of_classes(alloc: Global, board: &Board) -> Option<Graph>
+    ensures { IfSome result (λ graph. graph ≡ numbered board.now Classes) }
+{
+    if !is_small(board) {
+        return None;
+    }
+    match Graph::of_classes(alloc, board) {
+        Ok(graph) => Some(graph),
+        Err(_) => Graph::of_classes(alloc, board).ok(),
     }
 }
 
@@ -196,31 +204,43 @@ fn assert_struck(rt: &impl Abort, graph: &Graph, worked: &Worked) {
     }
 }
 
-/// Asserts that a board has the graph that was worked out.
-fn assert_graph(rt: &impl Abort, alloc: Global, worked: &Worked) {
+/// Asserts that a graph is the one that was worked out.
+fn assert_graph(rt: &impl Abort, graph: &Graph, worked: &Worked) {
+    assert_members(rt, graph, worked);
+    assert_rows(rt, graph, worked);
+    assert_struck(rt, graph, worked);
+}
+
+/// Asserts that a board has the graph of ranks that was worked out.
+fn assert_ranks(rt: &impl Abort, alloc: Global, worked: &Worked) {
     let board = board_of(rt, alloc, worked.text);
-    let graph = graph_of(alloc, &board, worked.numbering).expect(rt, "a graph");
-    assert_members(rt, &graph, worked);
-    assert_rows(rt, &graph, worked);
-    assert_struck(rt, &graph, worked);
+    let graph = graph_of_ranks(alloc, &board).expect(rt, "a graph");
+    assert_graph(rt, &graph, worked);
+}
+
+/// Asserts that a board has the graph of classes that was worked out.
+fn assert_classes(rt: &impl Abort, alloc: Global, worked: &Worked) {
+    let board = board_of(rt, alloc, worked.text);
+    let graph = graph_of_classes(alloc, &board).expect(rt, "a graph");
+    assert_graph(rt, &graph, worked);
 }
 
 #[test]
 fn a_cycle_by_ranks(rt: HostRuntime) {
-    assert_graph(&rt, rt.alloc(), &CYCLE_BY_RANKS);
+    assert_ranks(&rt, rt.alloc(), &CYCLE_BY_RANKS);
 }
 
 #[test]
 fn a_cycle_by_classes(rt: HostRuntime) {
-    assert_graph(&rt, rt.alloc(), &CYCLE_BY_CLASSES);
+    assert_classes(&rt, rt.alloc(), &CYCLE_BY_CLASSES);
 }
 
 #[test]
 fn pebbles_without_labels_by_ranks(rt: HostRuntime) {
-    assert_graph(&rt, rt.alloc(), &BLANKS_BY_RANKS);
+    assert_ranks(&rt, rt.alloc(), &BLANKS_BY_RANKS);
 }
 
 #[test]
 fn pebbles_without_labels_by_classes(rt: HostRuntime) {
-    assert_graph(&rt, rt.alloc(), &BLANKS_BY_CLASSES);
+    assert_classes(&rt, rt.alloc(), &BLANKS_BY_CLASSES);
 }

@@ -2,7 +2,6 @@
 use Rattle.std.proofs.Common.{◌≡◌, ◌<◌, ◌↔◌, ◌∙◌, ℕ, List, get_or, ap, sym, subst}
 use Rattle.board_text.specs.PlainBoard.{PlainBoard, IsBoard, IsConfiguration, places}
 use Rattle.positions.specs.Game.{Legal, moved}
-use Rattle.positions.specs.Gaps.{gap_of}
 use Rattle.positions.specs.Ranks.{rank_of}
 use Rattle.positions.specs.Value.{HasValue}
 use Rattle.positions.specs.declared.value.Value.{Value}
@@ -11,64 +10,30 @@ use Rattle.positions.proofs.Cited.{gap_below, member_of-gap_of, own_member}
 use Rattle.classes.specs.Classes.{class_of}
 use Rattle.classes.specs.Numbers.{number_by_greatest}
 use Rattle.classes.proofs.Cited.{is-below, with-is, value-of-class}
-use Rattle.graphs.specs.declared.graph.Numbering.{Numbering}
-use Rattle.graphs.specs.declared.graph.Numbering.TheVariants.{Ordered, Classes}
-use Rattle.graphs.specs.ClassGraph.{class_at, gap_number}
+use Rattle.graphs.specs.ClassGraph.{class_at}
 use Rattle.graphs.specs.Answers.{IsAnswerIn}
-use Rattle.graphs.specs.Inside.Tables.{found_by}
-use Rattle.graphs.specs.declared.graph.Finder.{Finder}
-use Rattle.graphs.specs.declared.graph.Finder.TheVariants.{Ranks, Classes as ByClasses}
-use Rattle.graphs.specs.Numbered.{Numbered, numbered, graph_by, graph_of, configuration_by, configuration_of}
+use Rattle.graphs.specs.Numbered.{Numbered, GraphNumbering, Ordered, Classes}
+use Rattle.graphs.specs.Numbered.{graph_by, graph_of, configuration_by, configuration_of}
 use Rattle.graphs.specs.NumberedRanks.{number_by, number_in, gap_by, gap_in}
 use Rattle.graphs.proofs.OrderedGraphs as ranks
 use Rattle.graphs.proofs.ClassGraphs as kinds
 
--- ---- what a number is by each numbering
-
-pub rank-number : (n : Numbered) (c : List ℕ) → n.numbering ≡ Ordered → number_in n c ≡ rank_of n.board c
-unfolding number_by
-rank-number n c e = ap (λ k. number_by k n.board c) e
-
-pub class-number : (n : Numbered) (c : List ℕ) → n.numbering ≡ Classes → number_in n c ≡ number_by_greatest (class_of c)
-unfolding number_by
-class-number n c e = ap (λ k. number_by k n.board c) e
-
-pub rank-gap : (n : Numbered) (c : List ℕ) (p : ℕ) → n.numbering ≡ Ordered → gap_in n c p ≡ gap_of n.board c p
-unfolding gap_by
-rank-gap n c p e = ap (λ k. gap_by k n.board c p) e
-
-pub class-gap : (n : Numbered) (c : List ℕ) (p : ℕ) → n.numbering ≡ Classes → gap_in n c p ≡ gap_number c p
-unfolding gap_by
-class-gap n c p e = ap (λ k. gap_by k n.board c p) e
-
--- the numbering that a graph's finder tells, and its board
-module _ (n : Numbered) (finder : Finder) (view : found_by finder ≡ n) (board : PlainBoard) where
-  pub by-ranks : finder ≡ Ranks board → (n.numbering ≡ Ordered) × (board ≡ n.board)
-  by-ranks is =
-      let same : numbered board Ordered ≡ n = sym (ap found_by is) ∙ view in
-      (ap (λ (m : Numbered). m.numbering) (sym same), ap (λ (m : Numbered). m.board) same)
-
-  pub by-classes : finder ≡ ByClasses board → (n.numbering ≡ Classes) × (board ≡ n.board)
-  by-classes is =
-      let same : numbered board Classes ≡ n = sym (ap found_by is) ∙ view in
-      (ap (λ (m : Numbered). m.numbering) (sym same), ap (λ (m : Numbered). m.board) same)
-
 -- ---- laws by cases
 
-number-below-by : (k : Numbering) (b : PlainBoard) → IsBoard b → (c : List ℕ) → IsConfiguration b c
+number-below-by : (k : GraphNumbering) (b : PlainBoard) → IsBoard b → (c : List ℕ) → IsConfiguration b c
     → number_by k b c < (graph_by k b).configurations
 unfolding graph_by number_by
 number-below-by Ordered b is c ok = rank_below b c ok
 number-below-by Classes b is c ok = is-below (places b) b.pebbles (class_of c) (kinds.configuration-class b is c ok)
 
-configuration-is-by : (k : Numbering) (b : PlainBoard) → IsBoard b → (x : ℕ) → x < (graph_by k b).configurations
+configuration-is-by : (k : GraphNumbering) (b : PlainBoard) → IsBoard b → (x : ℕ) → x < (graph_by k b).configurations
     → IsConfiguration b (configuration_by k b x)
 unfolding graph_by configuration_by
 configuration-is-by Ordered b is x i = configuration_at_is b x i
 configuration-is-by Classes b is x i =
     kinds.class-configuration b is (class_at b x) (with-is (places b) b.pebbles x i).is
 
-number-again-by : (k : Numbering) (b : PlainBoard) → IsBoard b → (x : ℕ) → x < (graph_by k b).configurations
+number-again-by : (k : GraphNumbering) (b : PlainBoard) → IsBoard b → (x : ℕ) → x < (graph_by k b).configurations
     → number_by k b (configuration_by k b x) ≡ x
 unfolding graph_by number_by configuration_by
 number-again-by Ordered b is x i = rank_of-configuration_at b x i
@@ -76,7 +41,7 @@ number-again-by Classes b is x i =
     ap number_by_greatest (kinds.own-class b is (class_at b x) (with-is (places b) b.pebbles x i).is)
     ∙ (with-is (places b) b.pebbles x i).number_is
 
-value-by : (k : Numbering) (b : PlainBoard) → IsBoard b → (c : List ℕ) → IsConfiguration b c → (value : Value)
+value-by : (k : GraphNumbering) (b : PlainBoard) → IsBoard b → (c : List ℕ) → IsConfiguration b c → (value : Value)
     → HasValue b c value ↔ HasValue b (configuration_by k b (number_by k b c)) value
 unfolding number_by configuration_by
 value-by Ordered b is c ok value =
@@ -88,26 +53,28 @@ value-by Classes b is c ok value =
     subst (λ (d : List ℕ). HasValue b c value ↔ HasValue b d value) (sym (kinds.class-at-number b is c ok))
     (value-of-class b c ok value)
 
-gap-below-by : (k : Numbering) (b : PlainBoard) → IsBoard b → (c : List ℕ) (p : ℕ) → IsConfiguration b c → p < b.pebbles
+gap-below-by : (k : GraphNumbering) (b : PlainBoard) → IsBoard b → (c : List ℕ) (p : ℕ) → IsConfiguration b c
+    → p < b.pebbles
     → gap_by k b c p < (graph_by k b).gaps
 unfolding graph_by gap_by
 gap-below-by Ordered b is c p ok low = gap_below b c p ok low
 gap-below-by Classes b is c p ok low = kinds.gap-below b is c p ok low
 
-gap-own-by : (k : Numbering) (b : PlainBoard) → IsBoard b → (c : List ℕ) (p : ℕ) → IsConfiguration b c → p < b.pebbles
+gap-own-by : (k : GraphNumbering) (b : PlainBoard) → IsBoard b → (c : List ℕ) (p : ℕ) → IsConfiguration b c
+    → p < b.pebbles
     → (graph_by k b).member (gap_by k b c p) (get_or c p 0) ≡ number_by k b c
 unfolding graph_by gap_by number_by
 gap-own-by Ordered b is c p ok low = ap (rank_of b) (own_member b c p ok low)
 gap-own-by Classes b is c p ok low = ap number_by_greatest (kinds.member-own b is c p ok low)
 
-gap-moved-by : (k : Numbering) (b : PlainBoard) → IsBoard b → (c : List ℕ) (p v : ℕ) → IsConfiguration b c
+gap-moved-by : (k : GraphNumbering) (b : PlainBoard) → IsBoard b → (c : List ℕ) (p v : ℕ) → IsConfiguration b c
     → p < b.pebbles
     → (graph_by k b).member (gap_by k b c p) v ≡ number_by k b (moved c p v)
 unfolding graph_by gap_by number_by
 gap-moved-by Ordered b is c p v ok low = ap (rank_of b) (member_of-gap_of b c p v ok low)
 gap-moved-by Classes b is c p v ok low = ap number_by_greatest (kinds.member-moved b is c p v ok low)
 
-gap-legal-by : (k : Numbering) (b : PlainBoard) → IsBoard b → (c : List ℕ) (p v : ℕ) → IsConfiguration b c
+gap-legal-by : (k : GraphNumbering) (b : PlainBoard) → IsBoard b → (c : List ℕ) (p v : ℕ) → IsConfiguration b c
     → p < b.pebbles
     → Legal b c p v ↔ IsAnswerIn (graph_by k b) (gap_by k b c p) v
 unfolding graph_by gap_by

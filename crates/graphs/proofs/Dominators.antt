@@ -6,9 +6,8 @@ use Rattle.positions.specs.Gaps.{gaps, gap_of, pebble_of, IsDominator}
 use Rattle.positions.specs.Ranks.{configurations, configuration_at}
 use Rattle.positions.proofs.Cited.{configuration_at_is, gap_below, pebble_of-gap_of}
 use Rattle.positions.proofs.Dominators.{same_dominator}
-use Rattle.graphs.specs.declared.graph.Numbering.{Numbering}
-use Rattle.graphs.specs.declared.graph.Numbering.TheVariants.{Ordered, Classes}
-use Rattle.graphs.specs.Numbered.{Numbered, graph_by, graph_of, configuration_by, configuration_of}
+use Rattle.graphs.specs.Numbered.{Numbered, GraphNumbering, Ordered, Classes}
+use Rattle.graphs.specs.Numbered.{graph_by, graph_of, configuration_by, configuration_of}
 use Rattle.graphs.specs.Struck.{struck_among}
 use Rattle.graphs.proofs.DominatingPebbles.{is_dominator_is, struck-found, dominator-found}
 
@@ -43,7 +42,7 @@ module _ (b : PlainBoard) (is : IsBoard b) (x : ℕ) (i : x < configurations b) 
 not-ordered : Classes ≡ Ordered → ⊥
 not-ordered e = cc
 
-gaps-by : (k : Numbering) (b : PlainBoard) → k ≡ Ordered → (graph_by k b).gaps ≡ gaps b
+gaps-by : (k : GraphNumbering) (b : PlainBoard) → k ≡ Ordered → (graph_by k b).gaps ≡ gaps b
 unfolding graph_by
 gaps-by Ordered b e = refl
 gaps-by Classes b e = absurd (not-ordered e)
@@ -51,7 +50,7 @@ gaps-by Classes b e = absurd (not-ordered e)
 pub ordered-gaps : (n : Numbered) → n.numbering ≡ Ordered → (graph_of n).gaps ≡ gaps n.board
 ordered-gaps n e = gaps-by n.numbering n.board e
 
-some-by : (k : Numbering) (b : PlainBoard) → k ≡ Ordered → IsBoard b → (x : ℕ) → x < (graph_by k b).configurations
+some-by : (k : GraphNumbering) (b : PlainBoard) → k ≡ Ordered → IsBoard b → (x : ℕ) → x < (graph_by k b).configurations
     → (graph_by k b).struck x < (graph_by k b).gaps
     → IsSmallest (IsDominator b (configuration_by k b x)) (Some (pebble_of b ((graph_by k b).struck x)))
 unfolding graph_by configuration_by
@@ -69,7 +68,7 @@ dominator-some n e is x gap i same low =
     subst (λ g. IsSmallest (IsDominator n.board (configuration_of n x)) (Some (pebble_of n.board g))) (sym same)
     (some-by n.numbering n.board e is x i (subst (λ g. g < (graph_of n).gaps) same low))
 
-none-by : (k : Numbering) (b : PlainBoard) → k ≡ Ordered → IsBoard b → (x : ℕ) → x < (graph_by k b).configurations
+none-by : (k : GraphNumbering) (b : PlainBoard) → k ≡ Ordered → IsBoard b → (x : ℕ) → x < (graph_by k b).configurations
     → (graph_by k b).gaps ≤ (graph_by k b).struck x
     → IsSmallest (IsDominator b (configuration_by k b x)) None
 unfolding graph_by configuration_by

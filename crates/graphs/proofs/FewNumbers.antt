@@ -5,17 +5,15 @@ use Rattle.board_text.proofs.Cited.{few_places}
 use Rattle.positions.specs.Ranks.{configurations}
 use Rattle.positions.specs.declared.space.TheConstants.{MAX_CONFIGURATIONS}
 use Rattle.classes.proofs.Cited.{few-of-small}
-use Rattle.graphs.specs.declared.graph.Numbering.{Numbering}
-use Rattle.graphs.specs.declared.graph.Numbering.TheVariants.{Ordered, Classes}
-use Rattle.graphs.specs.Numbered.{Numbered, graph_by, graph_of}
+use Rattle.graphs.specs.Numbered.{Numbered, graph_by, graph_of, GraphNumbering, Ordered, Classes}
 
-few-by : (k : Numbering) (b : PlainBoard) → configurations b ≤ MAX_CONFIGURATIONS
+few-by : (k : GraphNumbering) (b : PlainBoard) → configurations b ≤ MAX_CONFIGURATIONS
     → (graph_by k b).configurations ≤ MAX_CONFIGURATIONS
 unfolding graph_by
 few-by Ordered b small = small
 few-by Classes b small = few-of-small b small
 
-places-by : (k : Numbering) (b : PlainBoard) → IsBoard b → (graph_by k b).places ≤ 257
+places-by : (k : GraphNumbering) (b : PlainBoard) → IsBoard b → (graph_by k b).places ≤ 257
 unfolding graph_by
 places-by Ordered b is = few_places b is
 places-by Classes b is = few_places b is

@@ -16,13 +16,10 @@ use Rattle.classes.specs.Numbers.{class_count, number_by_greatest, ways}
 use Rattle.positions.specs.Gaps.{AnswersGap}
 use Rattle.graphs.specs.Answers.{AreAnswerBits}
 use Rattle.graphs.specs.ClassGraph.{gap_class, classes}
-use Rattle.graphs.specs.declared.graph.Numbering.TheVariants.{Classes}
-use Rattle.graphs.specs.Numbered.{numbered, graph_of, graph_by}
 use Rattle.graphs.specs.declared.families.Dominator.{Dominator}
 use Rattle.graphs.specs.declared.families.Family.{Family}
 use Rattle.graphs.specs.Inside.Families.{family_start, family_size, IsDominatorAt, HasNoDominator, IsFamilyDominator}
 use Rattle.graphs.specs.Inside.Families.{IsFamily}
-use Rattle.graphs.specs.Inside.Tables.{IsStruckTable}
 use Rattle.classes.proofs.Cited.{is-below, put-is, remove-is, ways-small}
 use Rattle.classes.proofs.Cited.{first-family, last-family, least-below, least-some, next-family, some-ways}
 use Rattle.graphs.proofs.ClassGraphs.{gap-is, classes-is}
@@ -168,12 +165,6 @@ module _ (b : PlainBoard) (is : IsBoard b) where
         (no-other h v (gap-is b is k.gap ok.is_gap).falls k.dominator ok.dominator_is not_beaten))
         ∙ ap (classes b).struck here
 
--- the same of the graph that a trait's clauses name
-pub struck-shown : (b c : PlainBoard) → b ≡ c → (struck : List ℕ) → IsStruckTable (classes c) struck
-    → IsStruckTable (graph_of (numbered b Classes)) struck
-unfolding graph_by
-struck-shown b c same struck has = subst (λ (p : PlainBoard). IsStruckTable (classes p) struck) (sym same) has
-
 -- ---- from family to family
 
 -- where the family of a gap begins, or the end of all, after the last one
@@ -248,3 +239,10 @@ module _ (b : PlainBoard) (is : IsBoard b) where
         omega arith,
         subst (λ n. IsClass bound n held) (sym size) (subst (IsClass bound count) (sym held_is) own),
       )
+
+-- the same of a board that is this one
+pub own-class : (s b : PlainBoard) → s ≡ b → IsBoard b → (g : ℕ) (held : List ℕ) → g < ways (b.pebbles - 1) (places b)
+    → held ≡ gap_class b g → (suc (length held) ≡ s.pebbles) × IsClass (places s) (length held) held
+own-class s b same is g held i held_is =
+    subst (λ (p : PlainBoard). (suc (length held) ≡ p.pebbles) × IsClass (places p) (length held) held) (sym same)
+    (held-class b is g held i held_is)

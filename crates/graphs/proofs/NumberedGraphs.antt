@@ -1,26 +1,23 @@
 -- Either graph of a board is a graph, and shows the board.
-use Rattle.std.proofs.Common.{◌≡◌, ◌-◌, ◌<◌, suc, subst, arith, refl}
+use Rattle.std.proofs.Common.{◌≡◌, ◌-◌, ◌<◌, suc, subst, arith}
 use Rattle.std.proofs.Math.Nat.{one-le-pow}
 use Rattle.board_text.specs.PlainBoard.{places}
 use Rattle.board_text.proofs.Cited.{some_places}
 use Rattle.classes.specs.Numbers.{ways}
 use Rattle.board_text.specs.PlainBoard.{PlainBoard, IsBoard}
-use Rattle.graphs.specs.declared.graph.Numbering.{Numbering}
-use Rattle.graphs.specs.declared.graph.Numbering.TheVariants.{Ordered, Classes}
 use Rattle.graphs.specs.Graph.{IsGraph}
-use Rattle.graphs.specs.Numbered.{Numbered, numbered, graph_by, graph_of, configuration_by, configuration_of}
-use Rattle.graphs.specs.Ordered.{ordered}
-use Rattle.graphs.specs.ClassGraph.{classes}
+use Rattle.graphs.specs.Numbered.{Numbered, GraphNumbering, Ordered, Classes}
+use Rattle.graphs.specs.Numbered.{graph_by, graph_of, configuration_by, configuration_of}
 use Rattle.graphs.specs.Shows.{ShowsGame}
 use Rattle.graphs.proofs.OrderedGraphs.{ordered-is, ordered-shows}
 use Rattle.graphs.proofs.ClassGraphs.{classes-is, classes-show, some-ways}
 
-graph-by : (k : Numbering) (b : PlainBoard) → IsBoard b → IsGraph (graph_by k b)
+graph-by : (k : GraphNumbering) (b : PlainBoard) → IsBoard b → IsGraph (graph_by k b)
 unfolding graph_by
 graph-by Ordered b is = ordered-is b is
 graph-by Classes b is = classes-is b is
 
-shows-by : (k : Numbering) (b : PlainBoard) → IsBoard b → ShowsGame b (graph_by k b) (configuration_by k b)
+shows-by : (k : GraphNumbering) (b : PlainBoard) → IsBoard b → ShowsGame b (graph_by k b) (configuration_by k b)
 unfolding graph_by configuration_by
 shows-by Ordered b is = ordered-shows b is
 shows-by Classes b is = classes-show b is
@@ -31,16 +28,7 @@ numbered-is n is = graph-by n.numbering n.board is
 pub numbered-shows : (n : Numbered) → IsBoard n.board → ShowsGame n.board (graph_of n) (configuration_of n)
 numbered-shows n is = shows-by n.numbering n.board is
 
--- the graph of ranks, written out
-pub ordered-graph : (b : PlainBoard) → graph_of (numbered b Ordered) ≡ ordered b
-unfolding graph_by
-ordered-graph b = refl
-
-pub class-graph : (b : PlainBoard) → graph_of (numbered b Classes) ≡ classes b
-unfolding graph_by
-class-graph b = refl
-
-some-by : (k : Numbering) (b : PlainBoard) → IsBoard b → 0 < (graph_by k b).configurations
+some-by : (k : GraphNumbering) (b : PlainBoard) → IsBoard b → 0 < (graph_by k b).configurations
 unfolding graph_by
 some-by Ordered b is = one-le-pow b.pebbles (places b) (some_places b is)
 some-by Classes b is =

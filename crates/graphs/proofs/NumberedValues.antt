@@ -6,9 +6,7 @@ use Rattle.positions.specs.Game.{LabellerTree}
 use Rattle.positions.specs.Value.{HasValue}
 use Rattle.graphs.specs.Graph.{PlainGraph, IsGraph, lasts}
 use Rattle.graphs.specs.Lasting.{LastsForever}
-use Rattle.graphs.specs.Numbered.{Numbered, graph_by, graph_of, configuration_of}
-use Rattle.graphs.specs.declared.graph.Numbering.{Numbering}
-use Rattle.graphs.specs.declared.graph.Numbering.TheVariants.{Ordered, Classes}
+use Rattle.graphs.specs.Numbered.{Numbered, graph_by, graph_of, configuration_of, GraphNumbering, Ordered, Classes}
 use Rattle.graphs.specs.Shows.{ShowsGame}
 use Rattle.graphs.proofs.NumberedGraphs.{numbered-is, numbered-shows}
 use Rattle.graphs.proofs.Shown.{tree-of-lasts, lasts-of-tree, worth-is, forever-is}
@@ -51,7 +49,7 @@ module _ (n : Numbered) (board : IsBoard n.board) where
       → LastsForever a x
   lasts_of_forever x i has = (forever-is n.board a (configuration_of n) is shows x i).1 has
 
-places-by : (k : Numbering) (b : PlainBoard) → (graph_by k b).places ≡ places b
+places-by : (k : GraphNumbering) (b : PlainBoard) → (graph_by k b).places ≡ places b
 unfolding graph_by
 places-by Ordered b = refl
 places-by Classes b = refl

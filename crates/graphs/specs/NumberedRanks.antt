@@ -5,12 +5,10 @@ use Rattle.positions.specs.Gaps.{gap_of}
 use Rattle.positions.specs.Ranks.{rank_of}
 use Rattle.classes.specs.Classes.{class_of}
 use Rattle.classes.specs.Numbers.{number_by_greatest}
-use Rattle.graphs.specs.declared.graph.Numbering.{Numbering}
-use Rattle.graphs.specs.declared.graph.Numbering.TheVariants.{Ordered, Classes}
 use Rattle.graphs.specs.ClassGraph.{gap_number}
-use Rattle.graphs.specs.Numbered.{Numbered}
+use Rattle.graphs.specs.Numbered.{Numbered, GraphNumbering, Ordered, Classes}
 
-unfoldable pub number_by : Numbering → PlainBoard → List ℕ → ℕ
+unfoldable pub number_by : GraphNumbering → PlainBoard → List ℕ → ℕ
 number_by Ordered board configuration = rank_of board configuration
 number_by Classes board configuration = number_by_greatest (class_of configuration)
 
@@ -18,7 +16,7 @@ number_by Classes board configuration = number_by_greatest (class_of configurati
 abbrev pub number_in : Numbered → List ℕ → ℕ
 number_in n configuration = number_by n.numbering n.board configuration
 
-unfoldable pub gap_by : Numbering → PlainBoard → List ℕ → ℕ → ℕ
+unfoldable pub gap_by : GraphNumbering → PlainBoard → List ℕ → ℕ → ℕ
 gap_by Ordered board configuration pebble = gap_of board configuration pebble
 gap_by Classes board configuration pebble = gap_number configuration pebble
 

@@ -6,34 +6,23 @@ ghost use Rattle.board_text.specs.PlainBoard.{IsBoard};
 ghost use Rattle.positions.specs.Ranks.{configurations};
 ghost use Rattle.graphs.specs.Answers.{AreAnswerBits, AreMembers};
 ghost use Rattle.graphs.specs.Graph.{IsGraph};
-ghost use Rattle.graphs.specs.Inside.Tables.{IsStruckTable};
-ghost use Rattle.graphs.specs.Numbered.{numbered, graph_of};
+ghost use Rattle.graphs.specs.Numbered.{numbered, graph_of, Ordered, Classes};
 ghost use Rattle.graphs.specs.Stuck.{AreStuckZeroed};
-ghost use Rattle.graphs.specs.declared.graph.Numbering.TheVariants.{Ordered};
-ghost use Rattle.graphs.specs.declared.graph.Numbering.TheVariants.{Classes as ClassesData};
 
 use crate::listed_classes::ListedClasses;
-use crate::numbers::{MAX_PLACES, Numbers, Tables, all_struck};
 use crate::ordered_numbers::OrderedNumbers;
-use board_text::{Board, Memory};
+use board_text::{Board, MAX_LABELS, Memory};
 use positions::{LabelSet, MAX_CONFIGURATIONS, Space};
 use std::alloc::Global;
 use std::marker::Model;
 
-/// What the numbers of configurations and gaps stand for.
-#[derive(Clone, Copy, Debug, Drop, PartialEq, Eq)]
-pub enum Numbering {
-    /// A configuration, by its rank, and a pebble with the places of the others.
-    Ordered,
-    /// A class of configurations: the places of all pebbles,
-    /// or of all but one, whichever pebble holds which.
-    Classes,
-}
+/// The most places that a pebble can have: those of the labels, and one without a label.
+pub const MAX_PLACES: usize = MAX_LABELS + 1;
 
-/// What finds the numbers of a board's configurations and of their gaps, and the members and
-/// answers of a gap.
+/// The numbers of a board's configurations and of their gaps, by which the members and the answers
+/// of a gap are found.
 #[derive(Drop)]
-pub(crate) enum Finder {
+enum Numbers {
     Ranks(OrderedNumbers),
     Classes(ListedClasses),
 }
@@ -42,11 +31,16 @@ pub(crate) enum Finder {
 /// table of the gap in which each configuration is an answer.
 ///
 /// Configurations and gaps are numbers from 0 on. A gap has one member for each place of its
-/// pebble. Contracts see the board and the numbering.
+/// pebble. Contracts see the board, and whether a number stands for a configuration or for a class
+/// of them.
 #[derive(Drop)]
 pub struct Graph {
-    pub(crate) finder: Finder,
-    pub(crate) tables: Tables,
+    numbers: Numbers,
+    configurations: u32,
+    gaps: u32,
+    places: u32,
+    /// The gap in which each configuration is an answer, or the number of gaps.
+    struck: Vec<u32>,
 }
 
 impl Model for Graph {
@@ -55,61 +49,53 @@ impl Model for Graph {
 
     ghost Value = { Numbered };
 
-    ghost view = { λ s. found_by s.finder };
+    ghost view = { λ s. found_by s.numbers };
 
-    ghost invariant = { λ s. AreTables (found_by s.finder) s.tables.configurations
-        s.tables.gaps s.tables.places s.tables.struck.items };
+    ghost invariant = { λ s. AreTables (found_by s.numbers) s.configurations s.gaps s.places
+        s.struck.items };
 }
 
+#[tactic(auto, unfolding(crate::specs::Numbered::graph_by))]
 impl Graph {
-    /// The graph of `board`, which has at most `MAX_CONFIGURATIONS` configurations, by `numbering`.
-    /// The error is that memory ran out.
+    /// The graph of the configurations of `board`, which has at most `MAX_CONFIGURATIONS` of them.
+    /// A configuration has its rank as its number, and a gap is a pebble with the places of the
+    /// others. The error is that memory ran out.
     ///
     /// It takes time in the number of answers of all gaps.
-    pub fn of(alloc: Global, board: &Board, numbering: Numbering) -> Result<Graph, Memory>
-        requires { configurations board.now ≤ MAX_CONFIGURATIONS }
-        ensures { IfOk result (λ graph. graph ≡ numbered board.now numbering) }
-    {
-        match numbering {
-            Numbering::Ordered => Graph::of_ranks(alloc, board),
-            Numbering::Classes => Graph::of_classes(alloc, board),
-        }
-    }
-
-    /// The graph of the configurations of `board`.
-    fn of_ranks(alloc: Global, board: &Board) -> Result<Graph, Memory>
+    pub fn of_ranks(alloc: Global, board: &Board) -> Result<Graph, Memory>
         requires { configurations board.now ≤ MAX_CONFIGURATIONS }
         ensures { IfOk result (λ graph. graph ≡ numbered board.now Ordered) }
     {
-        let numbers = OrderedNumbers::of(alloc, board)?;
-        let struck = all_struck(alloc, &numbers)?;
-        let tables = Tables::new(&numbers, struck);
+        let ranks = OrderedNumbers::of(alloc, board)?;
+        let struck = ranks.all_struck(alloc)?;
+        let space = ranks.space();
         Ok(Graph {
-            finder: Finder::Ranks(numbers),
-            tables,
+            configurations: space.configurations(),
+            gaps: space.gaps(),
+            places: space.places() as u32,
+            struck,
+            numbers: Numbers::Ranks(ranks),
         })
     }
 
-    /// The graph of the classes of `board`.
-    fn of_classes(alloc: Global, board: &Board) -> Result<Graph, Memory>
+    /// The graph of the classes of `board`, which has at most `MAX_CONFIGURATIONS` configurations.
+    /// A class is the places of all pebbles, and a gap those of all but one, whichever pebble holds
+    /// which. The error is that memory ran out.
+    ///
+    /// It takes time in the number of classes.
+    pub fn of_classes(alloc: Global, board: &Board) -> Result<Graph, Memory>
         requires { configurations board.now ≤ MAX_CONFIGURATIONS }
-        ensures { IfOk result (λ graph. graph ≡ numbered board.now ClassesData) }
+        ensures { IfOk result (λ graph. graph ≡ numbered board.now Classes) }
     {
-        let numbers = ListedClasses::of(alloc, board)?;
-        let struck = numbers.all_struck(alloc, board)?;
-        Ok(Graph::with_classes(numbers, struck))
-    }
-
-    /// The graph of these classes, of which this is the table `struck`.
-    fn with_classes(numbers: ListedClasses, struck: Vec<u32>) -> Graph
-        requires { IsStruckTable (graph_of (numbered numbers ClassesData)) struck.items }
-        ensures { result ≡ numbered numbers ClassesData }
-    {
-        let tables = Tables::new(&numbers, struck);
-        Graph {
-            finder: Finder::Classes(numbers),
-            tables,
-        }
+        let classes = ListedClasses::of(alloc, board)?;
+        let struck = classes.all_struck(alloc, board)?;
+        Ok(Graph {
+            configurations: classes.class_count(),
+            gaps: classes.gap_count(),
+            places: classes.numbers().places() as u32,
+            struck,
+            numbers: Numbers::Classes(classes),
+        })
     }
 
     /// The space of the board. Numbers are ranks.
@@ -119,10 +105,10 @@ impl Graph {
         ensures is_board { IsBoard self.now.board }
         ensures few { configurations self.now.board ≤ MAX_CONFIGURATIONS }
     {
-        match &self.finder {
-            Finder::Ranks(numbers) => numbers.space(),
+        match &self.numbers {
+            Numbers::Ranks(ranks) => ranks.space(),
             // A graph whose numbers are ranks has them from a space.
-            Finder::Classes(_) => unreachable!(),
+            Numbers::Classes(_) => unreachable!(),
         }
     }
 
@@ -134,21 +120,21 @@ impl Graph {
         ensures graph { IsGraph (graph_of self.now) }
         ensures board { IsBoard self.now.board }
     {
-        self.tables.configurations
+        self.configurations
     }
 
     /// The number of gaps, each a number below it.
     pub fn gaps(&self) -> u32
         ensures { result ≡ (graph_of self.now).gaps }
     {
-        self.tables.gaps
+        self.gaps
     }
 
     /// The number of members of each gap: the places that its pebble can have.
     pub fn places(&self) -> u32
         ensures { result ≡ (graph_of self.now).places }
     {
-        self.tables.places
+        self.places
     }
 
     /// The member of `gap` with `place` for its pebble. No table has it: that would be a word for
@@ -160,9 +146,9 @@ impl Graph {
         ensures below { result < (graph_of self.now).configurations }
         ensures graph { IsGraph (graph_of self.now) }
     {
-        match &self.finder {
-            Finder::Ranks(numbers) => numbers.member(gap, place),
-            Finder::Classes(numbers) => numbers.member(gap, place),
+        match &self.numbers {
+            Numbers::Ranks(ranks) => ranks.member(gap, place),
+            Numbers::Classes(classes) => classes.member(gap, place),
         }
     }
 
@@ -178,9 +164,9 @@ impl Graph {
         ensures few { (graph_of self.now).places ≤ MAX_PLACES }
         ensures graph { IsGraph (graph_of self.now) }
     {
-        match &self.finder {
-            Finder::Ranks(numbers) => numbers.write_members(gap, members),
-            Finder::Classes(numbers) => numbers.write_members(gap, members),
+        match &self.numbers {
+            Numbers::Ranks(ranks) => ranks.write_members(gap, members),
+            Numbers::Classes(classes) => classes.write_members(gap, members),
         }
     }
 
@@ -193,10 +179,10 @@ impl Graph {
             (graph_of self.now).configurations words.old words.new }
         ensures kept { result ≡ false → words.new ≡ words.old }
     {
-        match &self.finder {
-            Finder::Ranks(_) => false,
-            Finder::Classes(numbers) => {
-                numbers.zero_families(counts, words);
+        match &self.numbers {
+            Numbers::Ranks(_) => false,
+            Numbers::Classes(classes) => {
+                classes.zero_families(counts, words);
                 true
             }
         }
@@ -207,9 +193,9 @@ impl Graph {
         requires { gap < (graph_of self.now).gaps }
         ensures { AreAnswerBits (graph_of self.now) gap result }
     {
-        match &self.finder {
-            Finder::Ranks(numbers) => numbers.answers(gap),
-            Finder::Classes(numbers) => numbers.answers(gap),
+        match &self.numbers {
+            Numbers::Ranks(ranks) => ranks.answers(gap),
+            Numbers::Classes(classes) => classes.answers(gap),
         }
     }
 
@@ -221,11 +207,7 @@ impl Graph {
             (λ gap. (gap ≡ (graph_of self.now).struck configuration)
             × (gap < (graph_of self.now).gaps)) }
     {
-        let gap = self.tables.struck[configuration as usize];
-        if gap < self.tables.gaps {
-            Some(gap)
-        } else {
-            None
-        }
+        let gap = self.struck[configuration as usize];
+        if gap < self.gaps { Some(gap) } else { None }
     }
 }

@@ -6,13 +6,11 @@ mod families;
 mod graph;
 mod laws;
 mod listed_classes;
-mod numbers;
 mod ordered_numbers;
 mod stuck;
 
-pub use graph::{Graph, Numbering};
+pub use graph::{Graph, MAX_PLACES};
 pub use laws::{
     configurations_have_numbers, gaps_answer_requests, graphs_have_the_values_of_boards,
     numbered_graphs_show_their_boards,
 };
-pub use numbers::MAX_PLACES;

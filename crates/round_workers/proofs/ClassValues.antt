@@ -1,8 +1,7 @@
 -- The words of a solver by classes are the values of a board's classes.
 use Rattle.std.proofs.Common.{◌≤◌, List, ℕ, arith}
 use Rattle.board_text.specs.PlainBoard.{PlainBoard}
-use Rattle.graphs.specs.Numbered.{configuration_by, graph_by, graph_of, numbered}
-use Rattle.graphs.specs.declared.graph.Numbering.TheVariants.{Classes}
+use Rattle.graphs.specs.Numbered.{configuration_by, graph_by, graph_of, numbered, Classes}
 use Rattle.classes.specs.Numbers.{class_count}
 use Rattle.gap_values.specs.ClassValues.{AreClassValues}
 use Rattle.solver.specs.Words.{AreValueWords}

@@ -3,8 +3,7 @@
 ghost use Rattle.std.specs.Prelude.{◌≡◌, ◌≤◌, IfOk, IfSome, MatchOption};
 ghost use Rattle.positions.specs.Ranks.{configurations, configuration_at};
 ghost use Rattle.positions.specs.Value.{HasValue};
-ghost use Rattle.graphs.specs.declared.graph.Numbering.TheVariants.{Ordered, Classes};
-ghost use Rattle.graphs.specs.Numbered.{numbered};
+ghost use Rattle.graphs.specs.Numbered.{numbered, Ordered, Classes};
 ghost use Rattle.solver.specs.Solving.{IsFresh};
 
 use board_text::{Board, Memory};

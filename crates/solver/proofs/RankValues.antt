@@ -18,9 +18,8 @@ use Rattle.gap_values.specs.RoundWords.{round_of_word}
 use Rattle.gap_values.proofs.Cited.{round-finite, round-none}
 use Rattle.graphs.specs.Answers.{AreAnswerBits}
 use Rattle.graphs.specs.Graph.{count_below}
-use Rattle.graphs.specs.Numbered.{Numbered, numbered, graph_by, graph_of, configuration_by}
+use Rattle.graphs.specs.Numbered.{Numbered, numbered, graph_by, graph_of, configuration_by, Ordered}
 use Rattle.graphs.specs.Ordered.{ordered}
-use Rattle.graphs.specs.declared.graph.Numbering.TheVariants.{Ordered}
 use Rattle.graphs.proofs.Cited.{answer-in, answer-of, same_is, same_or_not, true_not_false}
 use Rattle.solver.specs.Inside.Tables.{is_open}
 use Rattle.solver.specs.Inside.Values.{AreWordCounts, AreSizes, AreRankValues}

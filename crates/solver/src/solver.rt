@@ -10,7 +10,7 @@ ghost use Rattle.positions.specs.declared.value.Value.TheVariants.{Finite};
 ghost use Rattle.positions.specs.Value.{HasValue};
 ghost use Rattle.positions.specs.Ranks.{configurations};
 ghost use Rattle.positions.specs.Gaps.{IsDominator};
-ghost use Rattle.graphs.specs.Numbered.{numbered, graph_of, configuration_of};
+ghost use Rattle.graphs.specs.Numbered.{numbered, graph_of, configuration_of, Ordered, Classes};
 ghost use Rattle.positions.specs.Counts.{HasSize, IsSmallest};
 ghost use Rattle.solver.specs.Words.{value_of_word, AreFirstCounts, AreFirstValues, AreValueWords};
 ghost use Rattle.solver.specs.Ending.{IsRoundEnd};
@@ -26,7 +26,7 @@ use crate::stage::Stage;
 use crate::values::Values;
 use crate::word::value_of;
 use board_text::{Board, Memory};
-use graphs::{Graph, Numbering};
+use graphs::Graph;
 use index_lists::ListStore;
 use positions::{MAX_CONFIGURATIONS, Space, is_small};
 use std::alloc::Global;
@@ -59,8 +59,7 @@ impl<S: ListStore + Drop> Solver<S> {
     /// A solver of `board` whose numbers are the ranks of configurations. It has filed the
     /// configurations of value 0, in ascending rank.
     pub fn open(alloc: Global, board: &Board) -> Result<Solver<S>, SolveFault>
-        ensures fresh { IfOk result
-            (λ solver. IsFresh (numbered board.now Numbering.Ordered) solver) }
+        ensures fresh { IfOk result (λ solver. IsFresh (numbered board.now Ordered) solver) }
         ensures too_large { (result ≡ Err SolveFault.TooLarge)
             ↔ (MAX_CONFIGURATIONS < configurations board.now) }
         ensures no_worker { result ≡ Err SolveFault.Worker → ⊥ }
@@ -68,10 +67,8 @@ impl<S: ListStore + Drop> Solver<S> {
         if !is_small(board) {
             return Err(SolveFault::TooLarge);
         }
-        match Solver::start(alloc, board, Numbering::Ordered) {
-            Ok(solver) => Ok(solver),
-            Err(Memory) => Err(SolveFault::Memory),
-        }
+        let graph = Graph::of_ranks(alloc, board)?;
+        Ok(Solver::start(alloc, graph)?)
     }
 
     /// A solver of `board`, which has at most `MAX_CONFIGURATIONS` configurations. Its numbers are
@@ -79,17 +76,15 @@ impl<S: ListStore + Drop> Solver<S> {
     /// classes of value 0, in ascending order.
     pub fn of_classes(alloc: Global, board: &Board) -> Result<Solver<S>, Memory>
         requires few { configurations board.now ≤ MAX_CONFIGURATIONS }
-        ensures { IfOk result (λ solver. IsFresh (numbered board.now Numbering.Classes) solver) }
+        ensures { IfOk result (λ solver. IsFresh (numbered board.now Classes) solver) }
     {
-        Solver::start(alloc, board, Numbering::Classes)
+        Solver::start(alloc, Graph::of_classes(alloc, board)?)
     }
 
-    /// A solver of `board` by `numbering`.
-    fn start(alloc: Global, board: &Board, numbering: Numbering) -> Result<Solver<S>, Memory>
-        requires few { configurations board.now ≤ MAX_CONFIGURATIONS }
-        ensures { IfOk result (λ solver. IsFresh (numbered board.now numbering) solver) }
+    /// A solver of the board of `graph`, by its numbers.
+    fn start(alloc: Global, graph: Graph) -> Result<Solver<S>, Memory>
+        ensures { IfOk result (λ solver. IsFresh graph solver) }
     {
-        let graph = Graph::of(alloc, board, numbering)?;
         let mut stage = Stage::<S>::open(alloc, graph)?;
         stage.begin_next_value();
         Ok(Solver { stage, done: false })
@@ -181,7 +176,7 @@ impl<S: ListStore> Solver<S> {
 
     /// The space of the board. The numbers of the solver are ranks.
     pub fn space(&self) -> &Space
-        requires ordered { self.now.game.numbering ≡ Numbering.Ordered }
+        requires ordered { self.now.game.numbering ≡ Ordered }
         ensures { result.now ≡ self.now.game.board }
     {
         self.stage.graph().space()
@@ -190,7 +185,7 @@ impl<S: ListStore> Solver<S> {
     /// The smallest pebble that dominates all others at the configuration of `rank`, if one does. A
     /// lone pebble does if it holds a label. The numbers of the solver are ranks.
     pub fn dominator(&self, rank: u32) -> Option<u8>
-        requires ordered { self.now.game.numbering ≡ Numbering.Ordered }
+        requires ordered { self.now.game.numbering ≡ Ordered }
         requires rank { rank < (graph_of self.now.game).configurations }
         ensures { IsSmallest (IsDominator self.now.game.board
             (configuration_of self.now.game rank)) result }
@@ -329,7 +324,7 @@ impl<S: ListStore + Drop> Solver<S> {
     /// The values of the board, once a round has found that no configuration has the next one. The
     /// numbers of the solver are ranks.
     pub fn finish(self) -> Result<Values, Unfinished<S>>
-        requires ordered { self.game.numbering ≡ Numbering.Ordered }
+        requires ordered { self.game.numbering ≡ Ordered }
         ensures values { IfOk result (λ values. (self.is_done ≡ true)
             × (values ≡ self.game.board)) }
         ensures unfinished { IfErr result
@@ -360,7 +355,7 @@ impl<S: ListStore + Drop> Solver<S> {
     /// The values of a solver that is done. The numbers of the solver are ranks.
     fn close(self) -> Values
         requires done { self.is_done ≡ true }
-        requires ordered { self.game.numbering ≡ Numbering.Ordered }
+        requires ordered { self.game.numbering ≡ Ordered }
         ensures { result ≡ self.game.board }
     {
         let Solver { stage, .. } = self;
@@ -371,7 +366,7 @@ impl<S: ListStore + Drop> Solver<S> {
     /// The values of the board, after all rounds that it takes.
     /// The numbers of the solver are ranks.
     pub fn solve(self) -> Values
-        requires ordered { self.game.numbering ≡ Numbering.Ordered }
+        requires ordered { self.game.numbering ≡ Ordered }
         ensures { result ≡ self.game.board }
     {
         self.after_all_rounds().close()

@@ -3,7 +3,7 @@
 ghost use Rattle.std.specs.Prelude.{◌≡◌, ◌≢◌, ◌↔◌, ◌<◌, ◌≤◌, ℕ, IsTrue, length, slice_index};
 ghost use Rattle.std.specs.Prelude.{vec_capacity};
 ghost use Rattle.board_text.specs.PlainBoard.{IsBoard, places};
-ghost use Rattle.graphs.specs.declared.graph.Numbering.TheVariants.{Ordered};
+ghost use Rattle.graphs.specs.Numbered.{Ordered};
 ghost use Rattle.positions.specs.Counts.{IsSmallest};
 ghost use Rattle.positions.specs.Gaps.{gaps, member_of, IsAnswer};
 ghost use Rattle.positions.specs.Laws.{Occurs};

@@ -4,8 +4,7 @@
 //! made once more.
 
 ghost use Rattle.std.specs.Prelude.{◌≡◌, IfSome};
-ghost use Rattle.graphs.specs.Numbered.{numbered};
-ghost use Rattle.graphs.specs.declared.graph.Numbering.TheVariants.{Ordered, Classes};
+ghost use Rattle.graphs.specs.Numbered.{numbered, Ordered, Classes};
 
 use crate::assertions::{assert_same, board_of};
 use board_text::Board;

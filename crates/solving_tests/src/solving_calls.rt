@@ -3,7 +3,7 @@
 //! A run of the tests may refuse one growth of memory, whichever.
 
 ghost use Rattle.std.specs.Prelude.{◌≡◌};
-ghost use Rattle.graphs.specs.declared.graph.Numbering.TheVariants.{Ordered};
+ghost use Rattle.graphs.specs.Numbered.{Ordered};
 
 use crate::assertions::{assert_same, board_of};
 use crate::solving::{open, solve};

@@ -1,4 +1,4 @@
-use Rattle.std.proofs.Common.{◌≡◌, ◌≤◌, List, ℕ, refl, ap, sym, subst, arith, length}
+use Rattle.std.proofs.Common.{ℕ, refl, ap, sym, subst, arith, length}
 use Rattle.board_text.specs.PlainBoard.{PlainBoard, places}
 use Rattle.classes.specs.Classes.{IsClass}
 use Rattle.graphs.proofs.FilledFamilies.{rest-small}

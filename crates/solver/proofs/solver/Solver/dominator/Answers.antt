@@ -2,8 +2,7 @@ use Rattle.std.proofs.Common.{◌≡◌, ◌<◌, ◌≤◌, ℕ, ap, ◌∙◌,
 use Rattle.board_text.specs.PlainBoard.{PlainBoard}
 use Rattle.positions.specs.Counts.{IsSmallest}
 use Rattle.positions.specs.Gaps.{gaps, pebble_of, IsDominator}
-use Rattle.graphs.specs.Numbered.{Numbered, graph_of, configuration_of}
-use Rattle.graphs.specs.declared.graph.Numbering.TheVariants.{Ordered}
+use Rattle.graphs.specs.Numbered.{Numbered, graph_of, configuration_of, Ordered}
 use Rattle.graphs.proofs.Cited.{ordered-gaps, dominator-some, dominator-none}
 use Rattle.solver.specs.Solving.{Solving}
 use Rattle.solver.proofs.solver.Solver.dominator.Given

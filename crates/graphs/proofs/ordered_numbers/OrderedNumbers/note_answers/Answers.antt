@@ -3,11 +3,11 @@ use Rattle.positions.proofs.Cited.{next_of, after_step}
 use Rattle.graphs.specs.Graph.{PlainGraph}
 use Rattle.graphs.specs.Answers.{IsAnswerIn}
 use Rattle.graphs.specs.Inside.Filling.{IsGapNoted}
-use Rattle.graphs.specs.Numbered.{Numbered, graph_of}
+use Rattle.graphs.specs.Ordered.{ordered}
 use Rattle.graphs.proofs.Filling.{noted-to, noted-more}
-use Rattle.graphs.proofs.NumberedGraphs.{numbered-is}
-use Rattle.graphs.proofs.numbers.note_answers.Goals as goal
-use Rattle.graphs.proofs.numbers.note_answers.Goals.{In-Some}
+use Rattle.graphs.proofs.OrderedGraphs.{ordered-is}
+use Rattle.graphs.proofs.ordered_numbers.OrderedNumbers.note_answers.Goals as goal
+use Rattle.graphs.proofs.ordered_numbers.OrderedNumbers.note_answers.Goals.{In-Some}
 
 -- the label is an answer, and no answer comes between the walk's bound and it
 record IsNext (a : PlainGraph) (gap : ℕ) (from label : ℕ) : Type 0 where
@@ -15,10 +15,9 @@ record IsNext (a : PlainGraph) (gap : ℕ) (from label : ℕ) : Type 0 where
   from_most : from ≤ label
   none : (v : ℕ) → from ≤ v → v < label → IsAnswerIn a gap v → ⊥
 
-next : (g : _) (c : In-Some g)
-    → IsNext (graph_of (g.N.Numbers.game c.args.numbers.now)) c.args.gap c.loop-label.labels.from c.in-Some.label
-next g c =
-    let a : PlainGraph = graph_of (g.N.Numbers.game c.args.numbers.now) in
+next : (c : In-Some) → IsNext (ordered c.args.self.now) c.args.gap c.loop-label.labels.from c.in-Some.label
+next c =
+    let a : PlainGraph = ordered c.args.self.now in
     let smallest = next_of (IsAnswerIn a c.args.gap) c.answers.ensures.few c.loop-label.labels
     c.loop-label.invariant.left
     c.take_next.new.self c.in-Some.label c.in-Some.ensures in record {
@@ -28,28 +27,26 @@ next g c =
     }
 
 pub member-requires-clause-place : goal.member-requires-clause-place
-member-requires-clause-place g c = (next g (goal.at.member-requires-clause-place g c).In-Some).answer.is_place
+member-requires-clause-place c = (next (goal.at.member-requires-clause-place c).In-Some).answer.is_place
 
 pub bounds-struck-member : goal.bounds-struck-member
-bounds-struck-member g c =
-    let at = (goal.at.bounds-struck-member g c).In-Some in
-    let n : Numbered = g.N.Numbers.game c.args.numbers.now in
-    let inside = (numbered-is n c.requires.is_board).member_in c.args.gap c.in-Some.label c.requires.gap
-    (next g at).answer.is_place in
+bounds-struck-member c =
+    let at = (goal.at.bounds-struck-member c).In-Some in
+    let inside = (ordered-is c.args.self.now c.requires.is_board).member_in c.args.gap c.in-Some.label
+    c.requires.gap (next at).answer.is_place in
     omega (arith, inside, c.member.ensures, c.loop-label.invariant.noted.same_length, c.requires.size)
 
 pub loop-label-preserved : goal.loop-label-preserved
-loop-label-preserved g c =
-    let n : Numbered = g.N.Numbers.game c.args.numbers.now in
-    let a : PlainGraph = graph_of n in
-    let at = (goal.at.loop-label-preserved g c).In-Some in
-    let is = next g at in
+loop-label-preserved c =
+    let a : PlainGraph = ordered c.args.self.now in
+    let at = (goal.at.loop-label-preserved c).In-Some in
+    let is = next at in
     let label : ℕ = c.in-Some.label in
     let rank : ℕ = c.member.result in
     let small = c.answers.ensures.few label is.answer in
     let before = noted-to a c.args.gap c.loop-label.labels.from label c.args.struck.now c.loop-label.struck
     c.loop-label.invariant.noted is.none in
-    let inside = (numbered-is n c.requires.is_board).member_in c.args.gap label c.requires.gap
+    let inside = (ordered-is c.args.self.now c.requires.is_board).member_in c.args.gap label c.requires.gap
     is.answer.is_place in
     let low : rank < length c.loop-label.struck =
     omega (arith, inside, c.member.ensures, before.same_length, c.requires.size) in
