@@ -17,7 +17,7 @@ pub use Rattle.classes.proofs.PlacesWithout.{all-remove, class-push, remove-last
 pub use Rattle.classes.proofs.Sums.{sum-add, sum-none, sum-same, sum-suc, sum-swap, sum-zero}
 pub use Rattle.classes.proofs.TableNumbers.{few-of-small, lists-fit, place-below, number-more, ways-fit}
 pub use Rattle.classes.proofs.Values.{AreLike, class_of-class, dominator-answers, labeller-like, legal-answers}
-pub use Rattle.classes.proofs.Values.{one-gap, value-of-class}
+pub use Rattle.classes.proofs.Values.{one-gap, partner_of, value-of-class}
 pub use Rattle.classes.proofs.Ways.{ways-few, ways-more, ways-suc, ways-zero, ways-none, ways-within}
 pub use Rattle.classes.proofs.WaysRows.{IsRow, row-begins, row-first, row-more}
 pub use Rattle.classes.proofs.WeightProducts.{copies-same, weight-over}

@@ -198,19 +198,25 @@ module _ (board : PlainBoard) (gap : List ℕ) where
     subst (HasValue board (member_with gap label)) (sym value_is) has.value,
   )
 
+-- a walk over the answers of a gap took the next one, this label
+pub record IsAnswerTaken (board : PlainBoard) (gap : List ℕ) (walk after : Walk) (label : ℕ) : Type 0 where
+  pub next : IsSmallest (λ l. (walk.from ≤ l) × AnswersGap board gap l) (Some label)
+  pub left : AreFrom (AnswersGap board gap) after
+  pub most : after.from ≤ MAX_LABELS
+
 -- a walk over the answers of a gap comes to the next one, or to none
 module _ (board : PlainBoard) (gap : List ℕ) (is_board : IsBoard board) where
   few-answers : (label : ℕ) → AnswersGap board gap label → label < MAX_LABELS
   few-answers label answer = let few = is_board.labels.1 in let low = answer.is_label in omega (arith, few, low)
 
   module _ (walk : Walk) (are : AreFrom (AnswersGap board gap) walk) where
-    pub next-answer : (after : Walk) (label : ℕ) → TakesSmallest walk after label
-        → IsSmallest (λ l. (walk.from ≤ l) × AnswersGap board gap l) (Some label)
-    next-answer = next_of (AnswersGap board gap) few-answers walk are
-
-    pub answers-after : (after : Walk) (label : ℕ) → TakesSmallest walk after label
-        → AreFrom (AnswersGap board gap) after
-    answers-after = after_step (AnswersGap board gap) few-answers walk are
+    pub answer-taken : (after : Walk) (label : ℕ) → TakesSmallest walk after label
+        → IsAnswerTaken board gap walk after label
+    answer-taken after label step = record {
+      next = next_of (AnswersGap board gap) few-answers walk are after label step;
+      left = after_step (AnswersGap board gap) few-answers walk are after label step;
+      most = let small : label < MAX_LABELS = step.smallest.0.0 in omega (arith, small, step.from);
+    }
 
     pub answers-over : ((label : ℕ) → label < MAX_LABELS → has_bit walk.left label ≡ true → ⊥)
         → IsSmallest (λ l. (walk.from ≤ l) × AnswersGap board gap l) None

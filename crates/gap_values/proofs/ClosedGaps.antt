@@ -1,5 +1,5 @@
 -- A gap table says at which depths an adversary has a tree.
-use Rattle.std.proofs.Common.{◌≡◌, ℕ, zero, suc, ◌<◌, ◌+◌, ◌-◌, List, length, get_or, sym, ap, ◌∙◌, subst, inl, inr}
+use Rattle.std.proofs.Common.{◌≡◌, ℕ, zero, suc, ◌<◌, ◌+◌, ◌-◌, List, length, sym, ◌∙◌, subst, inl, inr}
 use Rattle.std.proofs.Common.{arith, ◌↔◌}
 use Rattle.std.specs.List.{remove}
 use Rattle.std.proofs.lemmas.List.{length-set}
@@ -13,11 +13,10 @@ use Rattle.positions.specs.declared.value.Value.TheVariants.{Finite, Forever}
 use Rattle.positions.specs.Game.{AdversaryTree, moved}
 use Rattle.positions.specs.Value.{HasValue}
 use Rattle.positions.proofs.Cited.{some_tree, moved_is_configuration}
-use Rattle.classes.specs.Classes.{IsClass, put, class_of}
+use Rattle.classes.specs.Classes.{IsClass, class_of}
 use Rattle.classes.specs.ClassGaps.{gap_at, member_with}
-use Rattle.classes.proofs.Cited.{place-below, class_of-own, class_of-set, class_of-class, falls-class_of}
-use Rattle.classes.proofs.Cited.{length-class_of}
-use Rattle.classes.proofs.Cited.{put-cancel, put-is, HasPebble, IsIn, in-put, pebble_of_place, legal-answers, AreLike}
+use Rattle.classes.proofs.Cited.{place-below, class_of-set, class_of-class, falls-class_of}
+use Rattle.classes.proofs.Cited.{length-class_of, put-is, legal-answers, partner_of, AreLike}
 use Rattle.gap_values.specs.GapTables.{IsClosedBefore, HasClosedGap, IsGapTable, IsFirstClosed}
 
 -- ---- configurations of one class have the same gaps
@@ -26,23 +25,10 @@ module _ (board : PlainBoard) (closed : List ℕ → Value) (bound : ℕ) where
   pub like-closed : (one other : List ℕ) → AreLike board one other
       → HasClosedGap board closed other bound → HasClosedGap board closed one bound
   like-closed one other like has =
-      let pebble : ℕ = has.0 in
-      let inside : pebble < board.pebbles = has.1 in
-      let place : ℕ = get_or other pebble 0 in
-      let long : length other ≡ board.pebbles = like.other_size in
-      let low : pebble < length other = omega arith in
-      let class : class_of one ≡ put place (gap_at other pebble) = like.same ∙ class_of-own other pebble low in
-      let found : HasPebble one place =
-      pebble_of_place one place (subst (IsIn place) (sym class) (in-put place (gap_at other pebble))) in
-      let own : class_of one ≡ put place (gap_at one found.pebble) =
-      class_of-own one found.pebble found.inside ∙ ap (λ n. put n (gap_at one found.pebble)) found.holds in
-      let size : length one ≡ board.pebbles = like.one_size in
-      let there : found.pebble < length one = found.inside in
-      let gap : gap_at one found.pebble ≡ gap_at other pebble =
-      put-cancel place (gap_at one found.pebble) (gap_at other pebble) (sym own ∙ class) in (
-        found.pebble,
-        omega arith,
-        subst (λ g. IsClosedBefore (closed g) bound) (sym gap) has.2,
+      let partner = partner_of board one other like has.0 has.1 in (
+        partner.partner,
+        partner.is.inside,
+        subst (λ g. IsClosedBefore (closed g) bound) (sym partner.is.gap) has.2,
       )
 
 -- ---- the gaps of a configuration are gaps, and a move leads to a like member

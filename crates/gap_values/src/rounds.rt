@@ -1,14 +1,11 @@
 //! The rounds in which gaps close.
 
-ghost use Rattle.std.specs.Prelude.{◌≡◌, ◌*◌, ◌-◌, ◌<◌, ◌≤◌, ℕ, IfOk, List, OnErr, OnOk, length};
-ghost use Rattle.std.specs.Prelude.{◌↔◌, IsTrue};
+ghost use Rattle.std.specs.Prelude.{◌≡◌, ◌*◌, ◌-◌, ◌≤◌, ℕ, IfOk, List, OnErr, OnOk, length};
 ghost use Rattle.board_text.specs.PlainBoard.{places};
 ghost use Rattle.classes.specs.Numbers.{ways};
 ghost use Rattle.console.specs.Watching.{AreStepsTold};
-ghost use Rattle.gap_values.specs.Inside.Sets.{AreFresh, AreGapRounds, AreGathered, ArePassed};
-ghost use Rattle.gap_values.specs.Inside.Sets.{AreSets};
-ghost use Rattle.gap_values.specs.Inside.Sets.{AreTablesOf, HasRound, IsOfRound};
-ghost use Rattle.gap_values.specs.Inside.Words.{AreGapWords};
+ghost use Rattle.gap_values.specs.Inside.Closing.{CanClose, IsPart, IsPartClosed};
+ghost use Rattle.gap_values.specs.Inside.Sets.{AreGapRounds, AreGathered};
 ghost use Rattle.gap_values.specs.Inside.OpenWords.{open_below};
 ghost use Rattle.gap_values.specs.OpenGaps.{AreOpenCounts};
 
@@ -48,7 +45,7 @@ pub(crate) trait RoundMaker<const WORDS: usize> {
         ensures some { 1 ≤ result };
 
     /// Closes in `round` all open gaps of `board` that are shut by these `sets`, and tells the
-    /// tables `told` of them alone. Returns whether there are any.
+    /// tables `told` of them alone. Returns whether there are any. The gaps' words are `words`.
     fn close(
         &self,
         board: &Board,
@@ -59,20 +56,10 @@ pub(crate) trait RoundMaker<const WORDS: usize> {
         told: &mut [Labels<WORDS>],
     ) -> bool
         requires can_make { can_make self.now }
-        requires narrow { WORDS ≤ ROW_WORDS }
-        requires fits { board.now.labels ≤ 64 * WORDS }
-        requires board { numbers.now ≡ board.now }
-        requires some { 2 ≤ board.now.pebbles }
-        requires sets { AreSets board.now sets.now }
-        requires round { round < OPEN }
-        requires words { AreGapWords board.now words.old }
-        requires fresh { AreFresh round words.old }
-        requires told { length told.old ≡ tables_of self.now * length sets.now }
-        ensures passed { ArePassed board.now sets.now round 0 0 (length words.old)
-            words.old words.new }
-        ensures told { AreTablesOf board.now (tables_of self.now) (IsOfRound round 0 words.new)
-            told.new }
-        ensures some { IsTrue result ↔ HasRound round words.new };
+        requires can_close { CanClose WORDS board.now numbers.now sets.now round }
+        requires part { IsPart board.now round 0 (tables_of self.now) words.old told.old }
+        ensures { IsPartClosed board.now sets.now round 0 (tables_of self.now) words.old words.new
+            told.new result };
 
     /// Adds to each of the `sets` that of its list in each of these tables.
     fn add(&self, told: &[Labels<WORDS>], sets: &mut [Labels<WORDS>])

@@ -1,5 +1,5 @@
 -- A walk over the legal answers to an adversary's row, of either version.
-use Rattle.std.proofs.Common.{◌≡◌, ◌↔◌, ℕ, ◌<◌, ◌≤◌, true, List, inl, inr, subst, arith, below_more}
+use Rattle.std.proofs.Common.{◌≡◌, ◌↔◌, ℕ, ◌<◌, ◌≤◌, true, List, length, inl, inr, subst, arith, below_more}
 use Rattle.std.proofs.lemmas.Bool.{cases_lt}
 use Rattle.board_text.specs.Domination.{has_bit}
 use Rattle.board_text.specs.PlainBoard.{PlainBoard}
@@ -8,6 +8,10 @@ use Rattle.positions.specs.Game.{Legal}
 use Rattle.positions.specs.LabelWalk.{Walk, TakesSmallest}
 use Rattle.positions.specs.Position.{Position, position_at}
 use Rattle.positions.specs.Ranks.{configuration_at}
+use Rattle.positions.specs.Table.{RequestRow}
+use Rattle.proof_text.specs.Positions.{Positions}
+use Rattle.proof_text.specs.Rules.{MeetsAnswer, MeetsAnswers}
+use Rattle.proof_check.specs.FirstFaults.{FirstTurn}
 use Rattle.positions.proofs.Cited.{AreFrom, after_step, from_zero, next_of, none_left, walk_begins}
 
 -- a legal label is below MAX_LABELS, so a walk over labels comes to it
@@ -50,7 +54,7 @@ module _ (IsLegal Meets : ℕ → Type 0) (few : (label : ℕ) → IsLegal label
     next_legal = (next_of IsLegal few walk are.left after label step).0.1
 
     -- all before the next legal label are met
-    pub before_next : (earlier : ℕ) → earlier < label → Meets earlier
+    before_next : (earlier : ℕ) → earlier < label → Meets earlier
     before_next earlier low =
         let next = next_of IsLegal few walk are.left after label step in
         met earlier (λ is. omega (arith, next.1 earlier is, low))
@@ -65,3 +69,42 @@ module _ (IsLegal Meets : ℕ → Type 0) (few : (label : ℕ) → IsLegal label
   -- no legal label is left, and all are met
   pub all_met : ((label : ℕ) → label < MAX_LABELS → has_bit walk.left label ≡ true → ⊥) → (label : ℕ) → Meets label
   all_met over label = met label (none_left IsLegal few walk are.left over label)
+
+-- the legal answers to the request of a row, each met by a row with a smaller number
+module _ (P : Positions) (board : PlainBoard) (rows : List RequestRow) (row : RequestRow) where
+  abbrev pub AreAnswered : Walk → Type 0
+  AreAnswered = AreMetBefore (Legal board row.at (P.asked row)) (MeetsAnswer P board rows row)
+
+  module _ (most : board.labels ≤ MAX_LABELS) (walk : Walk) (are : AreAnswered walk) where
+    few : (label : ℕ) → Legal board row.at (P.asked row) label → label < MAX_LABELS
+    few label legal = omega (arith, legal.is_label, most)
+
+    skipped : (label : ℕ) → ¬ Legal board row.at (P.asked row) label → MeetsAnswer P board rows row label
+    skipped label not legal = absurd (not legal)
+
+    pub next_answer : (after : Walk) (label : ℕ) → TakesSmallest walk after label
+        → Legal board row.at (P.asked row) label
+    next_answer = next_legal (Legal board row.at (P.asked row)) (MeetsAnswer P board rows row) few skipped walk are
+
+    pub answered_on : (after : Walk) (label : ℕ) → TakesSmallest walk after label
+        → MeetsAnswer P board rows row label → AreAnswered after
+    answered_on = met_on (Legal board row.at (P.asked row)) (MeetsAnswer P board rows row) few skipped walk are
+
+    -- the fault of the next answer is the row's
+    pub first_wrong : {F : Type 0} (IsWrong : ℕ → F → Type 0) (fault : F) (after : Walk) (label : ℕ)
+        → TakesSmallest walk after label → IsWrong label fault
+        → FirstTurn (Legal board row.at (P.asked row)) (MeetsAnswer P board rows row) IsWrong fault
+    first_wrong IsWrong fault after label step wrong = record {
+      turn = label;
+      is_turn = next_answer after label step;
+      before = before_next (Legal board row.at (P.asked row)) (MeetsAnswer P board rows row) few skipped walk are after
+          label step;
+      wrong = wrong;
+    }
+
+    pub all_answered : ((label : ℕ) → label < MAX_LABELS → has_bit walk.left label ≡ true → ⊥)
+        → P.asked row < length row.at → MeetsAnswers P board rows row
+    all_answered over asks = record {
+      asks = asks;
+      each = all_met (Legal board row.at (P.asked row)) (MeetsAnswer P board rows row) few skipped walk are over;
+    }

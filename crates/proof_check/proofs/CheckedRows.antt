@@ -16,14 +16,13 @@ use Rattle.proof_text.specs.declared.class_proof.ClassProof.{ClassProof}
 use Rattle.proof_text.specs.declared.class_proof.LabellerClassRow.{LabellerClassRow}
 use Rattle.proof_check.specs.Refusals.{IsWrongBound}
 use Rattle.proof_check.specs.FirstFaults.{HasRow, bound_of}
-use Rattle.symmetries.specs.AlikeTables.{AlikeBy}
 use Rattle.symmetries.specs.Elements.{least_by}
 use Rattle.proof_text.specs.declared.symmetry_proof.Images.{Images}
 use Rattle.proof_check.specs.Inside.ClassChecker.{IsClassReady, IsClassAnswering, IsClassRequesting, refusals_by}
 use Rattle.proof_check.specs.Inside.FoundRow.{IsRowFor, IsUnservedBelow}
 use Rattle.proof_check.specs.RowNumbers.{places_of}
 use Rattle.proof_check.specs.Inside.RowSearch.{AreClassesInOrder, HasNoClass, IsTheRow}
-use Rattle.proof_check.specs.declared.row_numbers.RowNumbers.{RowNumbers}
+use Rattle.proof_check.specs.declared.class_checking.ClassChecker.{ClassChecker}
 use Rattle.proof_check.specs.declared.class_fault.ClassFault.{ClassFault}
 use Rattle.proof_check.specs.declared.class_fault.ClassFault.TheVariants as faults
 use Rattle.proof_check.proofs.FoundRows.{Contains-map, Contains-map_cases}
@@ -68,9 +67,18 @@ module _ (board : PlainBoard) (proof : ClassProof) (is : IsClassDocument board p
       proof.adversary.items (λ r. refl) (λ x row. row.at) is.is_proof.adversary.each
       is.is_proof.adversary.ascending
 
-  pub answering : (numbers : RowNumbers) (alike : AlikeBy) → IsClassReady board proof numbers alike
-      → All (IsClassAnswering board proof numbers alike) proof.labeller.items
-  answering numbers alike ready = λ k d low.
+module _ (checker : ClassChecker) (ready : IsClassReady checker) where
+  abbrev board : PlainBoard
+  board = checker.board.now
+
+  abbrev proof : ClassProof
+  proof = checker.proof.now
+
+  abbrev is : IsClassDocument board proof
+  is = ready.document
+
+  pub answering : All (IsClassAnswering checker) proof.labeller.items
+  answering = λ k d low.
       let row = get_or proof.labeller.items k d in
       let shown : IsAnswerRow board proof.claim (class_answer_row board row) =
       of_shown (class_answer_row board) (IsAnswerRow board proof.claim) proof.labeller.items
@@ -87,9 +95,8 @@ module _ (board : PlainBoard) (proof : ClassProof) (is : IsClassDocument board p
             subst (λ n. n < board.labels) (get_or-take board.pebbles row.take pebble 0 below) label;
       }
 
-  pub requesting : (numbers : RowNumbers) (alike : AlikeBy) → IsClassReady board proof numbers alike
-      → All (IsClassRequesting board proof numbers alike) proof.adversary.items
-  requesting numbers alike ready = λ k d low.
+  pub requesting : All (IsClassRequesting checker) proof.adversary.items
+  requesting = λ k d low.
       let shown : IsClassRequestRow board (class_request_row board (get_or proof.adversary.items k d)) =
       of_shown (class_request_row board) (IsClassRequestRow board) proof.adversary.items
       is.is_proof.adversary.each k d low in

@@ -1,5 +1,5 @@
 -- The counts of rows by rank, row by row, and what they show.
-use Rattle.std.proofs.Common.{◌≡◌, ℕ, ◌+◌, ◌<◌, ◌≤◌, List, length, slice_index, slice_set, replicate, ap, ◌∙◌, subst}
+use Rattle.std.proofs.Common.{◌≡◌, ℕ, ◌+◌, ◌-◌, ◌<◌, ◌≤◌, List, length, slice_index, slice_set, replicate, ap, ◌∙◌, subst}
 use Rattle.std.proofs.Common.{sym}
 use Rattle.std.proofs.Common.{get_or-set_other, get_or-set_same, min, arith, inl, inr}
 use Rattle.std.proofs.Math.Nat.{min-eq_left, min-eq_right, min-le_left, min-le_right}
@@ -11,6 +11,7 @@ use Rattle.positions.specs.declared.turns.Turns.TheVariants.{Count, Always}
 use Rattle.proof_text.specs.Rules.{IsEnough}
 use Rattle.proof_check.specs.Inside.RowCounts.{count_of_left, count_of_turns}
 use Rattle.proof_check.specs.declared.gap_bounds.TheConstants.{NO_BOUND}
+use Rattle.proof_check.specs.declared.turns.TheConstants.{ENDLESS}
 use Rattle.proof_check.specs.Inside.RowIndex.{AreCounts, IsCountOf}
 
 -- a table of zeros tells of no row
@@ -44,13 +45,13 @@ counts_more rank count rows counts row among are number low some =
 -- turns with no smaller a count are enough
 pub enough_by_count : (wanted : ℕ) (turns : Turns) → wanted ≤ count_of_turns turns → IsEnough (Count wanted) turns
 enough_by_count wanted (Count turns) most =
-    let low : min turns 4294967294 ≤ turns = min-le_left turns 4294967294 in
+    let low : min turns (ENDLESS - 1) ≤ turns = min-le_left turns (ENDLESS - 1) in
     omega (arith, most, low)
 enough_by_count wanted Always most = tt
 
-pub always_by_count : (turns : Turns) → 4294967295 ≤ count_of_turns turns → IsEnough Always turns
+pub always_by_count : (turns : Turns) → ENDLESS ≤ count_of_turns turns → IsEnough Always turns
 always_by_count (Count turns) most =
-    let low : min turns 4294967294 ≤ 4294967294 = min-le_right turns 4294967294 in
+    let low : min turns (ENDLESS - 1) ≤ ENDLESS - 1 = min-le_right turns (ENDLESS - 1) in
     absurd (omega (arith, most, low))
 always_by_count Always most = tt
 

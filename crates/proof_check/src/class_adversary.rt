@@ -4,15 +4,12 @@ ghost use Rattle.std.specs.Prelude.{◌≡◌, ◌<◌, ℕ, List, suc, MatchOpt
 ghost use Rattle.board_text.specs.PlainBoard.{IsConfiguration};
 ghost use Rattle.positions.specs.Game.{Legal};
 ghost use Rattle.proof_text.specs.Positions as positions_of;
-ghost use Rattle.proof_text.specs.Positions.{normal_positions};
 ghost use Rattle.proof_text.specs.Rules.{IsListedBelow, MeetsAnswer, MeetsAnswers, StartIsBelow};
 ghost use Rattle.proof_text.specs.Arranged.{document_number};
-ghost use Rattle.proof_text.specs.ClassProof.{plain_class_proof};
-ghost use Rattle.proof_text.specs.ClassProof.{class_request_row, class_request_rows};
-ghost use Rattle.symmetries.specs.Elements.{least_by};
+ghost use Rattle.proof_text.specs.ClassProof.{class_request_row};
 ghost use Rattle.proof_check.specs.Refusals.{IsWrongAfter, IsWrongBound, IsWrongRequest};
 ghost use Rattle.proof_check.specs.Inside.ClassChecker.{IsClassReady, IsClassRequesting};
-ghost use Rattle.proof_check.specs.Inside.ClassChecker.{refusals_by};
+ghost use Rattle.proof_check.specs.Inside.ClassChecker.{document_of, positions_for, refusals_for};
 ghost use Rattle.proof_check.specs.Inside.FoundRow.{IsUnservedBelow};
 
 use crate::checked_row::CheckedRow;
@@ -24,16 +21,13 @@ use positions::{Claim, Side, legal_labels};
 use proof_text::AdversaryClassRow;
 
 impl<'a> CheckedRow<ClassChecker<'a>, ClassFault> for AdversaryClassRow {
-    ghost is_ready = { λ c row. IsClassRequesting c.board.now c.proof.now
-        c.numbers.now c.alike.now row };
+    ghost is_ready = { λ c row. IsClassRequesting c row };
 
-    ghost meets = { λ c row. MeetsAnswers (normal_positions (least_by c.board.now.labels
-        c.alike.now.group)) c.board.now (class_request_rows c.board.now c.proof.now.adversary.items)
+    ghost meets = { λ c row. MeetsAnswers (positions_for c) c.board.now (document_of c).adversary
         (class_request_row c.board.now row) };
 
-    ghost is_wrong = { λ c row. IsWrongRequest (refusals_by c.board.now c.alike.now.group)
-        c.board.now (class_request_rows c.board.now c.proof.now.adversary.items)
-        (class_request_row c.board.now row) };
+    ghost is_wrong = { λ c row. IsWrongRequest (refusals_for c) c.board.now
+        (document_of c).adversary (class_request_row c.board.now row) };
 
     /// The fault of the row's first faulty label, if it has one.
     fn fault(&self, checker: &ClassChecker<'a>) -> Option<ClassFault> {
@@ -74,8 +68,7 @@ fn label_fault(
     pebble: u8,
     label: u16,
 ) -> Option<ClassFault>
-    requires row { IsClassRequesting checker.now.board.now checker.now.proof.now
-        checker.now.numbers.now checker.now.alike.now row.now }
+    requires row { IsClassRequesting checker.now row.now }
     requires at { at ≡ document_number checker.now.board.now.labels (class_request_row
         checker.now.board.now row.now).at }
     requires pebble { pebble ≡ positions_of.asked_pebble (class_request_row checker.now.board.now
@@ -84,12 +77,9 @@ fn label_fault(
     requires legal { Legal checker.now.board.now (class_request_row checker.now.board.now
         row.now).at pebble label }
     ensures { MatchOption result
-        (MeetsAnswer (normal_positions (least_by checker.now.board.now.labels
-        checker.now.alike.now.group)) checker.now.board.now (class_request_rows
-        checker.now.board.now checker.now.proof.now.adversary.items)
-        (class_request_row checker.now.board.now row.now) label)
-        (IsWrongAfter (refusals_by checker.now.board.now checker.now.alike.now.group)
-        (class_request_rows checker.now.board.now checker.now.proof.now.adversary.items)
+        (MeetsAnswer (positions_for checker.now) checker.now.board.now
+        (document_of checker.now).adversary (class_request_row checker.now.board.now row.now) label)
+        (IsWrongAfter (refusals_for checker.now) (document_of checker.now).adversary
         (class_request_row checker.now.board.now row.now) label) }
 {
     if row.left == 0 {
@@ -111,16 +101,12 @@ fn label_fault(
 /// The fault of the number at the start in the adversary's rows, if it has one. Only a
 /// claim that bounds the value from above can have it.
 pub(crate) fn bound_fault(checker: &ClassChecker<'_>) -> Option<ClassFault>
-    requires { IsClassReady checker.now.board.now checker.now.proof.now checker.now.numbers.now
-        checker.now.alike.now }
+    requires { IsClassReady checker.now }
     ensures { MatchOption result
-        (StartIsBelow (class_request_rows checker.now.board.now
-        checker.now.proof.now.adversary.items)
-        (least_by checker.now.board.now.labels checker.now.alike.now.group
-        checker.now.board.now.start)
+        (StartIsBelow (document_of checker.now).adversary
+        ((positions_for checker.now).normal checker.now.board.now.start)
         checker.now.proof.now.claim)
-        (IsWrongBound (refusals_by checker.now.board.now checker.now.alike.now.group)
-        checker.now.board.now (plain_class_proof checker.now.board.now checker.now.proof.now)) }
+        (IsWrongBound (refusals_for checker.now) checker.now.board.now (document_of checker.now)) }
 {
     let (Claim::Exactly(most) | Claim::AtMost(most)) = checker.proof.claim else {
         return None;
@@ -141,15 +127,12 @@ fn number_fault(
     missing: ClassFault,
     large: ClassFault,
 ) -> Option<ClassFault>
-    requires ready { IsClassReady checker.now.board.now checker.now.proof.now
-        checker.now.numbers.now checker.now.alike.now }
+    requires ready { IsClassReady checker.now }
     ensures { (places : List ℕ) → IsConfiguration checker.now.board.now places
         → number ≡ document_number checker.now.board.now.labels places
         → MatchOption result
-        (IsListedBelow (class_request_rows checker.now.board.now
-        checker.now.proof.now.adversary.items) places (suc most))
-        (IsUnservedBelow (class_request_rows checker.now.board.now
-        checker.now.proof.now.adversary.items) places (suc most) missing large) }
+        (IsListedBelow (document_of checker.now).adversary places (suc most))
+        (IsUnservedBelow (document_of checker.now).adversary places (suc most) missing large) }
 {
     let Some(row) = find(
         checker.board,

@@ -2,16 +2,13 @@
 
 ghost use Rattle.std.specs.Prelude.{◌≡◌, ◌<◌, ℕ, List, MatchOption};
 ghost use Rattle.board_text.specs.PlainBoard.{IsConfiguration};
-ghost use Rattle.proof_text.specs.Positions.{normal_positions};
 ghost use Rattle.proof_text.specs.Rules as rules;
 ghost use Rattle.proof_text.specs.Rules.{MeetsRequest, MeetsRequests, Serves};
 ghost use Rattle.proof_text.specs.Arranged.{document_number};
-ghost use Rattle.proof_text.specs.ClassProof.{plain_class_proof};
-ghost use Rattle.proof_text.specs.ClassProof.{class_answer_row, class_answer_rows};
-ghost use Rattle.symmetries.specs.Elements.{least_by};
+ghost use Rattle.proof_text.specs.ClassProof.{class_answer_row};
 ghost use Rattle.proof_check.specs.Refusals.{IsWrongAnswer, IsWrongAt, IsWrongStart};
 ghost use Rattle.proof_check.specs.Inside.ClassChecker.{IsClassAnswering, IsClassReady};
-ghost use Rattle.proof_check.specs.Inside.ClassChecker.{refusals_by};
+ghost use Rattle.proof_check.specs.Inside.ClassChecker.{document_of, positions_for, refusals_for};
 ghost use Rattle.proof_check.specs.Inside.FoundRow.{IsUnservedFor};
 
 use crate::checked_row::CheckedRow;
@@ -23,16 +20,13 @@ use positions::{Side, Turns, is_legal};
 use proof_text::LabellerClassRow;
 
 impl<'a> CheckedRow<ClassChecker<'a>, ClassFault> for LabellerClassRow {
-    ghost is_ready = { λ c row. IsClassAnswering c.board.now c.proof.now
-        c.numbers.now c.alike.now row };
+    ghost is_ready = { λ c row. IsClassAnswering c row };
 
-    ghost meets = { λ c row. MeetsRequests (normal_positions (least_by c.board.now.labels
-        c.alike.now.group)) c.board.now (class_answer_rows c.board.now c.proof.now.labeller.items)
+    ghost meets = { λ c row. MeetsRequests (positions_for c) c.board.now (document_of c).labeller
         (class_answer_row c.board.now row) };
 
-    ghost is_wrong = { λ c row. IsWrongAnswer (refusals_by c.board.now c.alike.now.group)
-        c.board.now (class_answer_rows c.board.now c.proof.now.labeller.items)
-        (class_answer_row c.board.now row) };
+    ghost is_wrong = { λ c row. IsWrongAnswer (refusals_for c) c.board.now
+        (document_of c).labeller (class_answer_row c.board.now row) };
 
     /// The fault of the row's first faulty pebble, if it has one.
     fn fault(&self, checker: &ClassChecker<'a>) -> Option<ClassFault> {
@@ -54,20 +48,15 @@ fn answer_fault(
     at: u64,
     pebble: u8,
 ) -> Option<ClassFault>
-    requires row { IsClassAnswering checker.now.board.now checker.now.proof.now
-        checker.now.numbers.now checker.now.alike.now row.now }
+    requires row { IsClassAnswering checker.now row.now }
     requires at { at ≡ document_number checker.now.board.now.labels (class_answer_row
         checker.now.board.now row.now).at }
     requires pebble { pebble < checker.now.board.now.pebbles }
     ensures { MatchOption result
-        (MeetsRequest (normal_positions (least_by checker.now.board.now.labels
-        checker.now.alike.now.group)) checker.now.board.now (class_answer_rows checker.now.board.now
-        checker.now.proof.now.labeller.items)
-        (class_answer_row checker.now.board.now row.now) pebble)
-        (IsWrongAt (refusals_by checker.now.board.now checker.now.alike.now.group)
-        checker.now.board.now (class_answer_rows checker.now.board.now
-        checker.now.proof.now.labeller.items)
-        (class_answer_row checker.now.board.now row.now) pebble) }
+        (MeetsRequest (positions_for checker.now) checker.now.board.now
+        (document_of checker.now).labeller (class_answer_row checker.now.board.now row.now) pebble)
+        (IsWrongAt (refusals_for checker.now) checker.now.board.now
+        (document_of checker.now).labeller (class_answer_row checker.now.board.now row.now) pebble) }
 {
     let board = checker.board;
     let pebbles = board.pebbles() as usize;
@@ -89,16 +78,13 @@ fn answer_fault(
 
 /// The fault of the number at the start in the labeller's rows, if it has one.
 pub(crate) fn start_fault(checker: &ClassChecker<'_>) -> Option<ClassFault>
-    requires { IsClassReady checker.now.board.now checker.now.proof.now checker.now.numbers.now
-        checker.now.alike.now }
+    requires { IsClassReady checker.now }
     ensures start { IsConfiguration checker.now.board.now checker.now.board.now.start }
     ensures fault { MatchOption result
-        (Serves (class_answer_rows checker.now.board.now checker.now.proof.now.labeller.items)
-        (least_by checker.now.board.now.labels checker.now.alike.now.group
-        checker.now.board.now.start)
+        (Serves (document_of checker.now).labeller
+        ((positions_for checker.now).normal checker.now.board.now.start)
         (rules.wanted_of checker.now.proof.now.claim))
-        (IsWrongStart (refusals_by checker.now.board.now checker.now.alike.now.group)
-        checker.now.board.now (plain_class_proof checker.now.board.now checker.now.proof.now)) }
+        (IsWrongStart (refusals_for checker.now) checker.now.board.now (document_of checker.now)) }
 {
     let side = Side::Labeller;
     let missing = ClassFault::StartMissing { side };
@@ -122,15 +108,12 @@ fn turns_fault(
     missing: ClassFault,
     short: ClassFault,
 ) -> Option<ClassFault>
-    requires ready { IsClassReady checker.now.board.now checker.now.proof.now
-        checker.now.numbers.now checker.now.alike.now }
+    requires ready { IsClassReady checker.now }
     ensures { (places : List ℕ) → IsConfiguration checker.now.board.now places
         → number ≡ document_number checker.now.board.now.labels places
         → MatchOption result
-        (Serves (class_answer_rows checker.now.board.now checker.now.proof.now.labeller.items)
-        places wanted)
-        (IsUnservedFor (class_answer_rows checker.now.board.now
-        checker.now.proof.now.labeller.items) places wanted missing short) }
+        (Serves (document_of checker.now).labeller places wanted)
+        (IsUnservedFor (document_of checker.now).labeller places wanted missing short) }
 {
     if wanted == Turns::Count(0) {
         return None;

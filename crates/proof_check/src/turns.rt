@@ -29,14 +29,17 @@ pub(crate) fn wanted_of(claim: Claim) -> Turns
     }
 }
 
-/// The count of a row of `turns`: their number, and `u32::MAX` for turns without end alone.
+/// The count of a row of turns without end, which no other row has.
+pub(crate) const ENDLESS: u32 = u32::MAX;
+
+/// The count of a row of `turns`: their number, and `ENDLESS` for turns without end alone.
 pub(crate) fn count_of(turns: Turns) -> u32
     ensures { result ≡ count_of_turns turns }
 {
     match turns {
-        Turns::Count(turns) if turns < u32::MAX => turns,
-        Turns::Count(_) => u32::MAX - 1,
-        Turns::Always => u32::MAX,
+        Turns::Count(turns) if turns < ENDLESS => turns,
+        Turns::Count(_) => ENDLESS - 1,
+        Turns::Always => ENDLESS,
     }
 }
 
@@ -47,6 +50,6 @@ pub(crate) fn least_count(wanted: Turns) -> u32
 {
     match wanted {
         Turns::Count(turns) => turns,
-        Turns::Always => u32::MAX,
+        Turns::Always => ENDLESS,
     }
 }

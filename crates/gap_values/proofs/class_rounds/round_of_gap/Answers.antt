@@ -1,63 +1,47 @@
-use Rattle.std.proofs.Common.{◌≤◌, ◌+◌, Some, arith, subst, sym}
-use Rattle.positions.specs.Counts.{IsSmallest}
-use Rattle.positions.specs.Gaps.{AnswersGap}
-use Rattle.positions.proofs.Cited.{AreFrom}
-use Rattle.gap_values.proofs.BestAnswers.{answers-after, answers-over, next-answer}
+use Rattle.std.proofs.Common.{◌+◌, arith, subst, sym}
+use Rattle.gap_values.proofs.BestAnswers.{IsAnswerTaken, answer-taken, answers-over}
 use Rattle.gap_values.proofs.ClassRounds.{IsRoundSoFar, round-kept, round-more, round-none, round-over}
 use Rattle.gap_values.proofs.ClassRounds.{word-small}
 use Rattle.gap_values.proofs.class_rounds.round_of_gap.Goals as goal
 use Rattle.gap_values.proofs.class_rounds.round_of_gap.Goals.{After-word_of_result-word}
 
-module _ (c : After-word_of_result-word) where
-  next : IsSmallest (λ l. (c.loop-label.labels.from ≤ l) × AnswersGap c.args.board.now c.args.gap.now l)
-      (Some c.in-Some.label)
-  next = next-answer c.args.board.now c.args.gap.now c.labels.ensures.is_board c.loop-label.labels
-      c.loop-label.invariant.walk c.take_next.new.self c.in-Some.label c.in-Some.ensures
-
-  after : AreFrom (AnswersGap c.args.board.now c.args.gap.now) c.take_next.new.self
-  after = answers-after c.args.board.now c.args.gap.now c.labels.ensures.is_board c.loop-label.labels
-      c.loop-label.invariant.walk c.take_next.new.self c.in-Some.label c.in-Some.ensures
-
-  within : c.take_next.new.self.from ≤ 256
-  within =
-      let step = c.in-Some.ensures in
-      let small = step.smallest.0.0 in
-      let from = step.from in
-      omega (arith, small, from)
+taken : (c : After-word_of_result-word)
+    → IsAnswerTaken c.args.board.now c.args.gap.now c.loop-label.labels c.take_next.new.self c.in-Some.label
+taken c = answer-taken c.args.board.now c.args.gap.now c.labels.ensures.is_board c.loop-label.labels
+    c.loop-label.invariant.walk c.take_next.new.self c.in-Some.label c.in-Some.ensures
 
 pub returns-then-word : goal.returns-then-word
 returns-then-word c =
     round-none c.args.board.now c.args.words.now c.args.gap.now c.loop-label.labels.from c.in-Some.label
-    c.word_of_result-word.result (next (goal.at.returns-then-word c).After-word_of_result-word)
+    c.word_of_result-word.result (taken (goal.at.returns-then-word c).After-word_of_result-word).next
     c.word_of_result-word.ensures (omega (arith, c.if-word.true))
 
 pub loop-label-preserved-then-word-round : goal.loop-label-preserved-then-word-round
 loop-label-preserved-then-word-round c =
-    let at = (goal.at.loop-label-preserved-then-word-round c).After-word_of_result-word in
-    let step = next at in
+    let step = taken (goal.at.loop-label-preserved-then-word-round c).After-word_of_result-word in
     let low = word-small c.args.board.now c.args.words.now c.args.gap.now c.in-Some.label c.word_of_result-word.result
-    c.labels.ensures.is_board c.requires.words c.requires.is_gap step.0.1 c.word_of_result-word.ensures
+    c.labels.ensures.is_board c.requires.words c.requires.is_gap step.next.0.1 c.word_of_result-word.ensures
     (omega (arith, c.word_of_result-word.type_inv, c.if-word.false)) in
     record {
-      walk = after at;
-      most = within at;
+      walk = step.left;
+      most = step.most;
       round = subst (λ n. IsRoundSoFar c.args.board.now c.args.words.now c.args.gap.now n
           (c.word_of_result-word.result + 1)) (sym c.in-Some.ensures.from)
           (round-more c.args.board.now c.args.words.now c.args.gap.now c.loop-label.labels.from c.in-Some.label
-          c.word_of_result-word.result step c.word_of_result-word.ensures c.loop-label.round
+          c.word_of_result-word.result step.next c.word_of_result-word.ensures c.loop-label.round
           c.loop-label.invariant.round c.if-word-round.true low);
     }
 
 pub loop-label-preserved : goal.loop-label-preserved
 loop-label-preserved c =
-    let at = (goal.at.loop-label-preserved c).After-word_of_result-word in
+    let step = taken (goal.at.loop-label-preserved c).After-word_of_result-word in
     record {
-      walk = after at;
-      most = within at;
+      walk = step.left;
+      most = step.most;
       round = subst (λ n. IsRoundSoFar c.args.board.now c.args.words.now c.args.gap.now n c.loop-label.round)
           (sym c.in-Some.ensures.from)
           (round-kept c.args.board.now c.args.words.now c.args.gap.now c.loop-label.labels.from c.in-Some.label
-          c.word_of_result-word.result (next at) c.word_of_result-word.ensures c.loop-label.round
+          c.word_of_result-word.result step.next c.word_of_result-word.ensures c.loop-label.round
           c.loop-label.invariant.round c.if-word-round.false);
     }
 

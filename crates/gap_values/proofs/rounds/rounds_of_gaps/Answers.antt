@@ -1,5 +1,5 @@
 use Rattle.std.proofs.Common.{◌≡◌, ◌∙◌, ◌<◌, ◌≤◌, ◌+◌, ◌-◌, ◌*◌, ℕ, List, length, replicate, drop, get_or, sym, ap}
-use Rattle.std.proofs.Common.{subst, arith, ◌↔◌, ◌⊎◌, ◌≢◌, ◌++◌, [], ◌∷◌, take, inl, inr, IsTrue}
+use Rattle.std.proofs.Common.{subst, arith, ◌↔◌, ◌≢◌, ◌++◌, [], ◌∷◌, take, IsTrue, false, true≢false}
 use Rattle.std.proofs.lemmas.List.{length-replicate, take_at}
 use Rattle.std.proofs.lemmas.Result.{err_from_is_err_and}
 use Rattle.board_text.specs.PlainBoard.{places}
@@ -112,43 +112,36 @@ close-some-requires g c =
       (
         c.requires.can_make,
         (
-          c.requires.narrow,
-          (
-            c.requires.fits,
-            (
-              c.requires.board,
-              (
-                two,
-                (
-                  sets,
-                  (
-                    low,
-                    (
-                      words,
-                      (
-                        fresh,
-                        ap length c.deref_mut-in-loop-round.ensures.value
-                            ∙ c.loop-round.invariant.tables
-                            ∙ ap (λ n. g.M.RoundMaker.tables_of c.args.maker.now * n) (sym sets),
-                      ),
-                    ),
-                  ),
-                ),
-              ),
-            ),
-          ),
+          record {
+            narrow = c.requires.narrow;
+            fits = c.requires.fits;
+            same_board = c.requires.board;
+            some = two;
+            each_list = sets;
+            is_round = low;
+          },
+          record {
+            gaps = omega (arith, words);
+            fresh = fresh;
+            many = ap length c.deref_mut-in-loop-round.ensures.value ∙ c.loop-round.invariant.tables;
+          },
         ),
       ),
     )
 
+-- the tables that were told of the round
+told-is : (g : Over) (c : After-close-some g)
+    → take c.loop-round.tables.len
+    (c.close-some.new.told ++ drop (length c.close-some.new.told) c.loop-round.tables.items) ≡ c.close-some.new.told
+told-is g c = take_at c.close-some.new.told (drop (length c.close-some.new.told) c.loop-round.tables.items)
+    c.loop-round.tables.len (c.close-some.auto.told ∙ c.deref_mut-in-loop-round.ensures.len)
+
 pub add-requires : goal.add-requires
 add-requires g c =
+    let at = (goal.at.add-requires g c).After-close-some in
     let tables : ℕ = g.M.RoundMaker.tables_of c.args.maker.now in
     let told : c.deref-in-loop-round.result.now ≡ c.close-some.new.told =
-    c.deref-in-loop-round.ensures.value
-    ∙ take_at c.close-some.new.told (drop (length c.close-some.new.told) c.loop-round.tables.items)
-    c.loop-round.tables.len
-    (c.close-some.auto.told ∙ c.deref_mut-in-loop-round.ensures.len) in
+    c.deref-in-loop-round.ensures.value ∙ told-is g at in
     let sets : length c.deref_mut-in-loop-round-2.result.now
     ≡ ways (c.args.board.now.pebbles - 2) (places c.args.board.now) =
     ap length c.deref_mut-in-loop-round-2.ensures.value ∙ c.loop-round.invariant.at.tell.many in (
@@ -163,21 +156,6 @@ add-requires g c =
       ),
     )
 
--- the sets are told of what closed
-sets-told : (g : Over) (c : After-close-some g) (told from to : List (List ℕ)) → told ≡ c.close-some.new.told
-    → from ≡ c.loop-round.closed.items
-    → AreGathered (g.M.RoundMaker.tables_of c.args.maker.now) (length from) 0 told from to
-    → TellClosed c.args.board.now (new g c) (c.loop-round.round + 1) to
-sets-told g c told from to told_is from_is added =
-    let b = c.args.board.now in
-    let tables : ℕ = g.M.RoundMaker.tables_of c.args.maker.now in
-    round-told b c.pebbles.ensures.is_board (some g c) c.loop-round.round (old g c) (new g c)
-    c.loop-round.closed.items (low g c) c.loop-round.invariant.at (passed g c) tables c.close-some.new.told to
-    (subst (λ (l : List ℕ). AreTablesOf b tables (IsOfRound c.loop-round.round 0 l) c.close-some.new.told)
-    (sym (new-is g c)) c.close-some.ensures.told)
-    (subst (λ (l : List (List ℕ)). AreGathered tables (length l) 0 c.close-some.new.told l to) from_is
-    (subst (λ (l : List (List ℕ)). AreGathered tables (length from) 0 l from to) told_is added))
-
 -- whether some gaps closed
 some-told : (g : Over) (c : After-close-some g) → IsTrue c.close-some.result
     ↔ ((gap : ℕ) × (gap < gap_count c.args.board.now) × (get_or (new g c) gap 0 ≡ c.loop-round.round))
@@ -191,116 +169,122 @@ some-told g c =
       λ found. says.1 (found.0, omega (arith, found.1, size), found.2),
     )
 
--- what was told first is of the first round, after it and later ones
-first-told : (g : Over) (c : After-close-some g) (first sets : List (List ℕ))
-    → TellClosed c.args.board.now (new g c) (c.loop-round.round + 1) sets
-    → ((c.loop-round.round ≡ 0) × (first ≡ sets)) ⊎ ((c.loop-round.round ≢ 0) × (first ≡ c.loop-round.first.items))
+-- none closed
+none-closed : (g : Over) (c : After-close-some g) → c.close-some.result ≡ false → (gap : ℕ)
+    → gap < gap_count c.args.board.now → get_or (new g c) gap 0 ≢ c.loop-round.round
+none-closed g c no_one gap inside closed =
+    true≢false (sym ((some-told g c).1 (gap, inside, closed)) ∙ no_one)
+
+-- sets to which the tables were added are told of what closed, and are kept as they are
+record IsAdded (g : Over) (c : After-close-some g) (added : List (List ℕ)) : Type 0 where
+  told : TellClosed c.args.board.now (new g c) (c.loop-round.round + 1) added
+  kept : take c.loop-round.closed.len (added ++ drop (length added) c.loop-round.closed.items) ≡ added
+
+is-added : (g : Over) (c : After-close-some g) (told from added : List (List ℕ))
+    → told ≡ take c.loop-round.tables.len
+    (c.close-some.new.told ++ drop (length c.close-some.new.told) c.loop-round.tables.items)
+    → from ≡ c.loop-round.closed.items → length from ≡ c.loop-round.closed.len
+    → AreGathered (g.M.RoundMaker.tables_of c.args.maker.now) (length from) 0 told from added → IsAdded g c added
+is-added g c told from added told_taken from_is size are =
+    let b = c.args.board.now in
+    let tables : ℕ = g.M.RoundMaker.tables_of c.args.maker.now in
+    let told_all : told ≡ c.close-some.new.told = told_taken ∙ told-is g c in
+    record {
+      told = round-told b c.pebbles.ensures.is_board (some g c) c.loop-round.round (old g c) (new g c)
+          c.loop-round.closed.items (low g c) c.loop-round.invariant.at (passed g c) tables c.close-some.new.told added
+          (subst (λ (l : List ℕ). AreTablesOf b tables (IsOfRound c.loop-round.round 0 l) c.close-some.new.told)
+          (sym (new-is g c)) c.close-some.ensures.tell)
+          (subst (λ (l : List (List ℕ)). AreGathered tables (length l) 0 c.close-some.new.told l added) from_is
+          (subst (λ (l : List (List ℕ)). AreGathered tables (length from) 0 l from added) told_all are));
+      kept = take_at added (drop (length added) c.loop-round.closed.items) c.loop-round.closed.len
+          (are.same_length ∙ size);
+    }
+
+-- what is told first is of the first round, after it and later ones
+first-begun : (g : Over) (c : After-close-some g) (first taken added : List (List ℕ)) → IsAdded g c added
+    → c.loop-round.round ≡ 0 → first ≡ c.loop-round.first.items ++ taken → taken ≡ take c.loop-round.closed.len
+    (added ++ drop (length added) c.loop-round.closed.items)
     → TellClosed c.args.board.now (new g c) 1 first
-first-told g c first sets tell (inl begun) =
-    subst (TellClosed c.args.board.now (new g c) 1) (sym begun.1)
-    (subst (λ n. TellClosed c.args.board.now (new g c) (n + 1) sets) begun.0 tell)
-first-told g c first sets tell (inr later) =
-    subst (TellClosed c.args.board.now (new g c) 1) (sym later.1)
+first-begun g c first taken added is begun first_is taken_is =
+    let all : first ≡ added = first_is ∙ ap (λ (l : List (List ℕ)). l ++ taken) (c.loop-round.invariant.none begun)
+    ∙ taken_is ∙ is.kept in
+    subst (TellClosed c.args.board.now (new g c) 1) (sym all)
+    (subst (λ n. TellClosed c.args.board.now (new g c) (n + 1) added) begun is.told)
+
+first-later : (g : Over) (c : After-close-some g) (first : List (List ℕ)) → c.loop-round.round ≢ 0
+    → first ≡ c.loop-round.first.items → TellClosed c.args.board.now (new g c) 1 first
+first-later g c first begun first_is =
+    let later : 1 ≤ c.loop-round.round = omega (arith, begun) in
+    subst (TellClosed c.args.board.now (new g c) 1) (sym first_is)
     (first-kept c.args.board.now c.pebbles.ensures.is_board (some g c) c.loop-round.round (old g c) (new g c)
-    c.loop-round.closed.items (low g c) c.loop-round.invariant.at (passed g c) c.loop-round.first.items
-    (let differs = later.0 in omega (arith, differs))
-    (c.loop-round.invariant.first (let differs = later.0 in omega (arith, differs))))
+    c.loop-round.closed.items (low g c) c.loop-round.invariant.at (passed g c) c.loop-round.first.items later
+    (c.loop-round.invariant.first later))
 
 pub returns-then-not-some-clause-rounds : goal.returns-then-not-some-clause-rounds
 returns-then-not-some-clause-rounds g c =
     let at = (goal.at.returns-then-not-some-clause-rounds g c).After-close-some in
     let b = c.args.board.now in
-    let any = some-told g at in
-    let tell = sets-told g at _ _ _ (c.deref-in-loop-round.ensures.value
-    ∙ take_at c.close-some.new.told (drop (length c.close-some.new.told) c.loop-round.tables.items)
-    c.loop-round.tables.len
-    (c.close-some.auto.told ∙ c.deref_mut-in-loop-round.ensures.len)) c.deref_mut-in-loop-round-2.ensures.value
-    c.add.ensures in
+    let added = is-added g at _ _ c.add.new.sets c.deref-in-loop-round.ensures.value
+    c.deref_mut-in-loop-round-2.ensures.value c.deref_mut-in-loop-round-2.ensures.len c.add.ensures in
     record {
       is_board = c.pebbles.ensures.is_board;
       words = last-round b c.pebbles.ensures.is_board (some g at) c.loop-round.round (old g at) (new g at)
           c.loop-round.closed.items (low g at) c.loop-round.invariant.at (passed g at)
-          (λ n n_low closed.
-          let yes = any.1 (n, n_low, closed) in
-          let no_one = c.if-not-some.true in
-          let bad : ⊥ = cc in bad);
-      first = λ some_pebbles. first-told g at c.if-round-eq0.first.items c.add.new.sets tell
-          (elim c.if-round-eq0.branch [
-            | then-round-eq0+in_ok-extend_from_slice w ↦ inl (
-              w.if-round-eq0.true,
-              ap (λ v. v.items) w.first-is ∙ w.in_ok-extend_from_slice.ensures.items
-                  ∙ ap (λ (l : List (List ℕ)). l ++ w.deref-then-round-eq0.result.now)
-                  (c.loop-round.invariant.none w.if-round-eq0.true)
-                  ∙ w.deref-then-round-eq0.ensures.value
-                  ∙ take_at c.add.new.sets
-                  (drop (length c.add.new.sets) c.loop-round.closed.items)
-                  c.loop-round.closed.len (c.add.auto.sets ∙ c.deref_mut-in-loop-round-2.ensures.len),
-            )
-            | else-round-eq0 w ↦ inr (w.if-round-eq0.false, ap (λ v. v.items) w.first-is)
-          ]);
-      closed = λ some_pebbles.
-          subst (λ (l : List (List ℕ)). TellClosed b (new g at) 4294967295 l)
-          (sym (take_at c.add.new.sets
-          (drop (length c.add.new.sets) c.loop-round.closed.items)
-          c.loop-round.closed.len (c.add.auto.sets ∙ c.deref_mut-in-loop-round-2.ensures.len)))
+          (none-closed g at c.if-not-some.true);
+      first = λ some_pebbles. elim c.if-round-eq0.branch [
+        | then-round-eq0+in_ok-extend_from_slice w ↦ first-begun g at c.if-round-eq0.first.items _
+            c.add.new.sets added w.if-round-eq0.true
+            (ap (λ v. v.items) w.first-is ∙ w.in_ok-extend_from_slice.ensures.items)
+            w.deref-then-round-eq0.ensures.value
+        | else-round-eq0 w ↦ first-later g at c.if-round-eq0.first.items w.if-round-eq0.false
+            (ap (λ v. v.items) w.first-is)
+      ];
+      closed = λ some_pebbles. subst (λ (l : List (List ℕ)). TellClosed b (new g at) 4294967295 l)
+          (sym added.kept)
           (all-told b c.pebbles.ensures.is_board (some g at) c.loop-round.round (old g at) (new g at)
           c.loop-round.closed.items (low g at) c.loop-round.invariant.at (passed g at) c.add.new.sets
-          tell);
+          added.told);
     }
 
 pub loop-round-smaller : goal.loop-round-smaller
 loop-round-smaller g c =
     let at = (goal.at.loop-round-smaller g c).After-close-some in
-    let any = some-told g at in
     some-closed c.args.board.now c.pebbles.ensures.is_board (some g at) c.loop-round.round (old g at) (new g at)
     c.loop-round.closed.items (low g at) c.loop-round.invariant.at (passed g at)
-    (any.0 (let no_none = c.if-not-some.false in cc))
+    ((some-told g at).0 c.if-not-some.false)
 
 pub loop-round-preserved : goal.loop-round-preserved
 loop-round-preserved g c =
     let at = (goal.at.loop-round-preserved g c).After-close-some in
     let b = c.args.board.now in
-    let any = some-told g at in
-    let tell = sets-told g at _ _ _ (c.deref-in-loop-round.ensures.value
-    ∙ take_at c.close-some.new.told (drop (length c.close-some.new.told) c.loop-round.tables.items)
-    c.loop-round.tables.len
-    (c.close-some.auto.told ∙ c.deref_mut-in-loop-round.ensures.len)) c.deref_mut-in-loop-round-2.ensures.value
-    c.add.ensures in
+    let added = is-added g at _ _ c.add.new.sets c.deref-in-loop-round.ensures.value
+    c.deref_mut-in-loop-round-2.ensures.value c.deref_mut-in-loop-round-2.ensures.len c.add.ensures in
     let so_far = c.loop-round.invariant.told in
     let tells = g.W.Watch.tells c.args.watch.now in
     let opened : ℕ = open_below (new g at) (length (new g at)) in
     let next : c.loop-round.round + 1 ≡ 1 + length so_far.0 = omega (arith, so_far.1.size) in
     record {
       at = subst (λ (l : List (List ℕ)). IsAtRound b (c.loop-round.round + 1) (new g at) l)
-          (sym (take_at c.add.new.sets
-          (drop (length c.add.new.sets) c.loop-round.closed.items)
-          c.loop-round.closed.len (c.add.auto.sets ∙ c.deref_mut-in-loop-round-2.ensures.len)))
+          (sym added.kept)
           (next-round b c.pebbles.ensures.is_board (some g at) c.loop-round.round (old g at) (new g at)
           c.loop-round.closed.items (low g at) c.loop-round.invariant.at (passed g at) c.add.new.sets
-          (any.0 (let no_none = c.if-not-some.false in cc)) tell);
-      tables = ap length (take_at c.close-some.new.told (drop (length c.close-some.new.told) c.loop-round.tables.items)
-          c.loop-round.tables.len (c.close-some.auto.told ∙ c.deref_mut-in-loop-round.ensures.len))
-          ∙ c.close-some.auto.told ∙ ap length c.deref_mut-in-loop-round.ensures.value ∙ c.loop-round.invariant.tables;
+          ((some-told g at).0 c.if-not-some.false) added.told);
+      tables = ap length (told-is g at) ∙ c.close-some.auto.told
+          ∙ ap length c.deref_mut-in-loop-round.ensures.value ∙ c.loop-round.invariant.tables;
       none = λ begun. absurd (omega (arith, begun));
-      first = λ some_round. first-told g at c.if-round-eq0.first.items c.add.new.sets tell
-          (elim c.if-round-eq0.branch [
-            | then-round-eq0+in_ok-extend_from_slice w ↦ inl (
-              w.if-round-eq0.true,
-              ap (λ v. v.items) w.first-is ∙ w.in_ok-extend_from_slice.ensures.items
-                  ∙ ap (λ (l : List (List ℕ)). l ++ w.deref-then-round-eq0.result.now)
-                  (c.loop-round.invariant.none w.if-round-eq0.true)
-                  ∙ w.deref-then-round-eq0.ensures.value
-                  ∙ take_at c.add.new.sets
-                  (drop (length c.add.new.sets) c.loop-round.closed.items)
-                  c.loop-round.closed.len (c.add.auto.sets ∙ c.deref_mut-in-loop-round-2.ensures.len),
-            )
-            | else-round-eq0 w ↦ inr (w.if-round-eq0.false, ap (λ v. v.items) w.first-is)
-          ]);
+      first = λ some_round. elim c.if-round-eq0.branch [
+        | then-round-eq0+in_ok-extend_from_slice w ↦ first-begun g at c.if-round-eq0.first.items _
+            c.add.new.sets added w.if-round-eq0.true
+            (ap (λ v. v.items) w.first-is ∙ w.in_ok-extend_from_slice.ensures.items)
+            w.deref-then-round-eq0.ensures.value
+        | else-round-eq0 w ↦ first-later g at c.if-round-eq0.first.items w.if-round-eq0.false
+            (ap (λ v. v.items) w.first-is)
+      ];
       told = (
         so_far.0 ++ opened ∷ [],
         one-more b c.pebbles.ensures.is_board (some g at) c.loop-round.round (old g at) (new g at)
             c.loop-round.closed.items (low g at) c.loop-round.invariant.at (passed g at) so_far.0 so_far.1
-            (any.0 (let no_none = c.if-not-some.false in cc)),
+            ((some-told g at).0 c.if-not-some.false),
         told_more tells 1 so_far.0 opened c.args.told.now c.loop-round.told c.tell_open.new.told so_far.2
             (subst (λ k. tells c.loop-round.told c.tell_open.new.told k opened) next
             (subst (λ (l : List ℕ). tells c.loop-round.told c.tell_open.new.told (c.loop-round.round + 1)
@@ -331,14 +315,10 @@ pub returns-then-not-some-clause-told : goal.returns-then-not-some-clause-told
 returns-then-not-some-clause-told g c =
     let at = (goal.at.returns-then-not-some-clause-told g c).After-close-some in
     let b = c.args.board.now in
-    let any = some-told g at in
     let so_far = c.loop-round.invariant.told in (
       so_far.0,
       all-rounds b c.pebbles.ensures.is_board (some g at) c.loop-round.round (old g at) (new g at)
           c.loop-round.closed.items (low g at) c.loop-round.invariant.at (passed g at) so_far.0 so_far.1
-          (λ n n_low closed.
-          let yes = any.1 (n, n_low, closed) in
-          let no_one = c.if-not-some.true in
-          let bad : ⊥ = cc in bad),
+          (none-closed g at c.if-not-some.true),
       so_far.2,
     )

@@ -24,7 +24,7 @@ module _ (g : Over) (c : In-loop-index g) where
   least = c.args.first + c.loop-index.index - c.args.family.now.start
 
   one : suc (c.args.self.now.board.now.pebbles - 2) ≡ c.args.self.now.board.now.pebbles - 1
-  one = let some = c.requires.closing.some in omega arith
+  one = let some = c.requires.closing.can.some in omega arith
 
   at-least : c.args.family.now.start + least ≡ c.args.first + c.loop-index.index
   at-least = omega (arith, c.requires.from, c.loop-index.auto.index)
@@ -63,7 +63,7 @@ is_shut-requires g c =
     let b = c.args.self.now.board.now in
     let sets = c.args.self.now.sets.now in
     let f = c.args.family.now in
-    let inside : f.number < length sets = omega (arith, c.requires.family.inside, c.requires.closing.sets) in
+    let inside : f.number < length sets = omega (arith, c.requires.family.inside, c.requires.closing.can.each_list) in
     let common = common-is b c.requires.family.is_board sets f.held f.number c.answer_set.result
     (get_or sets f.number c.index-self-family.result) c.without-common.result
     (subst (λ (l : List ℕ). (x : ℕ) → x < MAX_LABELS → (has_bit c.answer_set.result x ≡ true) ↔ AnswersGap b l x)
@@ -72,16 +72,16 @@ is_shut-requires g c =
     ∙ get_or_read sets f.number c.index-self-family.result inside c.index-self-family.is []) in (
       omega arith,
       (
-        c.requires.closing.narrow,
+        c.requires.closing.can.narrow,
         (
-          c.requires.closing.some,
+          c.requires.closing.can.some,
           (
             c.requires.family,
             (
               common,
               (
                 low g at,
-                c.requires.closing.sets,
+                c.requires.closing.can.each_list,
               ),
             ),
           ),
@@ -99,7 +99,7 @@ module _ (g : Over) (c : In-loop-index g) where
       → ArePassed c.args.self.now.board.now c.args.self.now.sets.now c.args.self.now.round c.args.first c.args.from
       (c.loop-index.index + 1) c.args.part.now words
   more-passed opened shut =
-      passed-shut c.args.self.now.board.now c.args.self.now.sets.now c.args.self.now.round c.requires.closing.round
+      passed-shut c.args.self.now.board.now c.args.self.now.sets.now c.args.self.now.round c.requires.closing.can.is_round
       c.args.first c.args.from c.loop-index.index c.args.part.now c.loop-index.part c.loop-index.auto.index
       (omega (arith, c.loop-index.auto.part, c.loop-index-test.true, c.requires.part)) opened
       (subst (IsShut c.args.self.now.board.now c.args.self.now.sets.now) (sym (gap g c)) shut)
@@ -120,15 +120,15 @@ module _ (g : Over) (c : In-loop-index g) where
       let number : number_by_greatest member ≡ first + c.loop-index.index =
       member-number b (b.pebbles - 2) c.args.family.now c.requires.family (least g c) (low g c) ∙ at-least g c in
       let other : get_or c.loop-index.part c.loop-index.index 0 ≢ round =
-      λ same. (let round_low = c.requires.closing.round in omega (arith, opened, same)) in
-      sets-same b c.requires.family.is_board c.requires.closing.some
+      λ same. (let round_low = c.requires.closing.can.is_round in omega (arith, opened, same)) in
+      sets-same b c.requires.family.is_board c.requires.closing.can.some
       (λ n. IsOfRound round first c.loop-index.part n ⊎ (n ≡ number_by_greatest member))
       (IsOfRound round first words) new
       (λ n n_low. subst (λ k. (IsOfRound round first c.loop-index.part n ⊎ (n ≡ k)) ↔ IsOfRound round first words n)
       (sym number)
       (round-more round first c.loop-index.index c.loop-index.part
       (omega (arith, c.loop-index.auto.part, c.loop-index-test.true, c.requires.part)) other n))
-      (sets-gap b c.requires.family.is_board c.requires.closing.some (IsOfRound round first c.loop-index.part)
+      (sets-gap b c.requires.family.is_board c.requires.closing.can.some (IsOfRound round first c.loop-index.part)
       (b.pebbles - 1) member c.loop-index.told new member_is (sym member_is.size) c.loop-index.invariant.told told)
 
 pub tell_gap-requires : goal.tell_gap-requires
@@ -136,9 +136,9 @@ tell_gap-requires g c =
     let at = (goal.at.tell_gap-requires g c).In-loop-index in (
       omega arith,
       (
-        c.requires.closing.fits,
+        c.requires.closing.can.fits,
         (
-          c.requires.closing.some,
+          c.requires.closing.can.some,
           (
             c.requires.family,
             (
@@ -161,7 +161,7 @@ loop-index-preserved g c =
         told = more-told g at w.tell_gap.new.sets w.if-part-index.true w.tell_gap.ensures;
       }
       | else-part-index w ↦ rw (w.part-is, w.told-is) record {
-        passed = passed-kept b sets c.args.self.now.round c.requires.closing.round c.args.first c.args.from
+        passed = passed-kept b sets c.args.self.now.round c.requires.closing.can.is_round c.args.first c.args.from
             c.loop-index.index c.args.part.now c.loop-index.part
             (elim w.else-part-index.branch [
               | else-part-index-via-then-part-index+else-is_shut v ↦ λ opened shut.

@@ -1,13 +1,15 @@
 use Rattle.std.proofs.Common.{◌≡◌, ◌∙◌, ◌+◌, ◌-◌, ◌<◌, ◌≤◌, ℕ, min, suc, length, replicate, sym, ap, subst, arith}
-use Rattle.std.proofs.Common.{rules, inl, inr}
+use Rattle.std.proofs.Common.{rules, inl, inr, Bool, false, IsTrue, List, ◌↔◌}
 use Rattle.std.proofs.lemmas.Bool.{cases_lt}
 use Rattle.board_text.specs.PlainBoard.{PlainBoard, places}
 use Rattle.classes.specs.Families.{least_places}
 use Rattle.classes.specs.Numbers.{ways, class_with}
 use Rattle.classes.proofs.Cited.{ways-fit}
 use Rattle.classes.specs.FamilyWalks.{IsAtFamily}
-use Rattle.gap_values.specs.Inside.Sets.{ArePassed, AreSetsOf, IsOfRound}
+use Rattle.gap_values.specs.Inside.Closing.{IsPartClosed}
+use Rattle.gap_values.specs.Inside.Sets.{ArePassed, AreSets, AreSetsOf, HasRound, IsOfRound}
 use Rattle.gap_values.proofs.ClosingSteps.{passed-join, passed-none, passed-over}
+use Rattle.gap_values.proofs.TableSteps.{tables-one}
 use Rattle.gap_values.proofs.TellingSteps.{round-none, sets-none}
 use Rattle.classes.proofs.Cited.{next-start, size-of, walk-all, walk-of}
 use Rattle.classes.proofs.Cited.{walk-within}
@@ -21,21 +23,35 @@ none-told : (g : Over) (c : After-fill g)
     → AreSetsOf c.args.self.now.board.now (IsOfRound c.args.self.now.round c.args.first c.args.part.now) c.fill.new.self
 none-told g c =
     let b = c.args.self.now.board.now in
+    let many : AreSets b c.args.told.now = omega (arith, c.requires.part.many) in
     sets-none b c.requires.closing.is_board (IsOfRound c.args.self.now.round c.args.first c.args.part.now)
     c.below.result c.fill.new.self
-    (c.fill.ensures.after (λ y e. e) ∙ ap (λ n. replicate n c.below.result) c.requires.told) c.below.ensures
-    (round-none c.args.self.now.round c.args.first c.args.part.now c.requires.fresh)
+    (c.fill.ensures.after (λ y e. e) ∙ ap (λ n. replicate n c.below.result) many) c.below.ensures
+    (round-none c.args.self.now.round c.args.first c.args.part.now c.requires.part.fresh)
 
-pub returns-then-is_empty-clause-passed : goal.returns-then-is_empty-clause-passed
-returns-then-is_empty-clause-passed g c =
+-- all gaps of the part are passed, and the sets are one table
+all-closed : (g : Over) (c : After-fill g) (new : List ℕ) (told : List (List ℕ)) (answer : Bool)
+    → ArePassed c.args.self.now.board.now c.args.self.now.sets.now c.args.self.now.round c.args.first 0
+    (length c.args.part.now) c.args.part.now new
+    → AreSetsOf c.args.self.now.board.now (IsOfRound c.args.self.now.round c.args.first new) told
+    → IsTrue answer ↔ HasRound c.args.self.now.round new
+    → IsPartClosed c.args.self.now.board.now c.args.self.now.sets.now c.args.self.now.round c.args.first 1
+    c.args.part.now new told answer
+all-closed g c new told answer passed are some = record {
+  passed = passed;
+  tell = tables-one c.args.self.now.board.now (IsOfRound c.args.self.now.round c.args.first new) told are;
+  some = some;
+}
+
+pub returns-then-is_empty : goal.returns-then-is_empty
+returns-then-is_empty g c =
     let none : length c.args.part.now ≡ 0 = search rules in
-    subst (λ n. ArePassed c.args.self.now.board.now c.args.self.now.sets.now c.args.self.now.round c.args.first 0 n
+    all-closed g (goal.at.returns-then-is_empty g c).After-fill c.args.part.now c.fill.new.self false
+    (subst (λ n. ArePassed c.args.self.now.board.now c.args.self.now.sets.now c.args.self.now.round c.args.first 0 n
     c.args.part.now c.args.part.now) (sym none)
-    (passed-none c.args.self.now.board.now c.args.self.now.sets.now c.args.self.now.round c.requires.closing.round
-    c.args.first 0 c.args.part.now)
-
-pub returns-then-is_empty-clause-told : goal.returns-then-is_empty-clause-told
-returns-then-is_empty-clause-told g c = none-told g (goal.at.returns-then-is_empty-clause-told g c).After-fill
+    (passed-none c.args.self.now.board.now c.args.self.now.sets.now c.args.self.now.round c.requires.closing.can.is_round
+    c.args.first 0 c.args.part.now))
+    (none-told g (goal.at.returns-then-is_empty g c).After-fill) (search rules)
 
 pub loop-walk-init : goal.loop-walk-init
 loop-walk-init g c =
@@ -50,7 +66,7 @@ loop-walk-init g c =
       passed =
           subst (λ n. ArePassed b c.args.self.now.sets.now c.args.self.now.round c.args.first 0 n c.args.part.now
           c.args.part.now)
-          (sym none) (passed-none b c.args.self.now.sets.now c.args.self.now.round c.requires.closing.round
+          (sym none) (passed-none b c.args.self.now.sets.now c.args.self.now.round c.requires.closing.can.is_round
           c.args.first 0 c.args.part.now);
       told = none-told g (goal.at.loop-walk-init g c).After-fill;
     }
@@ -60,10 +76,10 @@ module _ (g : Over) (c : After-family_size-size g) where
   b = c.args.self.now.board.now
 
   one : suc (b.pebbles - 2) ≡ b.pebbles - 1
-  one = let some = c.requires.closing.some in omega arith
+  one = let some = c.requires.closing.can.some in omega arith
 
   at : IsAtFamily b (b.pebbles - 2) c.loop-walk.number c.loop-walk.walk
-  at = walk-of c.args.self.now.numbers.now b c.loop-walk.walk.count (b.pebbles - 2) c.requires.closing.numbers
+  at = walk-of c.args.self.now.numbers.now b c.loop-walk.walk.count (b.pebbles - 2) c.requires.closing.can.same_board
       c.loop-walk.invariant.count c.loop-walk.number c.loop-walk.walk c.loop-walk.invariant.walk
 
   -- the walk isn't behind all families, since its gaps begin before the part's end
@@ -72,12 +88,12 @@ module _ (g : Over) (c : After-family_size-size g) where
     | inl before ↦ before
     | inr past ↦
         let end = walk-all b (b.pebbles - 2) c.loop-walk.number (b.pebbles - 1) c.loop-walk.walk past one at in
-        absurd (omega (arith, end, c.loop-walk-test.true, c.loop-walk.auto.part, c.requires.part))
+        absurd (omega (arith, end, c.loop-walk-test.true, c.loop-walk.auto.part, c.requires.part.gaps))
   ]
 
   size_is : c.family_size-size.result
       ≡ least_places (places b) (class_with (places b) (b.pebbles - 2) c.loop-walk.number)
-  size_is = size-of c.args.self.now.numbers.now b c.loop-walk.walk.count (b.pebbles - 2) c.requires.closing.numbers
+  size_is = size-of c.args.self.now.numbers.now b c.loop-walk.walk.count (b.pebbles - 2) c.requires.closing.can.same_board
       c.loop-walk.invariant.count c.loop-walk.number c.family_size-size.result c.family_size-size.ensures
 
   within : c.loop-walk.walk.start + c.family_size-size.result ≤ ways (b.pebbles - 1) (places b)
@@ -89,7 +105,7 @@ overflow_add-first g c =
     let b = c.args.self.now.board.now in
     let most = ways-fit b (b.pebbles - 1) (places b) c.requires.closing.is_board (omega arith) (omega arith) in
     let few : c.args.first + length c.loop-walk.part ≤ 288136807515649 =
-    omega (arith, c.requires.part, c.loop-walk.auto.part, most) in
+    omega (arith, c.requires.part.gaps, c.loop-walk.auto.part, most) in
     search (rules, few)
 
 pub overflow_add-start : goal.overflow_add-start
@@ -132,7 +148,7 @@ loop-walk-preserved g c =
     let walk = c.loop-walk.walk in
     let new = c.next_family.new.walk in
     let next = walk-of c.args.self.now.numbers.now b walk.count
-    (b.pebbles - 2) c.requires.closing.numbers c.loop-walk.invariant.count
+    (b.pebbles - 2) c.requires.closing.can.same_board c.loop-walk.invariant.count
     (number + 1) new c.next_family.ensures.walk in
     let start : new.start ≡ walk.start + c.family_size-size.result =
     next-start b (b.pebbles - 2) number c.family_size-size.result walk (low g here) (at g here) (size_is g here) new
@@ -151,7 +167,7 @@ loop-walk-preserved g c =
         walk = walk_is;
         count = count_is;
         passed = subst (λ n. ArePassed b sets round first 0 n c.args.part.now w.close_family.new.part) end
-            (passed-join b sets round c.requires.closing.round first 0 from to c.args.part.now c.loop-walk.part
+            (passed-join b sets round c.requires.closing.can.is_round first 0 from to c.args.part.now c.loop-walk.part
             w.close_family.new.part (omega arith) (order g ends) was w.close_family.ensures.passed);
         told = w.close_family.ensures.told;
       }
@@ -159,9 +175,9 @@ loop-walk-preserved g c =
         walk = walk_is;
         count = count_is;
         passed = subst (λ n. ArePassed b sets round first 0 n c.args.part.now c.loop-walk.part) end
-            (passed-join b sets round c.requires.closing.round first 0 from to c.args.part.now c.loop-walk.part
+            (passed-join b sets round c.requires.closing.can.is_round first 0 from to c.args.part.now c.loop-walk.part
             c.loop-walk.part (omega arith) (order g ends) was
-            (passed-over b sets round c.requires.closing.round first from to c.loop-walk.part
+            (passed-over b sets round c.requires.closing.can.is_round first from to c.loop-walk.part
             (λ index least under opened.
             let yes = c.is_among.ensures.1 (index, least, under, opened) in
             let no_one = w.if-is_among.false in
@@ -169,3 +185,12 @@ loop-walk-preserved g c =
         told = c.loop-walk.invariant.told;
       }
     ]
+
+pub returns : goal.returns
+returns g c =
+    let all : min (c.loop-walk.walk.start - c.args.first) (length c.args.part.now) ≡ length c.args.part.now =
+    omega (arith, c.loop-walk-test.false, c.loop-walk.auto.part) in
+    all-closed g (goal.at.returns g c).After-fill c.loop-walk.part c.loop-walk.told c.is_among-2.result
+    (subst (λ n. ArePassed c.args.self.now.board.now c.args.self.now.sets.now c.args.self.now.round c.args.first 0 n
+    c.args.part.now c.loop-walk.part) all c.loop-walk.invariant.passed)
+    c.loop-walk.invariant.told (search rules)
