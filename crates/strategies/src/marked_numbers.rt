@@ -18,12 +18,12 @@ use std::marker::Model;
 pub(crate) struct MarkedNumbers {
     marks: Marks,
     left: Marks,
-    /// The number from which the next one is looked for: one of those near to the one that was
-    /// taken last.
+    /// The first number near to the one that was taken last, from which the next one is looked for.
     next: u32,
 }
 
-/// Numbers are near that differ in what is left by this one. They have one word of marks.
+/// Numbers are near to one another if they have the same quotient by this one: their marks are in
+/// one word.
 const NEAR: u32 = 64;
 
 impl Model for MarkedNumbers {
