@@ -1,7 +1,7 @@
 -- Lists as parts of one list.
-use Rattle.std.proofs.Common.{◌≡◌, ◌≢◌, ℕ, ◌+◌, ◌-◌, ◌<◌, ◌≤◌, ◌==◌, inl, inr, cond, if◌then◌else◌, zero, suc, List, [], subst}
+use Rattle.std.proofs.Common.{◌≡◌, ◌≢◌, ℕ, ◌+◌, ◌-◌, ◌<◌, ◌≤◌, ◌==◌, inl, inr, cond, if◌then◌else◌, zero, suc, List, []}
 use Rattle.std.proofs.Common.{◌∷◌, ◌++◌, length, map, take, drop, replicate, refl, sym, ap, ◌∙◌, arith, add-one}
-use Rattle.std.proofs.Common.{length-append, slice_get, slice_set, get_or, Some}
+use Rattle.std.proofs.Common.{length-append, slice_get, slice_set, get_or, Some, subst}
 use Rattle.std.specs.Prelude.{sum}
 use Rattle.std.specs.List.{concat, insert, remove}
 use Rattle.std.proofs.lemmas.Bool.{cases_eq, cases_lt}
@@ -444,15 +444,21 @@ module _ {n l : ℕ} {lens nodes : List ℕ} {to node : ℕ} {lens' : List ℕ}
 
   list-plain : ArePlain (record { nodes = n; lists = l; parts = with_list })
   list-plain = plain-begun _ push.plain (to + 1 - length lens)
-      (let e = sym (length-map (parts_of lens nodes) length) ∙ ap length push.lens_are in let short = push.plain.short in
+      (let e = sym (length-map (parts_of lens nodes) length) ∙ ap length push.lens_are in
+      let short = push.plain.short in
       omega (arith, e, short, push.to_in))
 
   list-free : IsFree (lists_of_parts (record { nodes = n; lists = l; parts = with_list })) node
   list-free =
-      record { free = λ m. ap (times node) (begun-part (to + 1 - length lens) m (parts_of lens nodes)) ∙ push.free.free m }
+      record {
+        free = λ m. ap (times node) (begun-part (to + 1 - length lens) m (parts_of lens nodes)) ∙ push.free.free m;
+      }
 
   pub list-room : length nodes < n
-  list-room = (let low = plain-room _ push.plain node push.node_in push.free in let w = ap length push.nodes_are in omega (arith, low, w))
+  list-room =
+      let low = plain-room _ push.plain node push.node_in push.free in
+      let w = ap length push.nodes_are in
+      omega (arith, low, w)
 
   -- a part has fewer nodes than there are
   pub list-small : (len d : ℕ) → len ≡ get_or lens' to d → len < n
