@@ -1,7 +1,7 @@
 -- Lists as parts of one list.
 use Rattle.std.proofs.Common.{◌≡◌, ◌≢◌, ℕ, ◌+◌, ◌-◌, ◌<◌, ◌≤◌, ◌==◌, inl, inr, cond, if◌then◌else◌, zero, suc, List, []}
 use Rattle.std.proofs.Common.{◌∷◌, ◌++◌, length, map, take, drop, replicate, refl, sym, ap, ◌∙◌, arith, add-one}
-use Rattle.std.proofs.Common.{length-append, slice_get, slice_set, get_or, Some}
+use Rattle.std.proofs.Common.{length-append, slice_get, slice_set, get_or, Some, subst}
 use Rattle.std.specs.Prelude.{sum}
 use Rattle.std.specs.List.{concat, insert, remove}
 use Rattle.std.proofs.lemmas.Bool.{cases_eq, cases_lt}
@@ -384,22 +384,43 @@ module _ (p : PlainParts) (s : ArePlain p) where
 
 -- ---- a push, whole
 
-module _ (n l : ℕ) {room slots : ℕ} {lens nodes : List ℕ}
-    (s : ArePlain (record { nodes = n; lists = l; parts = parts_of lens nodes }))
-    (c : AreCut n l room slots lens nodes) (to node : ℕ) (to_in : to < l) (node_in : node < n)
-    (free : IsFree (lists_of_parts (record { nodes = n; lists = l; parts = parts_of lens nodes })) node)
-    (lens' : List ℕ)
-    (begun : lens' ≡ lens ++ replicate (to + 1 - length lens) 0) where
+-- a node that is in no list, and a list to which it is pushed, which has a length among these now
+pub record IsToPush (n l : ℕ) (lens nodes : List ℕ) (to node : ℕ) (lens' : List ℕ) : Type 0 where
+  pub plain : ArePlain (record { nodes = n; lists = l; parts = parts_of lens nodes })
+  pub lens_are : map length (parts_of lens nodes) ≡ lens
+  pub nodes_are : concat (parts_of lens nodes) ≡ nodes
+  pub to_in : to < l
+  pub node_in : node < n
+  pub free : IsFree (lists_of_parts (record { nodes = n; lists = l; parts = parts_of lens nodes })) node
+  pub begun : lens' ≡ lens ++ replicate (to + 1 - length lens) 0
+
+pub to-push : (n l room slots : ℕ) (lens nodes : List ℕ) (to node : ℕ) (lens' : List ℕ) (state : PlainParts)
+    → record { nodes = n; lists = l; parts = parts_of lens nodes } ≡ state
+    → ArePlain (record { nodes = n; lists = l; parts = parts_of lens nodes }) → AreCut n l room slots lens nodes
+    → to < state.lists → node < state.nodes → IsFree (lists_of_parts state) node
+    → lens' ≡ lens ++ replicate (to + 1 - length lens) 0 → IsToPush n l lens nodes to node lens'
+to-push n l room slots lens nodes to node lens' state same plain are to_in node_in free begun = record {
+  plain = plain;
+  lens_are = are.lens_are;
+  nodes_are = are.nodes_are;
+  to_in = rw (ap (λ (p : PlainParts). p.lists) same) to_in;
+  node_in = rw (ap (λ (p : PlainParts). p.nodes) same) node_in;
+  free = subst (λ (p : PlainParts). IsFree (lists_of_parts p) node) (sym same) free;
+  begun = begun;
+}
+
+module _ {n l : ℕ} {lens nodes : List ℕ} {to node : ℕ} {lens' : List ℕ}
+    (push : IsToPush n l lens nodes to node lens') where
   -- the parts with one for the list
   abbrev pub with_list : List (List ℕ)
   with_list = parts_of lens nodes ++ replicate (to + 1 - length lens) []
 
   list-lens : lens' ≡ map length with_list
-  list-lens = begun ∙ ap (λ ns. ns ++ replicate (to + 1 - length lens) 0) (sym c.lens_are)
+  list-lens = push.begun ∙ ap (λ ns. ns ++ replicate (to + 1 - length lens) 0) (sym push.lens_are)
       ∙ sym (begun-lens (to + 1 - length lens) (parts_of lens nodes))
 
   list-nodes : nodes ≡ concat with_list
-  list-nodes = sym c.nodes_are ∙ sym (begun-concat (to + 1 - length lens) (parts_of lens nodes))
+  list-nodes = sym push.nodes_are ∙ sym (begun-concat (to + 1 - length lens) (parts_of lens nodes))
 
   list-parts : parts_of lens' nodes ≡ with_list
   list-parts = cut lens' nodes with_list list-lens list-nodes
@@ -412,7 +433,7 @@ module _ (n l : ℕ) {room slots : ℕ} {lens nodes : List ℕ}
       let none : List ℕ = [] in
       let a = length-append (parts_of lens nodes) (replicate (to + 1 - length lens) none) in
       let b = length-replicate (to + 1 - length lens) none in
-      let e = sym (length-map (parts_of lens nodes) length) ∙ ap length c.lens_are in
+      let e = sym (length-map (parts_of lens nodes) length) ∙ ap length push.lens_are in
       omega (arith, a, b, e)
 
   list-in : to < length with_list
@@ -422,16 +443,22 @@ module _ (n l : ℕ) {room slots : ℕ} {lens nodes : List ℕ}
   list-begun = (let e = ap length list-lens ∙ length-map with_list length in let h = list-in in omega (arith, e, h))
 
   list-plain : ArePlain (record { nodes = n; lists = l; parts = with_list })
-  list-plain = plain-begun _ s (to + 1 - length lens)
-      (let e = sym (length-map (parts_of lens nodes) length) ∙ ap length c.lens_are in let short = s.short in
-      omega (arith, e, short, to_in))
+  list-plain = plain-begun _ push.plain (to + 1 - length lens)
+      (let e = sym (length-map (parts_of lens nodes) length) ∙ ap length push.lens_are in
+      let short = push.plain.short in
+      omega (arith, e, short, push.to_in))
 
   list-free : IsFree (lists_of_parts (record { nodes = n; lists = l; parts = with_list })) node
   list-free =
-      record { free = λ m. ap (times node) (begun-part (to + 1 - length lens) m (parts_of lens nodes)) ∙ free.free m }
+      record {
+        free = λ m. ap (times node) (begun-part (to + 1 - length lens) m (parts_of lens nodes)) ∙ push.free.free m;
+      }
 
   pub list-room : length nodes < n
-  list-room = (let low = plain-room _ s node node_in free in let w = ap length c.nodes_are in omega (arith, low, w))
+  list-room =
+      let low = plain-room _ push.plain node push.node_in push.free in
+      let w = ap length push.nodes_are in
+      omega (arith, low, w)
 
   -- a part has fewer nodes than there are
   pub list-small : (len d : ℕ) → len ≡ get_or lens' to d → len < n
@@ -472,7 +499,7 @@ module _ (n l : ℕ) {room slots : ℕ} {lens nodes : List ℕ}
 
     pub pushed-plain : ArePlain
         (record { nodes = n; lists = l; parts = parts_of (slice_set lens' to (len + 1)) nodes' })
-    pushed-plain = rw pushed-parts (plain-push _ list-plain to node list-in node_in list-free)
+    pushed-plain = rw pushed-parts (plain-push _ list-plain to node list-in push.node_in list-free)
 
     pub pushed-list : (m : ℕ) → part (parts_of (slice_set lens' to (len + 1)) nodes') m
         ≡ (if m == to then part (parts_of lens nodes) m ++ node ∷ [] else part (parts_of lens nodes) m)

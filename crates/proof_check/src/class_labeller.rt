@@ -56,7 +56,8 @@ fn answer_fault(
         (MeetsRequest (positions_for checker.now) checker.now.board.now
         (document_of checker.now).labeller (class_answer_row checker.now.board.now row.now) pebble)
         (IsWrongAt (refusals_for checker.now) checker.now.board.now
-        (document_of checker.now).labeller (class_answer_row checker.now.board.now row.now) pebble) }
+        (document_of checker.now).labeller (class_answer_row checker.now.board.now row.now)
+        pebble) }
 {
     let board = checker.board;
     let pebbles = board.pebbles() as usize;

@@ -1,11 +1,13 @@
 -- What gaps are closed by in a round, and a part of them before and after it.
-use Rattle.std.specs.Prelude.{◌≡◌, ◌↔◌, ◌+◌, ◌-◌, ◌*◌, ◌<◌, ◌≤◌, ℕ, Bool, true, IsTrue, List, length}
+use Rattle.std.specs.Prelude.{◌≡◌, ◌↔◌, ◌+◌, ◌-◌, ◌*◌, ◌<◌, ◌≤◌, ℕ, Bool, true, IsTrue}
+use Rattle.std.specs.Prelude.{List, length}
 use Rattle.board_text.specs.Domination.{has_bit}
 use Rattle.board_text.specs.PlainBoard.{PlainBoard, IsBoard, places}
 use Rattle.board_text.specs.declared.board.TheConstants.{MAX_LABELS}
 use Rattle.board_text.specs.declared.domination.TheConstants.{ROW_WORDS}
 use Rattle.classes.specs.Numbers.{ways}
-use Rattle.gap_values.specs.Inside.Sets.{AreSets, AreFresh, ArePassed, AreTablesOf, HasRound, IsOfRound}
+use Rattle.gap_values.specs.Inside.Sets.{AreSets, AreFresh, ArePassed, AreTablesOf}
+use Rattle.gap_values.specs.Inside.Sets.{HasRound, IsOfRound}
 use Rattle.gap_values.specs.declared.closing.Closing.{Closing}
 use Rattle.gap_values.specs.declared.closing.TheConstants.{OPEN}
 

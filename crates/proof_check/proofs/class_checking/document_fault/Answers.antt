@@ -13,11 +13,19 @@ use Rattle.proof_check.proofs.class_checking.document_fault.Goals as goal
 
 pub first_fault-requires-after_bounds : goal.first_fault-requires-after_bounds
 first_fault-requires-after_bounds g c = λ lifetimes lives. rw c.deref.ensures.value
-    (answering _ (record { document = c.requires.document; numbers_are = c.requires.numbers; same_labels = c.requires.alike }))
+    (answering _ (record {
+      document = c.requires.document;
+      numbers_are = c.requires.numbers;
+      same_labels = c.requires.alike;
+    }))
 
 pub first_fault-requires-2-after_bounds : goal.first_fault-requires-2-after_bounds
 first_fault-requires-2-after_bounds g c = λ lifetimes lives. rw c.deref-2.ensures.value
-    (requesting _ (record { document = c.requires.document; numbers_are = c.requires.numbers; same_labels = c.requires.alike }))
+    (requesting _ (record {
+      document = c.requires.document;
+      numbers_are = c.requires.numbers;
+      same_labels = c.requires.alike;
+    }))
 
 pub returns-in-Some-first_fault-clause-fault : goal.returns-in-Some-first_fault-clause-fault
 returns-in-Some-first_fault-clause-fault g c =

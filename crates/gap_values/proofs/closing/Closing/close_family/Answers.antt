@@ -99,7 +99,8 @@ module _ (g : Over) (c : In-loop-index g) where
       → ArePassed c.args.self.now.board.now c.args.self.now.sets.now c.args.self.now.round c.args.first c.args.from
       (c.loop-index.index + 1) c.args.part.now words
   more-passed opened shut =
-      passed-shut c.args.self.now.board.now c.args.self.now.sets.now c.args.self.now.round c.requires.closing.can.is_round
+      passed-shut c.args.self.now.board.now c.args.self.now.sets.now c.args.self.now.round
+      c.requires.closing.can.is_round
       c.args.first c.args.from c.loop-index.index c.args.part.now c.loop-index.part c.loop-index.auto.index
       (omega (arith, c.loop-index.auto.part, c.loop-index-test.true, c.requires.part)) opened
       (subst (IsShut c.args.self.now.board.now c.args.self.now.sets.now) (sym (gap g c)) shut)

@@ -49,8 +49,8 @@ returns-then-is_empty g c =
     all-closed g (goal.at.returns-then-is_empty g c).After-fill c.args.part.now c.fill.new.self false
     (subst (λ n. ArePassed c.args.self.now.board.now c.args.self.now.sets.now c.args.self.now.round c.args.first 0 n
     c.args.part.now c.args.part.now) (sym none)
-    (passed-none c.args.self.now.board.now c.args.self.now.sets.now c.args.self.now.round c.requires.closing.can.is_round
-    c.args.first 0 c.args.part.now))
+    (passed-none c.args.self.now.board.now c.args.self.now.sets.now c.args.self.now.round
+    c.requires.closing.can.is_round c.args.first 0 c.args.part.now))
     (none-told g (goal.at.returns-then-is_empty g c).After-fill) (search rules)
 
 pub loop-walk-init : goal.loop-walk-init
@@ -93,8 +93,9 @@ module _ (g : Over) (c : After-family_size-size g) where
 
   size_is : c.family_size-size.result
       ≡ least_places (places b) (class_with (places b) (b.pebbles - 2) c.loop-walk.number)
-  size_is = size-of c.args.self.now.numbers.now b c.loop-walk.walk.count (b.pebbles - 2) c.requires.closing.can.same_board
-      c.loop-walk.invariant.count c.loop-walk.number c.family_size-size.result c.family_size-size.ensures
+  size_is = size-of c.args.self.now.numbers.now b c.loop-walk.walk.count (b.pebbles - 2)
+      c.requires.closing.can.same_board c.loop-walk.invariant.count c.loop-walk.number
+      c.family_size-size.result c.family_size-size.ensures
 
   within : c.loop-walk.walk.start + c.family_size-size.result ≤ ways (b.pebbles - 1) (places b)
   within = subst (λ n. c.loop-walk.walk.start + c.family_size-size.result ≤ ways n (places b)) one
