@@ -4,7 +4,7 @@ ghost use Rattle.std.specs.Prelude.{◌≡◌, ◌*◌, ◌-◌, ◌≤◌, ℕ,
 ghost use Rattle.board_text.specs.PlainBoard.{places};
 ghost use Rattle.classes.specs.Numbers.{ways};
 ghost use Rattle.console.specs.Watching.{AreStepsTold};
-ghost use Rattle.gap_values.specs.Inside.Closing.{CanClose, IsPart, IsPartClosed};
+ghost use Rattle.gap_values.specs.Inside.Closing.{CanClose, MayClose, IsPartClosed};
 ghost use Rattle.gap_values.specs.Inside.Sets.{AreGapRounds, AreGathered};
 ghost use Rattle.gap_values.specs.Inside.OpenWords.{open_below};
 ghost use Rattle.gap_values.specs.OpenGaps.{AreOpenCounts};
@@ -57,7 +57,7 @@ pub(crate) trait RoundMaker<const WORDS: usize> {
     ) -> bool
         requires can_make { can_make self.now }
         requires can_close { CanClose WORDS board.now numbers.now sets.now round }
-        requires part { IsPart board.now round 0 (tables_of self.now) words.old told.old }
+        requires part { MayClose board.now round 0 (tables_of self.now) words.old told.old }
         ensures { IsPartClosed board.now sets.now round 0 (tables_of self.now) words.old words.new
             told.new result };
 

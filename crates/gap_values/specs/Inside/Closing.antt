@@ -31,7 +31,7 @@ pub record IsClosing {WORDS : ℕ} (closing : Closing WORDS) : Type 0 where
 
 -- the words of gaps of the board from the gap `first` on, none of which is the round yet, and
 -- tables of sets, which are to be told of those that close
-pub record IsPart (board : PlainBoard) (round first tables : ℕ) (words : List ℕ)
+pub record MayClose (board : PlainBoard) (round first tables : ℕ) (words : List ℕ)
     (told : List (List ℕ)) : Type 0 where
   pub gaps : first + length words ≤ ways (board.pebbles - 1) (places board)
   pub fresh : AreFresh round words
