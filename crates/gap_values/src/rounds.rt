@@ -44,8 +44,8 @@ pub(crate) trait RoundMaker<const WORDS: usize> {
         ensures value { result ≡ tables_of self.now }
         ensures some { 1 ≤ result };
 
-    /// Closes in `round` all open gaps of `board` that are shut by these `sets`, and tells the
-    /// tables `told` of them alone. Returns whether there are any. The gaps' words are `words`.
+    /// Closes in `round` all open gaps of `board`, whose words are `words`, that are shut by these
+    /// `sets`, and tells the tables `told` of them alone. Returns whether there are any.
     fn close(
         &self,
         board: &Board,
