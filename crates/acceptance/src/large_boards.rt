@@ -13,7 +13,7 @@ use fakes::{Drip, Failing};
 use player::PlayEnd;
 use positions::Side;
 use round_workers::MAX_WORKERS;
-use runs::{Playing, RunFault, Work};
+use runs::{Playing, RunFault, Summary, Work};
 use std::alloc::Global;
 use std::sync::Wait;
 use std::thread::Threads;
@@ -51,7 +51,8 @@ fn report_outcome(
         limit,
         shows_size: false,
     };
-    let answer = work.report(rt, alloc, &mut reader, &mut writer, &mut nobody);
+    let report = Summary::Report;
+    let answer = work.summarize(rt, alloc, report, &mut reader, &mut writer, &mut nobody);
     Outcome {
         answer,
         read_failed: reader.failed(),
@@ -85,7 +86,8 @@ fn notice_outcome(rt: &(impl Threads + Wait + Sync), alloc: Global) -> (Outcome<
         limit: BoardLimit::Large,
         shows_size: true,
     };
-    let answer = work.report(rt, alloc, &mut reader, &mut writer, &mut errors);
+    let report = Summary::Report;
+    let answer = work.summarize(rt, alloc, report, &mut reader, &mut writer, &mut errors);
     let outcome = Outcome {
         answer,
         read_failed: reader.failed(),

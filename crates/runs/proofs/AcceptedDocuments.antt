@@ -35,9 +35,7 @@ use Rattle.runs.proofs.DocumentKinds.{begins_as, one_version, without_maps}
 use Rattle.runs.specs.declared.verdicts.DocumentVersion.{DocumentVersion}
 use Rattle.runs.specs.declared.verdicts.DocumentVersion.TheVariants.{ByConfigurations}
 use Rattle.runs.specs.declared.fault.RunFault.{RunFault}
-use Rattle.runs.specs.declared.fault.RunFault.TheVariants.{Board, TooLarge, Proof, Memory, Worker, Read, Write, Limit}
-use Rattle.runs.specs.declared.fault.RunFault.TheVariants.{DocumentTooLarge, LastsForever, TooManyChains, TooManyOrbits}
-use Rattle.runs.specs.declared.fault.RunFault.TheVariants.{Symmetries}
+use Rattle.runs.specs.declared.fault.RunFault.TheVariants.{Board, TooLarge, Proof, Memory}
 use Rattle.runs.specs.declared.verdicts.Verdict.{Verdict}
 use Rattle.runs.specs.declared.verdicts.Verdict.TheVariants.{Accepted, Refused, RefusedByClasses}
 use Rattle.runs.specs.declared.verdicts.Verdict.TheVariants.{RefusedUpToSymmetries}
@@ -80,17 +78,7 @@ not_wrong_among IsSmall text board small (Board fault) wrong =
 not_wrong_among IsSmall text board small TooLarge (other, is, spelled, many) =
     let same : board ≡ other = one_board board other small.is_board is (sym small.spelled ∙ spelled) in
     many (subst IsSmall same small.few)
-not_wrong_among IsSmall text board small Memory wrong = wrong
-not_wrong_among IsSmall text board small (Proof fault) wrong = wrong
-not_wrong_among IsSmall text board small Worker wrong = wrong
-not_wrong_among IsSmall text board small Read wrong = wrong
-not_wrong_among IsSmall text board small Write wrong = wrong
-not_wrong_among IsSmall text board small DocumentTooLarge wrong = wrong
-not_wrong_among IsSmall text board small TooManyChains wrong = wrong
-not_wrong_among IsSmall text board small TooManyOrbits wrong = wrong
-not_wrong_among IsSmall text board small (Symmetries why) wrong = wrong
-not_wrong_among IsSmall text board small LastsForever wrong = wrong
-not_wrong_among IsSmall text board small Limit wrong = wrong
+not_wrong_among IsSmall text board small fault wrong = wrong
 
 -- nor is that of a board within the limit
 pub not_wrong : (limit : BoardLimit) (text : List ℕ) (board : PlainBoard) → IsBoardWithin limit text board
@@ -107,16 +95,7 @@ module _ (text written : List ℕ) (value : Value) (solution : IsSolution text v
   no_fault_of_board (Board fault) wrong = absurd (not_wrong Small text solution.0 solution.1 (Board fault) wrong)
   no_fault_of_board TooLarge wrong = absurd (not_wrong Small text solution.0 solution.1 TooLarge wrong)
   no_fault_of_board Memory wrong = refl
-  no_fault_of_board (Proof fault) wrong = absurd wrong
-  no_fault_of_board Worker wrong = absurd wrong
-  no_fault_of_board Read wrong = absurd wrong
-  no_fault_of_board Write wrong = absurd wrong
-  no_fault_of_board DocumentTooLarge wrong = absurd wrong
-  no_fault_of_board TooManyChains wrong = absurd wrong
-  no_fault_of_board TooManyOrbits wrong = absurd wrong
-  no_fault_of_board (Symmetries why) wrong = absurd wrong
-  no_fault_of_board LastsForever wrong = absurd wrong
-  no_fault_of_board Limit wrong = absurd wrong
+  no_fault_of_board fault wrong = absurd wrong
 
   module _ (board : PlainBoard) (small : IsSmallBoard text board) where
     solved : IsSolved board value written
@@ -158,16 +137,7 @@ module _ (text written : List ℕ) (value : Value) (solution : IsSolution text v
         absurd (not (faultless_as version fault (one_version written version ByConfigurations begins ranked) has))
     no_fault_of_document Memory wrong = refl
     no_fault_of_document TooLarge (begins, large) = absurd (large small.few)
-    no_fault_of_document (Board fault) wrong = absurd wrong
-    no_fault_of_document Worker wrong = absurd wrong
-    no_fault_of_document Read wrong = absurd wrong
-    no_fault_of_document Write wrong = absurd wrong
-    no_fault_of_document DocumentTooLarge wrong = absurd wrong
-    no_fault_of_document TooManyChains wrong = absurd wrong
-    no_fault_of_document TooManyOrbits wrong = absurd wrong
-    no_fault_of_document (Symmetries why) wrong = absurd wrong
-    no_fault_of_document LastsForever wrong = absurd wrong
-    no_fault_of_document Limit wrong = absurd wrong
+    no_fault_of_document fault wrong = absurd wrong
 
 -- bytes that were all given are the text
 known_all : (bytes text : List ℕ) (left : Option (List ℕ)) → GaveAll (between (Some bytes) left) text → bytes ≡ text

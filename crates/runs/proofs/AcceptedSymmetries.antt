@@ -28,9 +28,7 @@ use Rattle.runs.specs.Symmetries.{SpellsSymmetries}
 use Rattle.runs.specs.Texts.{BeginsAs, HasFaultAs, HasNoProof, IsMemory}
 use Rattle.runs.specs.Verdicts.{IsAcceptance, IsChecked, IsProofOf, IsSymmetryVerdict, IsVerdictOf, text_of_proof}
 use Rattle.runs.specs.declared.fault.RunFault.{RunFault}
-use Rattle.runs.specs.declared.fault.RunFault.TheVariants.{Board, TooLarge, Proof, Memory, Worker, Read, Write, Limit}
-use Rattle.runs.specs.declared.fault.RunFault.TheVariants.{DocumentTooLarge, LastsForever, Symmetries, TooManyChains}
-use Rattle.runs.specs.declared.fault.RunFault.TheVariants.{TooManyOrbits}
+use Rattle.runs.specs.declared.fault.RunFault.TheVariants.{TooLarge, Proof, Memory}
 use Rattle.runs.specs.declared.verdicts.DocumentVersion.{DocumentVersion}
 use Rattle.runs.specs.declared.verdicts.DocumentVersion.TheVariants.{UpToSymmetries}
 use Rattle.runs.specs.declared.verdicts.Verdict.{Verdict}
@@ -129,13 +127,4 @@ module _ (board : PlainBoard) (is : IsBoard board) (text : List ℕ) (value : Va
       absurd (not (faultless_as version fault (one_version written version UpToSymmetries begins up_to) has))
   symmetric_document_faultless Memory wrong = refl
   symmetric_document_faultless TooLarge (begins, large) = absurd (begins (inr up_to))
-  symmetric_document_faultless (Board fault) wrong = absurd wrong
-  symmetric_document_faultless (Symmetries why) wrong = absurd wrong
-  symmetric_document_faultless Worker wrong = absurd wrong
-  symmetric_document_faultless Read wrong = absurd wrong
-  symmetric_document_faultless Write wrong = absurd wrong
-  symmetric_document_faultless DocumentTooLarge wrong = absurd wrong
-  symmetric_document_faultless TooManyChains wrong = absurd wrong
-  symmetric_document_faultless TooManyOrbits wrong = absurd wrong
-  symmetric_document_faultless LastsForever wrong = absurd wrong
-  symmetric_document_faultless Limit wrong = absurd wrong
+  symmetric_document_faultless fault wrong = absurd wrong

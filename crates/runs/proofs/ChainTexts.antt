@@ -14,9 +14,8 @@ use Rattle.runs.specs.ChainText.{length_line, length_lines}
 use Rattle.runs.specs.Report.{size_line}
 use Rattle.runs.specs.Texts.{HasNoneAmong, IsBoardAmong, IsWrongAmong, OfAnySize}
 use Rattle.runs.specs.declared.fault.RunFault.{RunFault}
-use Rattle.runs.specs.declared.fault.RunFault.TheVariants.{Board, TooLarge, Proof, Memory, Worker, Read, Write, Limit}
-use Rattle.runs.specs.declared.fault.RunFault.TheVariants.{DocumentTooLarge, LastsForever, TooManyChains, TooManyOrbits}
-use Rattle.runs.specs.declared.fault.RunFault.TheVariants.{Symmetries}
+use Rattle.runs.specs.declared.fault.RunFault.TheVariants.{Board, TooLarge, Memory, Worker}
+use Rattle.runs.specs.declared.fault.RunFault.TheVariants.{TooManyChains}
 use Rattle.runs.proofs.AcceptedDocuments.{not_wrong_among}
 use Rattle.runs.proofs.OneOutcome.{one_wrong_among}
 use Rattle.runs.proofs.ReportCounts.{four_parts}
@@ -74,32 +73,13 @@ pub any_fault : (most : ℕ) (text : List ℕ) (fault : RunFault) → HasNoneAmo
 any_fault most text Memory h = tt
 any_fault most text (Board fault) h = h
 any_fault most text TooLarge h = h
-any_fault most text (Proof fault) h = absurd h
-any_fault most text Worker h = absurd h
-any_fault most text Read h = absurd h
-any_fault most text Write h = absurd h
-any_fault most text DocumentTooLarge h = absurd h
-any_fault most text LastsForever h = absurd h
-any_fault most text (Symmetries why) h = absurd h
-any_fault most text TooManyChains h = absurd h
-any_fault most text TooManyOrbits h = absurd h
-any_fault most text Limit h = absurd h
+any_fault most text fault h = absurd h
 
 pub wrong_counting : (most : ℕ) (text : List ℕ) (fault : RunFault) → CannotCountChains most text fault
     → (fault ≡ Memory) ⊎ (fault ≡ Worker) ⊎ HasNoChains most text fault
 wrong_counting most text Memory h = inl refl
-wrong_counting most text (Board fault) h = inr (inr h)
-wrong_counting most text TooLarge h = inr (inr h)
-wrong_counting most text (Proof fault) h = inr (inr h)
 wrong_counting most text Worker h = inr (inl refl)
-wrong_counting most text Read h = inr (inr h)
-wrong_counting most text Write h = inr (inr h)
-wrong_counting most text DocumentTooLarge h = inr (inr h)
-wrong_counting most text LastsForever h = inr (inr h)
-wrong_counting most text (Symmetries why) h = inr (inr h)
-wrong_counting most text TooManyChains h = inr (inr h)
-wrong_counting most text TooManyOrbits h = inr (inr h)
-wrong_counting most text Limit h = inr (inr h)
+wrong_counting most text fault h = inr (inr h)
 
 -- ---- one text, or one fault
 
@@ -121,18 +101,7 @@ module _ (most : ℕ) (text : List ℕ) where
   fault_is : (fault : RunFault) → HasNoChains most text fault
       → ((fault ≡ TooManyChains) × HasNoChains most text TooManyChains) ⊎ IsWrongAmong OfAnySize text fault
   fault_is TooManyChains h = inl (refl, h)
-  fault_is (Board fault) h = inr h
-  fault_is TooLarge h = inr h
-  fault_is (Proof fault) h = inr h
-  fault_is Memory h = inr h
-  fault_is Worker h = inr h
-  fault_is Read h = inr h
-  fault_is Write h = inr h
-  fault_is DocumentTooLarge h = inr h
-  fault_is LastsForever h = inr h
-  fault_is (Symmetries why) h = inr h
-  fault_is TooManyOrbits h = inr h
-  fault_is Limit h = inr h
+  fault_is fault h = inr h
 
   pub one_chain_fault : (fault other : RunFault) → HasNoChains most text fault → HasNoChains most text other
       → fault ≡ other

@@ -29,9 +29,8 @@ use Rattle.runs.specs.Texts.{OfAnySize}
 use Rattle.runs.specs.declared.checking.TheConstants.{MAX_PROOF_BYTES}
 use Rattle.runs.specs.Verdicts.{IsAcceptance, IsChecked, IsClassVerdict, IsProofOf, IsVerdictOf, text_of_proof}
 use Rattle.runs.specs.declared.fault.RunFault.{RunFault}
-use Rattle.runs.specs.declared.fault.RunFault.TheVariants.{Board, TooLarge, Proof, Memory, Worker, Read, Write, Limit}
-use Rattle.runs.specs.declared.fault.RunFault.TheVariants.{DocumentTooLarge, LastsForever, TooManyChains, TooManyOrbits}
-use Rattle.runs.specs.declared.fault.RunFault.TheVariants.{Symmetries}
+use Rattle.runs.specs.declared.fault.RunFault.TheVariants.{TooLarge, Proof, Memory}
+use Rattle.runs.specs.declared.fault.RunFault.TheVariants.{DocumentTooLarge}
 use Rattle.runs.specs.declared.verdicts.Verdict.{Verdict}
 use Rattle.runs.specs.declared.verdicts.Verdict.TheVariants.{Accepted, Refused, RefusedByClasses}
 use Rattle.runs.specs.declared.verdicts.Verdict.TheVariants.{RefusedUpToSymmetries}
@@ -74,18 +73,7 @@ module _ (text : List ℕ) where
   fault_is : (fault : RunFault) → IsUnsolvedByClasses text fault
       → ((fault ≡ DocumentTooLarge) × IsUnsolvedByClasses text DocumentTooLarge) ⊎ IsWrongWithin Large text fault
   fault_is DocumentTooLarge h = inl (refl, h)
-  fault_is TooManyChains h = inr h
-  fault_is TooManyOrbits h = inr h
-  fault_is (Symmetries why) h = inr h
-  fault_is LastsForever h = inr h
-  fault_is (Board told) h = inr h
-  fault_is TooLarge h = inr h
-  fault_is (Proof told) h = inr h
-  fault_is Memory h = inr h
-  fault_is Worker h = inr h
-  fault_is Read h = inr h
-  fault_is Write h = inr h
-  fault_is Limit h = inr h
+  fault_is fault h = inr h
 
   pub class_solution_or_fault : (value : Value) (written : List ℕ) (fault : RunFault)
       → IsClassSolution text value written → IsUnsolvedByClasses text fault → ⊥
@@ -118,18 +106,7 @@ module _ (text : List ℕ) where
   -- a fault of the text is one of these
   wrong_unsolved : (fault : RunFault) → IsWrongWithin Large text fault → IsUnsolvedByClasses text fault
   wrong_unsolved DocumentTooLarge wrong = absurd wrong
-  wrong_unsolved TooManyChains wrong = absurd wrong
-  wrong_unsolved TooManyOrbits wrong = absurd wrong
-  wrong_unsolved (Symmetries why) wrong = absurd wrong
-  wrong_unsolved LastsForever wrong = absurd wrong
-  wrong_unsolved (Board told) wrong = wrong
-  wrong_unsolved TooLarge wrong = wrong
-  wrong_unsolved (Proof told) wrong = wrong
-  wrong_unsolved Memory wrong = wrong
-  wrong_unsolved Worker wrong = wrong
-  wrong_unsolved Read wrong = wrong
-  wrong_unsolved Write wrong = wrong
-  wrong_unsolved Limit wrong = wrong
+  wrong_unsolved fault wrong = wrong
 
   pub solution_or_unsolved : ((value : Value) × (written : List ℕ) × IsClassSolution text value written)
       ⊎ ((fault : RunFault) × IsUnsolvedByClasses text fault)
@@ -222,13 +199,4 @@ module _ (text written : List ℕ) (value : Value) (solution : IsClassSolution t
       absurd (not (faultless_as version fault (one_version written version ByClasses begins by_class) has))
   class_document_faultless Memory wrong = refl
   class_document_faultless TooLarge (begins, large) = absurd (begins (inl by_class))
-  class_document_faultless (Board fault) wrong = absurd wrong
-  class_document_faultless Worker wrong = absurd wrong
-  class_document_faultless Read wrong = absurd wrong
-  class_document_faultless Write wrong = absurd wrong
-  class_document_faultless DocumentTooLarge wrong = absurd wrong
-  class_document_faultless TooManyChains wrong = absurd wrong
-  class_document_faultless TooManyOrbits wrong = absurd wrong
-  class_document_faultless (Symmetries why) wrong = absurd wrong
-  class_document_faultless LastsForever wrong = absurd wrong
-  class_document_faultless Limit wrong = absurd wrong
+  class_document_faultless fault wrong = absurd wrong

@@ -14,15 +14,13 @@ use Rattle.positions.proofs.Cited.{same_size, same_value}
 use Rattle.proof_text.specs.ProofText.{proof_text}
 use Rattle.gap_values.specs.Sizes.{AreValueCounts, HasValueCount}
 use Rattle.strategies.proofs.Cited.{one_document}
-use Rattle.runs.specs.Report.{Report, IsReport, IsReportOf, report_text_alone, IsReportOfText}
+use Rattle.runs.specs.Report.{Report, IsReport, IsReportOf, report_text_alone}
 use Rattle.runs.specs.SolveRun.{IsSolution, IsSolved}
 use Rattle.runs.specs.Texts.{IsBoardWithin, IsWithinLimit, IsWrongAmong, IsWrongWithin}
 use Rattle.command_line.specs.declared.asked.BoardLimit.{BoardLimit}
 use Rattle.command_line.specs.declared.asked.BoardLimit.TheVariants.{Small}
 use Rattle.runs.specs.declared.fault.RunFault.{RunFault}
-use Rattle.runs.specs.declared.fault.RunFault.TheVariants.{Board, TooLarge, Proof, Memory, Worker, Read, Write, Limit}
-use Rattle.runs.specs.declared.fault.RunFault.TheVariants.{DocumentTooLarge, LastsForever, TooManyChains, TooManyOrbits}
-use Rattle.runs.specs.declared.fault.RunFault.TheVariants.{Symmetries}
+use Rattle.runs.specs.declared.fault.RunFault.TheVariants.{Board, TooLarge}
 
 -- two bounds with the same numbers below them are equal
 same_bound : (P : ℕ → Type 0) (first second : ℕ) → ((number : ℕ) → number < first ↔ P number)
@@ -77,13 +75,6 @@ module _ (text : List ℕ) where
   same_board limit more first second one other =
       one_board second first other.is_board one.is_board (sym other.spelled ∙ one.spelled)
 
-  pub one_report : (limit more : BoardLimit) (first second : List ℕ) → IsReportOfText limit text first
-      → IsReportOfText more text second → first ≡ second
-  one_report limit more first second one other =
-      let board : PlainBoard = one.0 in
-      one_report_of board first second one.2
-      (subst (λ (b : PlainBoard). IsReportOf b second) (same_board limit more board other.0 one.1 other.1) other.2)
-
   pub one_solution : (value worth : Value) (first second : List ℕ) → IsSolution text value first
       → IsSolution text worth second
       → (value ≡ worth) × (first ≡ second)
@@ -105,17 +96,7 @@ module _ (IsSmall : PlainBoard → Type 0) (text : List ℕ) where
       ((fault ≡ TooLarge) × IsWrongAmong IsSmall text TooLarge)
   wrong_is (Board told) wrong = inl (told, refl, wrong)
   wrong_is TooLarge wrong = inr (refl, wrong)
-  wrong_is Memory wrong = absurd wrong
-  wrong_is (Proof told) wrong = absurd wrong
-  wrong_is Worker wrong = absurd wrong
-  wrong_is Read wrong = absurd wrong
-  wrong_is Write wrong = absurd wrong
-  wrong_is DocumentTooLarge wrong = absurd wrong
-  wrong_is TooManyChains wrong = absurd wrong
-  wrong_is TooManyOrbits wrong = absurd wrong
-  wrong_is (Symmetries why) wrong = absurd wrong
-  wrong_is LastsForever wrong = absurd wrong
-  wrong_is Limit wrong = absurd wrong
+  wrong_is fault wrong = absurd wrong
 
   faulty_or_large : (told : BoardFault) → IsWrongAmong IsSmall text (Board told) → IsWrongAmong IsSmall text TooLarge
       → ⊥

@@ -23,9 +23,7 @@ use Rattle.runs.specs.Verdicts.{text_of_proof}
 use Rattle.runs.specs.declared.verdicts.DocumentVersion.{DocumentVersion}
 use Rattle.runs.specs.declared.verdicts.DocumentVersion.TheVariants.{ByClasses, ByConfigurations, UpToSymmetries}
 use Rattle.runs.specs.declared.fault.RunFault.{RunFault}
-use Rattle.runs.specs.declared.fault.RunFault.TheVariants.{Board, TooLarge, Proof, Memory, Worker, Read, Write, Limit}
-use Rattle.runs.specs.declared.fault.RunFault.TheVariants.{DocumentTooLarge, LastsForever, TooManyChains, TooManyOrbits}
-use Rattle.runs.specs.declared.fault.RunFault.TheVariants.{Symmetries}
+use Rattle.runs.specs.declared.fault.RunFault.TheVariants.{TooLarge, Proof}
 use Rattle.runs.specs.declared.verdicts.Verdict.{Verdict}
 use Rattle.runs.specs.declared.verdicts.Verdict.TheVariants.{Accepted, Refused, RefusedByClasses}
 use Rattle.runs.specs.declared.verdicts.Verdict.TheVariants.{RefusedUpToSymmetries}
@@ -152,17 +150,7 @@ module _ (board : PlainBoard) (text : List ℕ) (is_board : IsBoard board) where
   faultless_of kind proof TooLarge is spelled (begins, large) =
       large (few_of kind proof
       (one_version text kind ByConfigurations (begins_as kind text board proof spelled) begins) is)
-  faultless_of kind proof Memory is spelled wrong = wrong
-  faultless_of kind proof (Board fault) is spelled wrong = wrong
-  faultless_of kind proof Worker is spelled wrong = wrong
-  faultless_of kind proof Read is spelled wrong = wrong
-  faultless_of kind proof Write is spelled wrong = wrong
-  faultless_of kind proof DocumentTooLarge is spelled wrong = wrong
-  faultless_of kind proof TooManyChains is spelled wrong = wrong
-  faultless_of kind proof TooManyOrbits is spelled wrong = wrong
-  faultless_of kind proof (Symmetries why) is spelled wrong = wrong
-  faultless_of kind proof LastsForever is spelled wrong = wrong
-  faultless_of kind proof Limit is spelled wrong = wrong
+  faultless_of kind proof fault is spelled wrong = wrong
 
   pub verdict_or_fault : (verdict : Verdict) (line : List ℕ) (fault : RunFault) → IsChecked board text verdict line
       → IsWrongProof board text fault → ⊥
@@ -204,36 +192,6 @@ module _ (board : PlainBoard) (text : List ℕ) (is_board : IsBoard board) where
   one_wrong_proof TooLarge (Proof other) (begins, large) (version, begins_too, has_too, not_too) =
       absurd (large (few_as version other (one_version text version ByConfigurations begins_too begins) has_too))
   one_wrong_proof TooLarge TooLarge wrong also = refl
-  one_wrong_proof Memory other wrong also = absurd wrong
-  one_wrong_proof (Board told) other wrong also = absurd wrong
-  one_wrong_proof Worker other wrong also = absurd wrong
-  one_wrong_proof Read other wrong also = absurd wrong
-  one_wrong_proof Write other wrong also = absurd wrong
-  one_wrong_proof DocumentTooLarge other wrong also = absurd wrong
-  one_wrong_proof TooManyChains other wrong also = absurd wrong
-  one_wrong_proof TooManyOrbits other wrong also = absurd wrong
-  one_wrong_proof (Symmetries why) other wrong also = absurd wrong
-  one_wrong_proof LastsForever other wrong also = absurd wrong
-  one_wrong_proof Limit other wrong also = absurd wrong
-  one_wrong_proof (Proof told) Memory wrong also = absurd also
-  one_wrong_proof (Proof told) (Board other) wrong also = absurd also
-  one_wrong_proof (Proof told) Worker wrong also = absurd also
-  one_wrong_proof (Proof told) Read wrong also = absurd also
-  one_wrong_proof (Proof told) Write wrong also = absurd also
-  one_wrong_proof (Proof told) DocumentTooLarge wrong also = absurd also
-  one_wrong_proof (Proof told) TooManyChains wrong also = absurd also
-  one_wrong_proof (Proof told) TooManyOrbits wrong also = absurd also
-  one_wrong_proof (Proof told) (Symmetries why) wrong also = absurd also
-  one_wrong_proof (Proof told) LastsForever wrong also = absurd also
-  one_wrong_proof (Proof told) Limit wrong also = absurd also
-  one_wrong_proof TooLarge Memory wrong also = absurd also
-  one_wrong_proof TooLarge (Board other) wrong also = absurd also
-  one_wrong_proof TooLarge Worker wrong also = absurd also
-  one_wrong_proof TooLarge Read wrong also = absurd also
-  one_wrong_proof TooLarge Write wrong also = absurd also
-  one_wrong_proof TooLarge DocumentTooLarge wrong also = absurd also
-  one_wrong_proof TooLarge TooManyChains wrong also = absurd also
-  one_wrong_proof TooLarge TooManyOrbits wrong also = absurd also
-  one_wrong_proof TooLarge (Symmetries why) wrong also = absurd also
-  one_wrong_proof TooLarge LastsForever wrong also = absurd also
-  one_wrong_proof TooLarge Limit wrong also = absurd also
+  one_wrong_proof (Proof told) fault wrong also = absurd also
+  one_wrong_proof TooLarge fault wrong also = absurd also
+  one_wrong_proof fault other wrong also = absurd wrong

@@ -4,9 +4,8 @@ use Rattle.std.proofs.Common.{arith, length-take-le}
 use Rattle.std.proofs.lemmas.List.{append_assoc, append-nil}
 use Rattle.std.proofs.Math.Seq.{take-suc}
 use Rattle.board_text.specs.PlainBoard.{PlainBoard}
-use Rattle.runs.specs.Report.{IsReportOf, head_lines, start_value_line, count_line, count_lines, end_lines}
-use Rattle.runs.specs.Inside.Counting.{IsBoardCounted}
-use Rattle.runs.specs.declared.counting.Counted.{Counted}
+use Rattle.runs.specs.Report.{IsReport, IsReportOf, Report, head_lines, start_value_line, count_line, count_lines}
+use Rattle.runs.specs.Report.{end_lines}
 
 lines_push : (value : ℕ) (counts : List ℕ) (count : ℕ)
     → count_lines value (counts ++ count ∷ []) ≡ count_lines value counts ++ count_line (value + length counts) count
@@ -38,20 +37,18 @@ lines_more counts value before text more inside written more_is =
     ∙ ap (λ (n : ℕ). count_lines 0 (take n counts)) one_more)
 
 -- the parts of a report, one after the other
-pub whole_report : (board : PlainBoard) (counted : Counted) (empty head begun lines whole : List ℕ)
-    → empty ≡ [] → head ≡ empty ++ head_lines board → begun ≡ head ++ start_value_line counted.start
-    → lines ≡ begun ++ count_lines 0 counted.sizes.finite.items → whole ≡ lines ++ end_lines counted.sizes.forever
-    → IsBoardCounted board counted → IsReportOf board whole
-whole_report board counted empty head begun lines whole none first second third last is =
-    let counts : List ℕ = counted.sizes.finite.items in
-    record {
-      report = record { start = counted.start; counts = counts; forever = counted.sizes.forever };
-      is_report = record { start = is.start; counted = is.sizes };
-      text_is = last ∙ ap (λ (t : List ℕ). t ++ end_lines counted.sizes.forever)
-          (third ∙ ap (λ (t : List ℕ). t ++ count_lines 0 counts)
-          (second ∙ ap (λ (t : List ℕ). t ++ start_value_line counted.start)
-          (first ∙ ap (λ (t : List ℕ). t ++ head_lines board) none)));
-    }
+pub whole_report : (board : PlainBoard) (report : Report) (empty head begun lines whole : List ℕ)
+    → empty ≡ [] → head ≡ empty ++ head_lines board → begun ≡ head ++ start_value_line report.start
+    → lines ≡ begun ++ count_lines 0 report.counts → whole ≡ lines ++ end_lines report.forever
+    → IsReport board report → IsReportOf board whole
+whole_report board report empty head begun lines whole none first second third last is = record {
+  report = report;
+  is_report = is;
+  text_is = last ∙ ap (λ (t : List ℕ). t ++ end_lines report.forever)
+      (third ∙ ap (λ (t : List ℕ). t ++ count_lines 0 report.counts)
+      (second ∙ ap (λ (t : List ℕ). t ++ start_value_line report.start)
+      (first ∙ ap (λ (t : List ℕ). t ++ head_lines board) none)));
+}
 
 -- four texts, one after the other
 pub four_parts : (old first second third fourth one two three four : List ℕ) → one ≡ old ++ first → two ≡ one ++ second

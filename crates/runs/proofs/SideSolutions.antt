@@ -18,9 +18,7 @@ use Rattle.runs.specs.SideSolveRun.{IsLongFor, IsSideSolution, IsTextFor, IsUnso
 use Rattle.runs.specs.Texts.{IsBoardWithin, IsWrongWithin}
 use Rattle.runs.specs.declared.checking.TheConstants.{MAX_PROOF_BYTES}
 use Rattle.runs.specs.declared.fault.RunFault.{RunFault}
-use Rattle.runs.specs.declared.fault.RunFault.TheVariants.{Board, TooLarge, Proof, Memory, Worker, Read, Write, Limit}
-use Rattle.runs.specs.declared.fault.RunFault.TheVariants.{DocumentTooLarge, LastsForever, TooManyChains, TooManyOrbits}
-use Rattle.runs.specs.declared.fault.RunFault.TheVariants.{Symmetries}
+use Rattle.runs.specs.declared.fault.RunFault.TheVariants.{DocumentTooLarge, LastsForever}
 use Rattle.runs.proofs.AcceptedDocuments.{not_wrong}
 use Rattle.runs.proofs.OneOutcome.{one_wrong}
 use Rattle.runs.proofs.Solutions.{board_or_wrong}
@@ -92,17 +90,7 @@ module _ (limit : BoardLimit) (side : Side) (text : List ℕ) where
       → IsOfSide fault ⊎ IsOfDocument fault ⊎ IsWrongWithin limit text fault
   fault_is LastsForever h = inl (record { told = refl; is = h })
   fault_is DocumentTooLarge h = inr (inl (record { told = refl; is = h }))
-  fault_is TooManyChains h = inr (inr h)
-  fault_is TooManyOrbits h = inr (inr h)
-  fault_is (Symmetries why) h = inr (inr h)
-  fault_is (Board told) h = inr (inr h)
-  fault_is TooLarge h = inr (inr h)
-  fault_is (Proof told) h = inr (inr h)
-  fault_is Memory h = inr (inr h)
-  fault_is Worker h = inr (inr h)
-  fault_is Read h = inr (inr h)
-  fault_is Write h = inr (inr h)
-  fault_is Limit h = inr (inr h)
+  fault_is fault h = inr (inr h)
 
   -- a start from which requests are answered for ever has no strategy for the adversary
   no_value : (board other : PlainBoard) (value : Value) → IsBoardWithin limit text board
@@ -159,17 +147,7 @@ module _ (limit : BoardLimit) (side : Side) (text : List ℕ) where
   wrong_unsolved : (fault : RunFault) → IsWrongWithin limit text fault → IsUnsolvedFor limit side text fault
   wrong_unsolved DocumentTooLarge wrong = absurd wrong
   wrong_unsolved LastsForever wrong = absurd wrong
-  wrong_unsolved TooManyChains wrong = absurd wrong
-  wrong_unsolved TooManyOrbits wrong = absurd wrong
-  wrong_unsolved (Symmetries why) wrong = absurd wrong
-  wrong_unsolved (Board told) wrong = wrong
-  wrong_unsolved TooLarge wrong = wrong
-  wrong_unsolved (Proof told) wrong = wrong
-  wrong_unsolved Memory wrong = wrong
-  wrong_unsolved Worker wrong = wrong
-  wrong_unsolved Read wrong = wrong
-  wrong_unsolved Write wrong = wrong
-  wrong_unsolved Limit wrong = wrong
+  wrong_unsolved fault wrong = wrong
 
   abbrev IsEither : Type 0
   IsEither = ((value : Value) × (written : List ℕ) × IsSideSolution limit side text value written)

@@ -12,17 +12,19 @@ use Rattle.positions.proofs.Cited.{same_value, some_value}
 use Rattle.proof_text.specs.ProofText.{class_text}
 use Rattle.strategies.specs.Sides.{HasStrategy}
 use Rattle.runs.specs.declared.fault.RunFault.{RunFault}
-use Rattle.runs.specs.declared.fault.RunFault.TheVariants.{Board, TooLarge, Proof, Memory, Worker, Read, Write, Limit}
-use Rattle.runs.specs.declared.fault.RunFault.TheVariants.{DocumentTooLarge, LastsForever, TooManyChains, TooManyOrbits}
-use Rattle.runs.specs.declared.fault.RunFault.TheVariants.{Symmetries}
-use Rattle.runs.specs.Inside.SolveRun.{IsRefused, IsSolvedByClassesFor, IsSolvedFor, IsUnmade, IsUnshown}
+use Rattle.runs.specs.declared.fault.RunFault.TheVariants.{Memory, Worker}
+use Rattle.runs.specs.declared.fault.RunFault.TheVariants.{DocumentTooLarge, LastsForever}
+use Rattle.runs.specs.Inside.SolveRun.{IsSolvedByClassesFor, IsSolvedFor, IsUnmade, IsUnshown}
 use Rattle.runs.specs.LimitedSolveRun.{CannotSolveWithin, SolutionWithin}
 use Rattle.runs.specs.SideSolveRun.{IsLongFor}
-use Rattle.runs.specs.Texts.{HasNoneWithin, IsBoardWithin}
-use Rattle.runs.proofs.SolverFaults.{any_worker}
+use Rattle.runs.specs.SolveRun.{CannotSolve}
+use Rattle.runs.specs.Texts.{IsBoardWithin}
 
 no_side : (side : Side) → ◌≡◌ {A = Option Side} None (Some side) → ⊥
 no_side side same = cc
+
+not_small : ◌≡◌ {A = BoardLimit} Large Small → ⊥
+not_small same = cc
 
 side_is : (first second : Side) → ◌≡◌ {A = Option Side} (Some first) (Some second) → first ≡ second
 side_is first second same = cc
@@ -43,35 +45,16 @@ finite_strategy board side number has value other =
 
 -- ---- faults
 
-pub no_board : (limit : BoardLimit) (side : Option Side) (workers : ℕ) (text : List ℕ) (fault : RunFault)
-    → HasNoneWithin limit text fault → CannotSolveWithin limit side workers text fault
-no_board Small None workers text fault h = any_worker Small workers text fault h
-no_board Large None workers text Memory h = tt
-no_board Large None workers text (Board fault) h = h
-no_board Large None workers text TooLarge h = h
-no_board Large None workers text (Proof fault) h = absurd h
-no_board Large None workers text Worker h = absurd h
-no_board Large None workers text Read h = absurd h
-no_board Large None workers text Write h = absurd h
-no_board Large None workers text DocumentTooLarge h = absurd h
-no_board Large None workers text LastsForever h = absurd h
-no_board Large None workers text TooManyChains h = absurd h
-no_board Large None workers text TooManyOrbits h = absurd h
-no_board Large None workers text (Symmetries why) h = absurd h
-no_board Large None workers text Limit h = absurd h
-no_board limit (Some side) workers text Memory h = tt
-no_board limit (Some side) workers text (Board fault) h = h
-no_board limit (Some side) workers text TooLarge h = h
-no_board limit (Some side) workers text (Proof fault) h = absurd h
-no_board limit (Some side) workers text Worker h = absurd h
-no_board limit (Some side) workers text Read h = absurd h
-no_board limit (Some side) workers text Write h = absurd h
-no_board limit (Some side) workers text DocumentTooLarge h = absurd h
-no_board limit (Some side) workers text LastsForever h = absurd h
-no_board limit (Some side) workers text TooManyChains h = absurd h
-no_board limit (Some side) workers text TooManyOrbits h = absurd h
-no_board limit (Some side) workers text (Symmetries why) h = absurd h
-no_board limit (Some side) workers text Limit h = absurd h
+-- a fault of the board or of its values is one of each document
+pub unsolved : (limit : BoardLimit) (side : Option Side) (workers : ℕ) (text : List ℕ) (fault : RunFault)
+    → CannotSolve limit workers text fault → CannotSolveWithin limit side workers text fault
+unsolved Small None workers text fault h = h
+unsolved Large None workers text Worker h = absurd (not_small h.0)
+unsolved Large None workers text DocumentTooLarge h = absurd h
+unsolved Large None workers text fault h = h
+unsolved limit (Some side) workers text DocumentTooLarge h = absurd h
+unsolved limit (Some side) workers text LastsForever h = absurd h
+unsolved limit (Some side) workers text fault h = h
 
 -- out of memory can be told of any run
 pub out_of_memory : (limit : BoardLimit) (side : Option Side) (workers : ℕ) (text : List ℕ)
@@ -81,51 +64,12 @@ out_of_memory Large None workers text = tt
 out_of_memory limit (Some side) workers text = tt
 
 module _ (text : List ℕ) (board : PlainBoard) (workers : ℕ) where
-  pub refused : (side : Option Side) (fault : RunFault) → IsBoardWithin Small text board
-      → IsRefused Small workers board fault → CannotSolveWithin Small side workers text fault
-  refused None Memory within h = tt
-  refused None Worker within h = (refl, h.1, (board, within, h.2))
-  refused None (Board fault) within h = absurd h
-  refused None TooLarge within h = absurd h
-  refused None (Proof fault) within h = absurd h
-  refused None Read within h = absurd h
-  refused None Write within h = absurd h
-  refused None DocumentTooLarge within h = absurd h
-  refused None LastsForever within h = absurd h
-  refused None TooManyChains within h = absurd h
-  refused None TooManyOrbits within h = absurd h
-  refused None (Symmetries why) within h = absurd h
-  refused None Limit within h = absurd h
-  refused (Some side) Memory within h = tt
-  refused (Some side) Worker within h = (refl, h.1, (board, within, h.2))
-  refused (Some side) (Board fault) within h = absurd h
-  refused (Some side) TooLarge within h = absurd h
-  refused (Some side) (Proof fault) within h = absurd h
-  refused (Some side) Read within h = absurd h
-  refused (Some side) Write within h = absurd h
-  refused (Some side) DocumentTooLarge within h = absurd h
-  refused (Some side) LastsForever within h = absurd h
-  refused (Some side) TooManyChains within h = absurd h
-  refused (Some side) TooManyOrbits within h = absurd h
-  refused (Some side) (Symmetries why) within h = absurd h
-  refused (Some side) Limit within h = absurd h
-
   pub unmade : (limit : BoardLimit) (side : Option Side) (fault : RunFault) → IsBoardWithin limit text board
       → IsUnmade side board fault → CannotSolveWithin limit side workers text fault
   unmade limit side Memory within h = out_of_memory limit side workers text
   unmade limit None LastsForever within h = absurd (no_side _ h.0)
   unmade limit (Some side) LastsForever within h = (side_is side _ h.0, (board, within, h.1))
-  unmade limit side Worker within h = absurd h
-  unmade limit side (Board fault) within h = absurd h
-  unmade limit side TooLarge within h = absurd h
-  unmade limit side (Proof fault) within h = absurd h
-  unmade limit side Read within h = absurd h
-  unmade limit side Write within h = absurd h
-  unmade limit side DocumentTooLarge within h = absurd h
-  unmade limit side TooManyChains within h = absurd h
-  unmade limit side TooManyOrbits within h = absurd h
-  unmade limit side (Symmetries why) within h = absurd h
-  unmade limit side Limit within h = absurd h
+  unmade limit side fault within h = absurd h
 
   pub unshown : (side : Option Side) (fault : RunFault) → IsBoardWithin Large text board
       → IsUnshown side board fault → CannotSolveWithin Large side workers text fault
@@ -141,16 +85,7 @@ module _ (text : List ℕ) (board : PlainBoard) (workers : ℕ) where
       (refl, (board, within, is_long))
   unshown side Memory within h = unmade Large side Memory within h
   unshown side LastsForever within h = unmade Large side LastsForever within h
-  unshown side Worker within h = absurd h
-  unshown side (Board fault) within h = absurd h
-  unshown side TooLarge within h = absurd h
-  unshown side (Proof fault) within h = absurd h
-  unshown side Read within h = absurd h
-  unshown side Write within h = absurd h
-  unshown side TooManyChains within h = absurd h
-  unshown side TooManyOrbits within h = absurd h
-  unshown side (Symmetries why) within h = absurd h
-  unshown side Limit within h = absurd h
+  unshown side fault within h = absurd h
 
   -- ---- solutions
 

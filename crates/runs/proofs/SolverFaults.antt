@@ -13,9 +13,7 @@ use Rattle.round_workers.specs.declared.solving.TheConstants.{MIN_SHARED}
 use Rattle.command_line.specs.declared.asked.BoardLimit.{BoardLimit}
 use Rattle.command_line.specs.declared.asked.BoardLimit.TheVariants.{Small}
 use Rattle.runs.specs.declared.fault.RunFault.{RunFault}
-use Rattle.runs.specs.declared.fault.RunFault.TheVariants.{Board, TooLarge, Proof, Memory, Worker, Read, Write, Limit}
-use Rattle.runs.specs.declared.fault.RunFault.TheVariants.{DocumentTooLarge, LastsForever, TooManyChains, TooManyOrbits}
-use Rattle.runs.specs.declared.fault.RunFault.TheVariants.{Symmetries}
+use Rattle.runs.specs.declared.fault.RunFault.TheVariants.{Worker}
 use Rattle.runs.specs.Inside.Faults.{fault_of_making, fault_of_solving}
 use Rattle.runs.specs.declared.checking.TheConstants.{MAX_PROOF_BYTES}
 use Rattle.strategies.specs.ClassDocument.{CannotBeMade}
@@ -45,16 +43,5 @@ unshown_made side board unmade.TooLong told strategy is made = subst (IsUnshown 
 -- a fault of one worker is one that several workers can give
 pub any_worker : (limit : BoardLimit) (workers : ℕ) (text : List ℕ) (fault : RunFault) → HasNoneWithin limit text fault
     → CannotSolve limit workers text fault
-any_worker limit workers text Memory h = tt
-any_worker limit workers text (Board fault) h = h
-any_worker limit workers text TooLarge h = h
-any_worker limit workers text (Proof fault) h = absurd h
 any_worker limit workers text Worker h = absurd h
-any_worker limit workers text Read h = absurd h
-any_worker limit workers text Write h = absurd h
-any_worker limit workers text DocumentTooLarge h = absurd h
-any_worker limit workers text TooManyChains h = absurd h
-any_worker limit workers text TooManyOrbits h = absurd h
-any_worker limit workers text (Symmetries why) h = absurd h
-any_worker limit workers text LastsForever h = absurd h
-any_worker limit workers text Limit h = absurd h
+any_worker limit workers text fault h = h

@@ -7,13 +7,11 @@ use Rattle.std.proofs.lemmas.List.Elements.{All-replicate}
 use Rattle.std.proofs.Math.Seq.{take-suc}
 use Rattle.board_text.specs.LineForms.{with_line_feed}
 use Rattle.board_text.specs.PlainBoard.{IsConfiguration, PlainBoard, places}
-use Rattle.board_text.proofs.Cited.{one_board}
 use Rattle.positions.specs.declared.value.Value.{Value}
 use Rattle.positions.specs.declared.value.Value.TheVariants.{Forever}
 use Rattle.positions.proofs.Cited.{same_value}
-use Rattle.command_line.specs.declared.asked.BoardLimit.{BoardLimit}
 use Rattle.runs.specs.Report.{size_line}
-use Rattle.runs.specs.StartText.{AreStartValues, AreStartsOf, AreStartsOfText, place_value_line, place_value_lines}
+use Rattle.runs.specs.StartText.{AreStartValues, AreStartsOf, place_value_line, place_value_lines}
 use Rattle.runs.specs.StartText.{starts_text}
 use Rattle.runs.proofs.ReportCounts.{four_parts}
 
@@ -95,10 +93,3 @@ pub one_starts_of : (board : PlainBoard) (first second : List ℕ) → AreStarts
 one_starts_of board first second one other =
     one.text_is ∙ ap (starts_text board) (same_values board one.values other.values one.are other.are)
     ∙ sym other.text_is
-
-pub one_starts : (text : List ℕ) (limit more : BoardLimit) (first second : List ℕ) → AreStartsOfText limit text first
-    → AreStartsOfText more text second → first ≡ second
-one_starts text limit more first second (board, is, says) (next, also, says_too) =
-    one_starts_of board first second says
-    (subst (λ b. AreStartsOf b second) (sym (one_board board next is.is_board also.is_board
-    (sym is.spelled ∙ also.spelled))) says_too)

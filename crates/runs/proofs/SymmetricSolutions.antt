@@ -32,8 +32,7 @@ use Rattle.runs.specs.SymmetricRun.{GivesFewOrbits, LacksFewOrbits, SpellsFewOrb
 use Rattle.runs.specs.Symmetries.{AreWrongSymmetries, HasSymmetries, SpellsMaps, SpellsSymmetries}
 use Rattle.runs.specs.declared.checking.TheConstants.{MAX_PROOF_BYTES}
 use Rattle.runs.specs.declared.fault.RunFault.{RunFault}
-use Rattle.runs.specs.declared.fault.RunFault.TheVariants.{Board, TooLarge, Proof, Memory, Worker, Read, Write, Limit}
-use Rattle.runs.specs.declared.fault.RunFault.TheVariants.{DocumentTooLarge, LastsForever, Symmetries, TooManyChains}
+use Rattle.runs.specs.declared.fault.RunFault.TheVariants.{DocumentTooLarge, LastsForever, Symmetries}
 use Rattle.runs.specs.declared.fault.RunFault.TheVariants.{TooManyOrbits}
 use Rattle.runs.specs.declared.fault.SymmetriesFault.{SymmetriesFault}
 use Rattle.runs.specs.declared.fault.SymmetriesFault.TheVariants.{Map, Text, TooMany}
@@ -138,17 +137,7 @@ module _ (board : PlainBoard) (is_board : IsBoard board) (text : List ℕ) where
   lacking_is : (fault : RunFault) → LacksFewOrbits board text fault → IsLacking fault
   lacking_is TooManyOrbits h = inl (record { told = refl; is = h })
   lacking_is (Symmetries why) h = inr (record { why = why; told = refl; is = h })
-  lacking_is (Board fault) h = absurd h
-  lacking_is TooLarge h = absurd h
-  lacking_is (Proof fault) h = absurd h
-  lacking_is Memory h = absurd h
-  lacking_is Worker h = absurd h
-  lacking_is Read h = absurd h
-  lacking_is Write h = absurd h
-  lacking_is DocumentTooLarge h = absurd h
-  lacking_is LastsForever h = absurd h
-  lacking_is TooManyChains h = absurd h
-  lacking_is Limit h = absurd h
+  lacking_is fault h = absurd h
 
   -- few orbits up to these maps, and too many up to those of the same text
   not_many : (maps : List (List ℕ)) → SpellsFewOrbits board text maps → LacksFewOrbits board text TooManyOrbits → ⊥
@@ -226,15 +215,7 @@ module _ (board : PlainBoard) (is_board : IsBoard board) (text : List ℕ) where
     fault_is DocumentTooLarge h = inr (inl (record { told = refl; is = h }))
     fault_is TooManyOrbits h = inr (inr (lacking_is TooManyOrbits h))
     fault_is (Symmetries why) h = inr (inr (lacking_is (Symmetries why) h))
-    fault_is (Board fault) h = absurd h
-    fault_is TooLarge h = absurd h
-    fault_is (Proof fault) h = absurd h
-    fault_is Memory h = absurd h
-    fault_is Worker h = absurd h
-    fault_is Read h = absurd h
-    fault_is Write h = absurd h
-    fault_is TooManyChains h = absurd h
-    fault_is Limit h = absurd h
+    fault_is fault h = absurd h
 
     no_value : (value : Value) → HasValue board board.start value → HasStrategy side value → side ≡ Some Adversary
         → HasValue board board.start Forever → ⊥

@@ -1,8 +1,8 @@
 -- When the notice of a large board is told.
-use Rattle.std.proofs.Common.{◌≡◌, ◌∙◌, ◌<◌, ◌≤◌, ◌⊎◌, Bool, true, false, List, [], ◌∷◌, ◌++◌, ℕ, suc, ap, append-nil}
+use Rattle.std.proofs.Common.{◌≡◌, ◌∙◌, ◌<◌, ◌≤◌, Bool, true, false, List, [], ◌∷◌, ◌++◌, ℕ, suc, ap, append-nil}
 use Rattle.std.proofs.Common.{inl, inr, le-ltb, lt-ltb, refl, subst, sym}
 use Rattle.std.proofs.lemmas.Bool.{cases_lt}
-use Rattle.std.specs.Prelude.{codes, Err, IfErr, IfOk, MatchResult, Ok, OnErr, OnOk, is_err, None, Option, Result, Some}
+use Rattle.std.specs.Prelude.{codes, Err, IfErr, IfOk, MatchResult, Ok, OnErr, OnOk, is_err, Option, Result}
 use Rattle.std.specs.Prelude.{if◌then◌else◌}
 use Rattle.board_text.specs.PlainBoard.{PlainBoard}
 use Rattle.board_text.specs.declared.memory.Memory.{Memory as MemoryFault}
@@ -16,20 +16,12 @@ use Rattle.runs.specs.BoardRun.{GaveBoard, GaveNoBoard}
 use Rattle.runs.specs.Notices.{AreAllRounds, AreRoundsTold, IsNoticed, IsNoticedInRun, IsNoticedOfText, is_told_of}
 use Rattle.runs.specs.Notices.{notice_for}
 use Rattle.runs.specs.Notices.{bytes_words, round_line, size_notice, tenths_of, tenths_words}
-use Rattle.runs.specs.Run.{Bytes, Fails, Gave, Ran}
-use Rattle.runs.specs.LimitedSolveRun.{CannotSolveWithin, SolutionWithin}
-use Rattle.runs.specs.SolveRun.{CannotSolve}
+use Rattle.runs.specs.Run.{Bytes, Gave}
 use Rattle.runs.specs.Texts.{HasNoneWithin, IsBoardWithin}
 use Rattle.command_line.specs.declared.asked.BoardLimit.{BoardLimit}
-use Rattle.command_line.specs.declared.asked.BoardLimit.TheVariants.{Large, Small}
-use Rattle.positions.specs.declared.side.Side.{Side}
-use Rattle.positions.specs.declared.value.Value.{Value}
+use Rattle.command_line.specs.declared.asked.BoardLimit.TheVariants.{Small}
 use Rattle.runs.specs.declared.fault.RunFault.{RunFault}
-use Rattle.runs.specs.declared.fault.RunFault.TheVariants.{Board, DocumentTooLarge, LastsForever, Limit, Memory, Proof}
-use Rattle.runs.specs.declared.fault.RunFault.TheVariants.{TooManyChains, TooManyOrbits}
-use Rattle.runs.specs.declared.fault.RunFault.TheVariants.{Read}
-use Rattle.runs.specs.declared.fault.RunFault.TheVariants.{TooLarge, Worker, Write}
-use Rattle.runs.specs.declared.fault.RunFault.TheVariants.{Symmetries}
+use Rattle.runs.specs.declared.fault.RunFault.TheVariants.{Memory}
 use Rattle.runs.specs.declared.reading.TheConstants.{MAX_BOARD_BYTES}
 
 -- ---- the number of bytes
@@ -210,6 +202,38 @@ module _ {Answer Other : Type 0} (IsGiven IsGivenToo : PlainBoard → Type 0) (I
       by (inr (other, same, is_missing, none)) =
           inr (fault, refl, missing fault (subst IsMissing (one other same) is_missing), none)
 
+-- ---- of a small board, nothing
+
+pub small_unnoticed : {Answer : Type 0} (text : List ℕ) (shows : Bool) (IsSolved : PlainBoard → Answer → Type 0)
+    (result : Result Answer RunFault)
+    → IfOk result (λ answer. (board : PlainBoard) × IsBoardWithin Small text board × IsSolved board answer)
+    → IfErr result (HasNoneWithin Small text) → IsNoticedOfText Small text shows result []
+small_unnoticed text shows IsSolved (Ok answer) (board, within, solved) fault =
+    inl (
+      board,
+      within,
+      [],
+      inr (small_rounds shows board within.few),
+      small_board shows board within.few ∙ sym (append-nil (notice_for shows board)),
+    )
+small_unnoticed text shows IsSolved (Err fault) ok none = inr (fault, refl, none, refl)
+
+-- ---- of the same board, in another run
+
+module _ {Answer Other : Type 0} (limit : BoardLimit) (text : List ℕ) (shows : Bool) (told : List ℕ)
+    (result : Result Answer RunFault) (is : IsNoticedOfText limit text shows result told) where
+  pub text_noticed : (answer : Answer) → result ≡ Ok answer → (other : Result Other RunFault)
+      → IsNoticedOfText limit text shows other told
+  text_noticed =
+      given_then (IsBoardWithin limit text) (IsBoardWithin limit text) (HasNoneWithin limit text)
+      (HasNoneWithin limit text) (λ board within. within) (λ fault lacking. lacking) shows told result is
+
+  pub text_noticed_before : (fault : RunFault) → result ≡ Err fault
+      → IsNoticedOfText {Answer = Other} limit text shows (Err fault) told
+  text_noticed_before =
+      given_before (IsBoardWithin limit text) (IsBoardWithin limit text) (HasNoneWithin limit text)
+      (HasNoneWithin limit text) (λ board within. within) (λ fault lacking. lacking) shows told result is
+
 -- ---- of a board that is read
 
 module _ {Answer Other : Type 0} (limit : BoardLimit) (read : Bytes) (text : List ℕ)
@@ -228,80 +252,3 @@ module _ {Answer Other : Type 0} (limit : BoardLimit) (read : Bytes) (text : Lis
       given_before (IsBoardWithin limit text) (GaveBoard limit MAX_BOARD_BYTES read) (HasNoneWithin limit text)
       (GaveNoBoard limit MAX_BOARD_BYTES read) (λ board within. (text, gave, within))
       (λ fault lacking. inr (text, gave, lacking)) shows told result is
-
--- ---- of a small board that is solved, nothing is told
-
-unsolved : (workers : ℕ) (text : List ℕ) (fault : RunFault) → CannotSolve Small workers text fault
-    → HasNoneWithin Small text fault ⊎ ((board : PlainBoard) × IsBoardWithin Small text board)
-unsolved workers text Memory cannot = inl tt
-unsolved workers text Worker cannot = inr (cannot.2.0, cannot.2.1)
-unsolved workers text (Board fault) cannot = inl cannot
-unsolved workers text TooLarge cannot = inl cannot
-unsolved workers text DocumentTooLarge cannot = inl cannot
-unsolved workers text LastsForever cannot = inl cannot
-unsolved workers text TooManyChains cannot = inl cannot
-unsolved workers text TooManyOrbits cannot = inl cannot
-unsolved workers text (Symmetries why) cannot = inl cannot
-unsolved workers text (Proof fault) cannot = inl cannot
-unsolved workers text Read cannot = inl cannot
-unsolved workers text Write cannot = inl cannot
-unsolved workers text Limit cannot = inl cannot
-
-not_large : ◌≡◌ {A = BoardLimit} Small Large → ⊥
-not_large same = cc
-
-unsolved_for : (side : Option Side) (workers : ℕ) (text : List ℕ) (fault : RunFault)
-    → CannotSolveWithin Small side workers text fault
-    → HasNoneWithin Small text fault ⊎ ((board : PlainBoard) × IsBoardWithin Small text board)
-unsolved_for None workers text fault cannot = unsolved workers text fault cannot
-unsolved_for (Some side) workers text LastsForever cannot = inr (cannot.1.0, cannot.1.1)
-unsolved_for (Some side) workers text DocumentTooLarge cannot = absurd (not_large cannot.0)
-unsolved_for (Some side) workers text Memory cannot = inl tt
-unsolved_for (Some side) workers text Worker cannot = unsolved workers text Worker cannot
-unsolved_for (Some side) workers text (Board fault) cannot = inl cannot
-unsolved_for (Some side) workers text TooLarge cannot = inl cannot
-unsolved_for (Some side) workers text TooManyChains cannot = inl cannot
-unsolved_for (Some side) workers text TooManyOrbits cannot = inl cannot
-unsolved_for (Some side) workers text (Symmetries why) cannot = inl cannot
-unsolved_for (Some side) workers text (Proof fault) cannot = inl cannot
-unsolved_for (Some side) workers text Read cannot = inl cannot
-unsolved_for (Some side) workers text Write cannot = inl cannot
-unsolved_for (Some side) workers text Limit cannot = inl cannot
-
-solved_board : (side : Option Side) (text : List ℕ) (value : Value) (written : List ℕ)
-    → SolutionWithin Small side text value written → (board : PlainBoard) × IsBoardWithin Small text board
-solved_board None text value written is = (is.0, is.1)
-solved_board (Some side) text value written is = (is.board, is.within)
-
-module _ (read : Bytes) (shows : Bool) where
-  of_board : (result : Result Value RunFault) (text : List ℕ) (board : PlainBoard) → Gave MAX_BOARD_BYTES read text
-      → IsBoardWithin Small text board → IsNoticedInRun Small read shows result []
-  of_board result text board gave within =
-      inl (
-        board,
-        (text, gave, within),
-        [],
-        inr (small_rounds shows board within.few),
-        small_board shows board within.few ∙ sym (append-nil (notice_for shows board)),
-      )
-
-  pub solved_unnoticed : (side : Option Side) (workers : ℕ) (written : Bytes) (result : Result Value RunFault)
-      → IfOk result (Ran (SolutionWithin Small side) MAX_BOARD_BYTES read written)
-      → IfErr result (Fails (SolutionWithin Small side) (CannotSolveWithin Small side workers) MAX_BOARD_BYTES read
-      written)
-      → IsNoticedInRun Small read shows result []
-  solved_unnoticed side workers written (Ok value) (text, gave, wrote) fails =
-      let there = solved_board side text value wrote.0 wrote.1 in
-      of_board (Ok value) text there.0 gave there.1
-  solved_unnoticed side workers written (Err fault) ran (inl unread) = inr (fault, refl, inl unread, refl)
-  solved_unnoticed side workers written (Err fault) ran (inr (inl (text, gave, cannot))) =
-      by (unsolved_for side workers text fault cannot)
-    where
-      by : HasNoneWithin Small text fault ⊎ ((board : PlainBoard) × IsBoardWithin Small text board)
-          → IsNoticedInRun {Answer = Value} Small read shows (Err fault) []
-      by (inl missing) = inr (fault, refl, inr (text, gave, missing), refl)
-      by (inr (board, within)) = of_board (Err fault) text board gave within
-  solved_unnoticed side workers written (Err fault) ran
-      (inr (inr (text, value, gave, begun, write))) =
-      let there = solved_board side text value begun.0 begun.1 in
-      of_board (Err fault) text there.0 gave there.1

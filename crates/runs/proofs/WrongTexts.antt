@@ -6,9 +6,7 @@ use Rattle.runs.specs.Verdicts.{CannotAnswer, BeginsWithBoard}
 use Rattle.runs.specs.Joined.{IsBoardLength}
 use Rattle.runs.specs.Texts.{HasNoneAmong, HasNoProof, IsBoardAmong, OfAnySize}
 use Rattle.runs.specs.declared.fault.RunFault.{RunFault}
-use Rattle.runs.specs.declared.fault.RunFault.TheVariants.{Board, TooLarge, Proof, Memory, Worker, Read, Write, Limit}
-use Rattle.runs.specs.declared.fault.RunFault.TheVariants.{DocumentTooLarge, LastsForever, TooManyChains, TooManyOrbits}
-use Rattle.runs.specs.declared.fault.RunFault.TheVariants.{Symmetries}
+use Rattle.runs.specs.declared.fault.RunFault.TheVariants.{Board, TooLarge, Proof, Memory}
 
 pub begins_with : (text front rest : List ℕ) (board : PlainBoard) → IsBoard board → text ≡ front ++ rest
     → front ≡ board_text board
@@ -22,16 +20,7 @@ pub no_board : (text front rest : List ℕ) (size : ℕ) (fault : RunFault) → 
 no_board text front rest size (Board fault) first is whole (has, no_memory) = (size, first, rw (← is) has, no_memory)
 no_board text front rest size Memory first is whole h = tt
 no_board text front rest size TooLarge first is whole (board, is_board, spelled, many) = absurd (many tt)
-no_board text front rest size (Proof fault) first is whole h = absurd h
-no_board text front rest size Worker first is whole h = absurd h
-no_board text front rest size Read first is whole h = absurd h
-no_board text front rest size Write first is whole h = absurd h
-no_board text front rest size DocumentTooLarge first is whole h = absurd h
-no_board text front rest size TooManyChains first is whole h = absurd h
-no_board text front rest size TooManyOrbits first is whole h = absurd h
-no_board text front rest size (Symmetries why) first is whole h = absurd h
-no_board text front rest size LastsForever first is whole h = absurd h
-no_board text front rest size Limit first is whole h = absurd h
+no_board text front rest size fault first is whole h = absurd h
 
 pub no_proof : (text front rest : List ℕ) (board : PlainBoard) (fault : RunFault)
     → IsBoardAmong OfAnySize front board
@@ -42,16 +31,7 @@ no_proof text front rest board (Proof fault) is whole h =
 no_proof text front rest board TooLarge is whole h =
     (board, rest, begins_with text front rest board is.is_board whole is.spelled, h)
 no_proof text front rest board Memory is whole h = tt
-no_proof text front rest board (Board fault) is whole h = absurd h
-no_proof text front rest board Worker is whole h = absurd h
-no_proof text front rest board Read is whole h = absurd h
-no_proof text front rest board Write is whole h = absurd h
-no_proof text front rest board DocumentTooLarge is whole h = absurd h
-no_proof text front rest board TooManyChains is whole h = absurd h
-no_proof text front rest board TooManyOrbits is whole h = absurd h
-no_proof text front rest board (Symmetries why) is whole h = absurd h
-no_proof text front rest board LastsForever is whole h = absurd h
-no_proof text front rest board Limit is whole h = absurd h
+no_proof text front rest board fault is whole h = absurd h
 
 pub two_parts : (text front rest : List ℕ) (size : ℕ) → front ≡ take size text → rest ≡ drop size text
     → text ≡ front ++ rest

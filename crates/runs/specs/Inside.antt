@@ -1,6 +1,5 @@
 -- Definitions that only clauses of this crate's own functions cite.
 pub mod Verdicts
-pub mod Counting
 pub mod Faults
 pub mod SolveRun
 pub mod Symmetries

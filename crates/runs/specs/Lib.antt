@@ -16,6 +16,7 @@ pub mod Headline
 pub mod Report
 pub mod ChainText
 pub mod StartText
+pub mod Summaries
 pub mod Notices
 pub mod Symmetries
 pub mod SymmetricRun

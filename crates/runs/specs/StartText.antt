@@ -10,8 +10,6 @@ use Rattle.positions.specs.declared.value.Value.{Value}
 use Rattle.positions.specs.declared.value.Value.TheVariants.{Forever}
 use Rattle.proof_text.specs.ProofText.{claim_words}
 use Rattle.runs.specs.Report.{size_line}
-use Rattle.runs.specs.Texts.{IsBoardWithin}
-use Rattle.command_line.specs.declared.asked.BoardLimit.{BoardLimit}
 
 -- the values with all pebbles at one place, for each place of the board from 0 on
 pub record AreStartValues (board : PlainBoard) (values : List Value) : Type 0 where
@@ -47,12 +45,3 @@ pub record AreStartsOf (board : PlainBoard) (text : List ℕ) : Type 0 where
   pub values : List Value
   pub are : AreStartValues board values
   pub text_is : text ≡ starts_text board values
-
--- the text is that of a board within the limit, and the bytes written say its starts
-abbrev pub AreStartsOfText : BoardLimit → List ℕ → List ℕ → Type 0
-AreStartsOfText limit text written = (board : PlainBoard) × IsBoardWithin limit text board
-    × AreStartsOf board written
-
--- the same, of a run, which answers nothing else
-abbrev pub SaysStarts : BoardLimit → List ℕ → Unit {0} → List ℕ → Type 0
-SaysStarts limit text answer written = AreStartsOfText limit text written

@@ -6,7 +6,6 @@ mod boards;
 mod chaining;
 mod checking;
 mod class_solving;
-mod counting;
 mod fault;
 mod given_symmetries;
 mod joined;

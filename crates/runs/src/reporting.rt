@@ -1,12 +1,10 @@
 //! Reporting how many configurations of a board have each value.
 
-ghost use Rattle.std.specs.Prelude.{◌≡◌, ℕ, List, ◌++◌, true, false, IfOk, IfErr, OnOk};
-ghost use Rattle.std.specs.Prelude.{string_bytes};
+ghost use Rattle.std.specs.Prelude.{◌≡◌, ◌++◌, true, false, IfOk, IfErr, OnOk, string_bytes};
 ghost use Rattle.board_text.specs.Ranges.{InRange};
-ghost use Rattle.console.specs.Showing.{IsMore};
+ghost use Rattle.gap_values.specs.Sizes.{AreValueCounts};
 ghost use Rattle.positions.specs.Ranks.{configurations};
-ghost use Rattle.runs.specs.Notices.{IsNoticedInRun, IsNoticedOfText};
-ghost use Rattle.runs.specs.Inside.Counting.{IsBoardCounted};
+ghost use Rattle.positions.specs.Value.{HasValue};
 ghost use Rattle.runs.specs.Report.{IsReportOf, IsReportOfText, Reports};
 ghost use Rattle.runs.specs.Report.{count_line, count_lines, end_lines, head_lines};
 ghost use Rattle.runs.specs.Report.{size_line, start_value_line};
@@ -14,15 +12,14 @@ ghost use Rattle.runs.specs.Run.{Ran, Fails, TellsStreams, bytes_of, stream_of};
 ghost use Rattle.runs.specs.SolveRun.{CannotSolve};
 ghost use Rattle.runs.specs.Texts.{HasNoBoard};
 
-use crate::boards::{board_within, small_board};
-use crate::counting::{Counted, count_alone};
+use crate::boards::small_board;
 use crate::fault::RunFault;
-use crate::notices::tell_size;
-use crate::reading::{MAX_BOARD_BYTES, read_text};
+use crate::reading::MAX_BOARD_BYTES;
+use crate::summaries::Summary;
 use crate::work::Work;
-use crate::writing::write_text;
 use board_text::{Board, Sink, Source, Through};
 use command_line::BoardLimit;
+use gap_values::{GapValues, Sizes, ValueTable};
 use positions::{Claim, Value};
 use proof_text::write_claim;
 use round_workers::MAX_WORKERS;
@@ -30,6 +27,7 @@ use std::alloc::{AllocError, Global};
 use std::fmt::Write;
 use std::sync::Wait;
 use std::thread::Threads;
+use strategies::GapMoves;
 
 /// Reads a board, finds its values and writes how many of its configurations have each value.
 ///
@@ -57,66 +55,7 @@ pub fn run_report<R: Source, W: Sink>(
         (stream_of W.contents W.has_failed writer.old writer.new) }
 {
     let mut nobody = Through::new(Vec::new(alloc));
-    Work::of(workers).report(rt, alloc, reader, writer, &mut nobody)
-}
-
-impl Work {
-    /// Reads a board, finds its values and writes how many of its configurations have each value,
-    /// as `run_report` does, and tells a person on `errors` what is to be told.
-    ///
-    /// If `errors` fails, or has failed before, nothing more is written there, and the run goes
-    /// on.
-    pub fn report<R: Source, W: Sink, E: Sink>(
-        self,
-        rt: &(impl Threads + Wait + Sync),
-        alloc: Global,
-        reader: &mut R,
-        writer: &mut W,
-        errors: &mut E,
-    ) -> Result<(), RunFault>
-        requires workers { InRange 1 MAX_WORKERS self.workers }
-        requires reader_ready { R.has_failed reader.old ≡ false }
-        requires reader_unended { R.has_ended reader.old ≡ false }
-        requires writer_ready { W.has_failed writer.old ≡ false }
-        ensures ok { IfOk result (Ran (Reports self.limit) MAX_BOARD_BYTES
-            (bytes_of R.remaining reader.old reader.new)
-            (bytes_of W.contents writer.old writer.new)) }
-        ensures fault { IfErr result (Fails (Reports self.limit)
-            (CannotSolve self.limit self.workers) MAX_BOARD_BYTES
-            (bytes_of R.remaining reader.old reader.new)
-            (bytes_of W.contents writer.old writer.new)) }
-        ensures streams { TellsStreams result (R.has_failed reader.new ≡ true)
-            (stream_of W.contents W.has_failed writer.old writer.new) }
-        ensures notice { (told : List ℕ) × IsNoticedInRun self.limit
-            (bytes_of R.remaining reader.old reader.new) self.shows_size result told
-            × IsMore E.contents E.has_failed errors.old errors.new told }
-    {
-        let text = read_text(alloc, reader, MAX_BOARD_BYTES)?;
-        let report = self.report_text(rt, alloc, text.as_slice(), errors)?;
-        write_text(writer, &report)
-    }
-
-    /// The report of the board whose text is `text`, with the notice and the lines of its rounds.
-    fn report_text<E: Sink>(
-        self,
-        rt: &(impl Threads + Wait + Sync),
-        alloc: Global,
-        text: &[u8],
-        errors: &mut E,
-    ) -> Result<String, RunFault>
-        requires workers { InRange 1 MAX_WORKERS self.workers }
-        ensures report { IfOk result (λ report.
-            IsReportOfText self.limit text.now (string_bytes report)) }
-        ensures fault { IfErr result (CannotSolve self.limit self.workers text.now) }
-        ensures notice { (told : List ℕ)
-            × IsNoticedOfText self.limit text.now self.shows_size result told
-            × IsMore E.contents E.has_failed errors.old errors.new told }
-    {
-        let board = board_within(alloc, self.limit, text)?;
-        tell_size(&board, self.shows_size, errors);
-        let counted = self.count(rt, alloc, &board, errors)?;
-        Ok(report_of(alloc, &board, &counted)?)
-    }
+    Work::of(workers).summarize(rt, alloc, Summary::Report, reader, writer, &mut nobody)
 }
 
 /// The report of the board whose text is `text`. Its values are found on this thread.
@@ -126,24 +65,40 @@ pub fn report_text_alone(alloc: Global, text: &[u8]) -> Result<String, RunFault>
     ensures fault { IfErr result (HasNoBoard text.now) }
 {
     let board = small_board(alloc, text)?;
-    let counted = count_alone(alloc, &board)?;
-    Ok(report_of(alloc, &board, &counted)?)
+    let values = GapValues::of(alloc, &board)?;
+    let sizes = values.sizes(alloc)?;
+    Ok(report_by(alloc, &GapMoves::new(&board, &values), &sizes)?)
 }
 
-/// The report of `board`, of which this was counted.
-pub(crate) fn report_of(
+/// The report of the board of `moves`, of whose configurations these numbers have each value.
+pub(crate) fn report_by<V: ValueTable>(
+    alloc: Global,
+    moves: &GapMoves<'_, V>,
+    sizes: &Sizes,
+) -> Result<String, AllocError>
+    requires { AreValueCounts moves.now sizes.now.finite.items sizes.now.forever }
+    ensures { IfOk result (λ text. IsReportOf moves.now (string_bytes text)) }
+{
+    let start = moves.value(moves.board().start());
+    report_of(alloc, moves.board(), start, sizes)
+}
+
+/// The report of `board`, whose start has the value `start`.
+fn report_of(
     alloc: Global,
     board: &Board,
-    counted: &Counted,
+    start: Value,
+    sizes: &Sizes,
 ) -> Result<String, AllocError>
-    requires { IsBoardCounted board.now counted.now }
+    requires start { HasValue board.now board.now.start start }
+    requires sizes { AreValueCounts board.now sizes.now.finite.items sizes.now.forever }
     ensures { IfOk result (λ text. IsReportOf board.now (string_bytes text)) }
 {
     let mut text = String::new(alloc);
     write_head(&mut text, board)?;
-    write_start(&mut text, counted.start)?;
-    write_counts(&mut text, counted.sizes.finite.as_slice())?;
-    write_end(&mut text, counted.sizes.forever)?;
+    write_start(&mut text, start)?;
+    write_counts(&mut text, sizes.finite.as_slice())?;
+    write_end(&mut text, sizes.forever)?;
     Ok(text)
 }
 

@@ -1,28 +1,26 @@
 //! Solving a board: its document, from the text of the board to the bytes written.
 
-ghost use Rattle.std.specs.Prelude.{◌≡◌, ◌-◌, ◌≤◌, true, false, IfOk, IfErr, OnOk, flat_map};
-ghost use Rattle.board_text.specs.PlainBoard.{places};
+ghost use Rattle.std.specs.Prelude.{◌≡◌, ◌≤◌, true, false, IfOk, IfErr, OnOk, flat_map};
 ghost use Rattle.board_text.specs.Ranges.{InRange};
-ghost use Rattle.classes.specs.Numbers.{ways};
 ghost use Rattle.positions.specs.Ranks.{configurations};
 ghost use Rattle.positions.specs.Value.{HasValue};
 ghost use Rattle.positions.specs.declared.value.Value.{Value as ValueData};
 ghost use Rattle.strategies.specs.Sides.{HasStrategy};
-ghost use Rattle.runs.specs.LimitedSolveRun.{CannotSolveWithin, SolutionWithin};
 ghost use Rattle.runs.specs.Run.{Ran, Fails, TellsStreams, bytes_of, stream_of};
 ghost use Rattle.runs.specs.SolveRun.{CannotSolve, IsSolution};
-ghost use Rattle.runs.specs.Inside.SolveRun.{IsRefused, IsSolvedFor, IsUnmade};
-ghost use Rattle.runs.specs.Texts.{HasNoBoard, IsMemory};
+ghost use Rattle.runs.specs.Inside.SolveRun.{IsSolvedFor, IsUnmade};
+ghost use Rattle.runs.specs.Texts.{HasNoBoard};
 
 use crate::boards::small_board;
 use crate::fault::RunFault;
 use crate::reading::{MAX_BOARD_BYTES, read_text};
+use crate::work::Work;
 use crate::writing::write_parts;
-use board_text::{Board, Sink, Source};
+use board_text::{Sink, Source, Through};
 use command_line::BoardLimit;
-use gap_values::{GapValues, MAX_GAPS, ValueTable};
+use gap_values::{GapValues, ValueTable};
 use positions::{MAX_CONFIGURATIONS, Side, Space, Value};
-use round_workers::{MAX_WORKERS, NoGate, solve_classes};
+use round_workers::MAX_WORKERS;
 use std::alloc::Global;
 use std::sync::Wait;
 use std::thread::Threads;
@@ -79,34 +77,8 @@ pub fn run_solve<R: Source, W: Sink>(
     ensures streams { TellsStreams result (R.has_failed reader.new ≡ true)
         (stream_of W.contents W.has_failed writer.old writer.new) }
 {
-    solve_small(rt, alloc, workers, None, reader, writer)
-}
-
-/// The same for `side` alone, or for both.
-pub(crate) fn solve_small<R: Source, W: Sink>(
-    rt: &(impl Threads + Wait + Sync),
-    alloc: Global,
-    workers: u8,
-    side: Option<Side>,
-    reader: &mut R,
-    writer: &mut W,
-) -> Result<Value, RunFault>
-    requires workers { InRange 1 MAX_WORKERS workers }
-    requires reader_ready { R.has_failed reader.old ≡ false }
-    requires reader_unended { R.has_ended reader.old ≡ false }
-    requires writer_ready { W.has_failed writer.old ≡ false }
-    ensures ok { IfOk result (Ran (SolutionWithin BoardLimit.Small side) MAX_BOARD_BYTES
-        (bytes_of R.remaining reader.old reader.new) (bytes_of W.contents writer.old writer.new)) }
-    ensures fault { IfErr result (Fails (SolutionWithin BoardLimit.Small side)
-        (CannotSolveWithin BoardLimit.Small side workers) MAX_BOARD_BYTES
-        (bytes_of R.remaining reader.old reader.new) (bytes_of W.contents writer.old writer.new)) }
-    ensures streams { TellsStreams result (R.has_failed reader.new ≡ true)
-        (stream_of W.contents W.has_failed writer.old writer.new) }
-{
-    let text = read_text(alloc, reader, MAX_BOARD_BYTES)?;
-    let solved = solve_text(rt, alloc, workers, side, text.as_slice())?;
-    write_parts(writer, &solved.parts)?;
-    Ok(solved.value)
+    let mut nobody = Through::new(Vec::new(alloc));
+    Work::of(workers).solve(rt, alloc, None, reader, writer, &mut nobody)
 }
 
 /// The value of the start of the board whose text is `text`, and the text of its document, which
@@ -123,31 +95,9 @@ pub fn solve_text_alone(alloc: Global, text: &[u8]) -> Result<DocumentText, RunF
     Ok(document_text(alloc, &moves, &space)?)
 }
 
-/// The same as `solve_text_alone` for `side` alone, or for both, found by this number of `workers`,
-/// 1 to `MAX_WORKERS`. It may wait for them.
-pub(crate) fn solve_text(
-    rt: &(impl Threads + Wait + Sync),
-    alloc: Global,
-    workers: u8,
-    side: Option<Side>,
-    text: &[u8],
-) -> Result<DocumentText, RunFault>
-    requires workers { InRange 1 MAX_WORKERS workers }
-    ensures ok { IfOk result (λ solved. SolutionWithin BoardLimit.Small side
-        text.now solved.value (flat_map (λ part. part.items) solved.parts.items)) }
-    ensures fault { IfErr result (CannotSolveWithin BoardLimit.Small side workers text.now) }
-{
-    if workers == 1 && side.is_none() {
-        return solve_text_alone(alloc, text);
-    }
-    let board = small_board(alloc, text)?;
-    let values = small_values(rt, alloc, workers, &board)?;
-    solution_for(rt, alloc, &GapMoves::new(&board, &values), side, workers)
-}
-
 /// The value of the start of the board of `moves`, and the text of the board's document, for `side`
 /// alone or for both, with the lines of its rows made in this number of `parts`.
-fn solution_for(
+pub(crate) fn solution_for(
     rt: &(impl Threads + Sync),
     alloc: Global,
     moves: &GapMoves<'_, GapValues>,
@@ -183,24 +133,4 @@ pub(crate) fn expect_strategy<V: ValueTable>(
         Value::Finite(_) => Ok(()),
         Value::Forever => Err(RunFault::LastsForever),
     }
-}
-
-/// The values of a small `board`, by this number of `workers`. Several share the rounds over the
-/// graph of its classes.
-pub(crate) fn small_values(
-    rt: &(impl Threads + Wait + Sync),
-    alloc: Global,
-    workers: u8,
-    board: &Board,
-) -> Result<GapValues, RunFault>
-    requires few { configurations board.now ≤ MAX_CONFIGURATIONS }
-    requires gaps { ways (board.now.pebbles - 1) (places board.now) ≤ MAX_GAPS }
-    requires workers { InRange 1 MAX_WORKERS workers }
-    ensures values { IfOk result (λ values. values ≡ board.now) }
-    ensures refused { IfErr result (IsRefused BoardLimit.Small workers board.now) }
-{
-    if workers == 1 {
-        return Ok(GapValues::of(alloc, board)?);
-    }
-    Ok(solve_classes(rt, alloc, board, workers as u32, &NoGate)?)
 }

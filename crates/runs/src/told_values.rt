@@ -1,4 +1,4 @@
-//! The values of a board by its gaps, with the lines of its rounds.
+//! The values of a board, with the notice that it is solved and the lines of its rounds.
 
 ghost use Rattle.std.specs.Prelude.{◌≡◌, ◌-◌, ◌≤◌, ℕ, IfErr, IfOk, List, MatchResult, []};
 ghost use Rattle.board_text.specs.PlainBoard.{places};
@@ -6,48 +6,57 @@ ghost use Rattle.board_text.specs.Ranges.{InRange};
 ghost use Rattle.classes.specs.Numbers.{ways};
 ghost use Rattle.console.specs.Showing.{IsMore};
 ghost use Rattle.runs.specs.Inside.SolveRun.{IsRefused};
-ghost use Rattle.runs.specs.Notices.{AreAllRounds, AreRoundsTold, is_told_of};
-ghost use Rattle.runs.specs.Texts.{IsWithinLimit};
+ghost use Rattle.runs.specs.Notices.{AreAllRounds, AreRoundsTold, IsNoticedOfText, is_told_of};
+ghost use Rattle.runs.specs.SolveRun.{CannotSolve};
+ghost use Rattle.runs.specs.Texts.{IsBoardWithin, IsWithinLimit};
 
+use crate::boards::board_within;
 use crate::fault::RunFault;
-use crate::notices::RoundLines;
+use crate::notices::{RoundLines, tell_size};
 use crate::playing::Playing;
-use crate::solving::small_values;
 use crate::work::Work;
 use board_text::{Board, Memory, Sink};
 use command_line::BoardLimit;
 use gap_values::{GapValues, MAX_GAPS};
-use round_workers::MAX_WORKERS;
+use round_workers::{MAX_WORKERS, NoGate, solve_classes};
 use std::alloc::Global;
 use std::sync::Wait;
 use std::thread::Threads;
 
+/// A board and its values.
+#[derive(Drop)]
+pub(crate) struct BoardWithValues {
+    pub(crate) board: Board,
+    pub(crate) values: GapValues,
+}
+
 impl Work {
-    /// The values of `board`. A person is told of the rounds. The error is that memory ran out, and
-    /// then nothing was told.
-    pub(crate) fn values<E: Sink>(
+    /// The board whose text is `text`, and its values, with the notice and the lines of its rounds.
+    pub(crate) fn board_with_values<E: Sink>(
         self,
-        rt: &(impl Threads + Sync),
+        rt: &(impl Threads + Wait + Sync),
         alloc: Global,
-        board: &Board,
+        text: &[u8],
         errors: &mut E,
-    ) -> Result<GapValues, Memory>
-        requires gaps { ways (board.now.pebbles - 1) (places board.now) ≤ MAX_GAPS }
-        requires workers { 1 ≤ self.workers }
-        ensures values { IfOk result (λ values. values ≡ board.now) }
-        ensures rounds { (told : List ℕ) × MatchResult result
-            (λ values. AreAllRounds (is_told_of self.shows_size board.now) board.now told)
-            (λ memory. told ≡ [])
+    ) -> Result<BoardWithValues, RunFault>
+        requires workers { InRange 1 MAX_WORKERS self.workers }
+        ensures board { IfOk result (λ found. IsBoardWithin self.limit text.now found.board) }
+        ensures values { IfOk result (λ found. found.values ≡ found.board) }
+        ensures fault { IfErr result (CannotSolve self.limit self.workers text.now) }
+        ensures notice { (told : List ℕ)
+            × IsNoticedOfText self.limit text.now self.shows_size result told
             × IsMore E.contents E.has_failed errors.old errors.new told }
     {
-        let lines = RoundLines::of(board, self.shows_size);
-        GapValues::of_by(rt, alloc, board, self.workers, &lines, errors)
+        let board = board_within(alloc, self.limit, text)?;
+        tell_size(&board, self.shows_size, errors);
+        let values = self.values(rt, alloc, &board, errors)?;
+        Ok(BoardWithValues { board, values })
     }
 
     /// The values of `board`, which is within the limit. Several workers share the rounds over the
     /// graph of a small board; of any other they close the gaps of a round, and a person is told of
     /// it.
-    pub(crate) fn values_within<E: Sink>(
+    fn values<E: Sink>(
         self,
         rt: &(impl Threads + Wait + Sync),
         alloc: Global,
@@ -63,8 +72,13 @@ impl Work {
             × IsMore E.contents E.has_failed errors.old errors.new told }
     {
         match self.limit {
-            BoardLimit::Small if self.workers > 1 => small_values(rt, alloc, self.workers, board),
-            _ => Ok(self.values(rt, alloc, board, errors)?),
+            BoardLimit::Small if self.workers > 1 => {
+                Ok(solve_classes(rt, alloc, board, self.workers as u32, &NoGate)?)
+            }
+            _ => {
+                let lines = RoundLines::of(board, self.shows_size);
+                Ok(GapValues::of_by(rt, alloc, board, self.workers, &lines, errors)?)
+            }
         }
     }
 }

@@ -1,15 +1,17 @@
 //! How a board is solved, and solving it so.
 
-ghost use Rattle.std.specs.Prelude.{◌≡◌, ℕ, List, false, true, IfOk, IfErr};
+ghost use Rattle.std.specs.Prelude.{◌≡◌, ℕ, List, false, true, IfOk, IfErr, flat_map};
 ghost use Rattle.board_text.specs.Ranges.{InRange};
 ghost use Rattle.console.specs.Showing.{IsMore};
 ghost use Rattle.runs.specs.LimitedSolveRun.{CannotSolveWithin, SolutionWithin};
-ghost use Rattle.runs.specs.Notices.{IsNoticedInRun};
+ghost use Rattle.runs.specs.Notices.{IsNoticedInRun, IsNoticedOfText};
 ghost use Rattle.runs.specs.Run.{Ran, Fails, TellsStreams, bytes_of, stream_of};
 
+use crate::class_solving::class_solution;
 use crate::fault::RunFault;
-use crate::reading::MAX_BOARD_BYTES;
-use crate::solving::solve_small;
+use crate::reading::{MAX_BOARD_BYTES, read_text};
+use crate::solving::{solution_for, solve_text_alone};
+use crate::writing::write_parts;
 use board_text::{Sink, Source};
 use command_line::BoardLimit;
 use positions::{Side, Value};
@@ -17,6 +19,7 @@ use round_workers::MAX_WORKERS;
 use std::alloc::Global;
 use std::sync::Wait;
 use std::thread::Threads;
+use strategies::{DocumentText, GapMoves};
 
 /// How a board is solved.
 #[derive(Clone, Copy, Debug, PartialEq, Eq)]
@@ -80,9 +83,39 @@ impl Work {
             (bytes_of R.remaining reader.old reader.new) self.shows_size result told
             × IsMore E.contents E.has_failed errors.old errors.new told }
     {
+        let text = read_text(alloc, reader, MAX_BOARD_BYTES)?;
+        let solved = self.solution(rt, alloc, side, text.as_slice(), errors)?;
+        write_parts(writer, &solved.parts)?;
+        Ok(solved.value)
+    }
+
+    /// The value of the start of the board whose text is `text`, and the text of its document, for
+    /// `side` alone or for both, with the notice and the lines of its rounds.
+    fn solution<E: Sink>(
+        self,
+        rt: &(impl Threads + Wait + Sync),
+        alloc: Global,
+        side: Option<Side>,
+        text: &[u8],
+        errors: &mut E,
+    ) -> Result<DocumentText, RunFault>
+        requires workers { InRange 1 MAX_WORKERS self.workers }
+        ensures ok { IfOk result (λ solved. SolutionWithin self.limit side
+            text.now solved.value (flat_map (λ part. part.items) solved.parts.items)) }
+        ensures fault { IfErr result
+            (CannotSolveWithin self.limit side self.workers text.now) }
+        ensures notice { (told : List ℕ)
+            × IsNoticedOfText self.limit text.now self.shows_size result told
+            × IsMore E.contents E.has_failed errors.old errors.new told }
+    {
+        if self.workers == 1 && side.is_none() && matches!(self.limit, BoardLimit::Small) {
+            return solve_text_alone(alloc, text);
+        }
+        let found = self.board_with_values(rt, alloc, text, errors)?;
+        let moves = GapMoves::new(&found.board, &found.values);
         match self.limit {
-            BoardLimit::Small => solve_small(rt, alloc, self.workers, side, reader, writer),
-            BoardLimit::Large => self.solve_large(rt, alloc, side, reader, writer, errors),
+            BoardLimit::Small => solution_for(rt, alloc, &moves, side, self.workers),
+            BoardLimit::Large => class_solution(rt, alloc, &moves, side, self.workers),
         }
     }
 }

@@ -4,24 +4,22 @@ use Rattle.command_line.specs.declared.asked.BoardLimit.{BoardLimit}
 use Rattle.command_line.specs.declared.asked.BoardLimit.TheVariants.{Small, Large}
 use Rattle.positions.specs.declared.value.Value.{Value}
 use Rattle.runs.proofs.Cited.{chains_or_fault, class_solution_or_fault, given_or_lacking, not_wrong, one_chain_fault}
-use Rattle.runs.proofs.Cited.{one_chains, one_class_solution, one_lacking, one_report, one_side_solution, one_solution}
-use Rattle.runs.proofs.Cited.{one_starts, one_summary, one_symmetric_solution, one_unsolved, one_unsolved_for}
+use Rattle.runs.proofs.Cited.{one_chains, one_class_solution, one_lacking, one_side_solution, one_solution}
+use Rattle.runs.proofs.Cited.{one_summary, one_summary_of_text, one_symmetric_solution, one_unsolved, one_unsolved_for}
 use Rattle.runs.proofs.Cited.{one_unsolved_up_to, one_wrong, side_solution_or_fault, symmetric_solution_or_fault}
 use Rattle.runs.proofs.Cited.{wrong_counting}
 use Rattle.runs.specs.ChainText.{CannotCountChains, HasNoChains, SaysChains}
 use Rattle.runs.specs.ClassSolveRun.{CannotSolveByClasses, IsClassSolution, IsUnsolvedByClasses}
-use Rattle.runs.specs.Report.{Reports}
 use Rattle.runs.specs.Run.{Stream}
 use Rattle.runs.specs.SideSolveRun.{CannotSolveFor, IsSideSolution, IsUnsolvedFor}
 use Rattle.runs.specs.SolveRun.{CannotSolve, IsSolution}
-use Rattle.runs.specs.StartText.{SaysStarts}
+use Rattle.runs.specs.Summaries.{Summarizes}
 use Rattle.runs.specs.SymmetricRun.{HasNoFewOrbits, LacksFewOrbits, SaysUpTo}
 use Rattle.runs.specs.SymmetricSolveRun.{CannotSolveUpTo, IsSolutionUpTo, IsUnsolvedUpTo}
 use Rattle.runs.specs.Texts.{IsWithinUpTo, IsWrongBoard, IsWrongWithin}
 use Rattle.runs.specs.declared.fault.RunFault.TheVariants.{Read}
 use Rattle.runs.specs.declared.given_symmetries.TheConstants.{MAX_SYMMETRIES_BYTES}
 use Rattle.runs.specs.declared.reading.TheConstants.{MAX_BOARD_BYTES}
-use Rattle.runs.specs.declared.summaries.Summary.TheVariants as summaries
 use Rattle.serving.specs.Folders.{CanFail, File, Unknown}
 use Rattle.serving.specs.Jobs.{CountsChains, WritesAlone, WritesBoth, WritesValuesFor, WritesValuesUpTo}
 use Rattle.serving.specs.Outcomes.{outcome_of_run}
@@ -41,10 +39,8 @@ ValuesEnd (texts.Document None) Small = Ends outcome_of_run IsSolution IsWrongBo
 ValuesEnd (texts.Document None) Large = Ends outcome_of_run IsClassSolution IsUnsolvedByClasses MAX_BOARD_BYTES
 ValuesEnd (texts.Document (Some side)) limit =
     Ends outcome_of_run (IsSideSolution limit side) (IsUnsolvedFor limit side) MAX_BOARD_BYTES
-ValuesEnd (texts.Summary summaries.Report) limit =
-    Ends outcome_of_run (Reports limit) (IsWrongWithin limit) MAX_BOARD_BYTES
-ValuesEnd (texts.Summary summaries.Starts) limit =
-    Ends outcome_of_run (SaysStarts limit) (IsWrongWithin limit) MAX_BOARD_BYTES
+ValuesEnd (texts.Summary summary) limit =
+    Ends outcome_of_run (Summarizes summary limit) (IsWrongWithin limit) MAX_BOARD_BYTES
 
 pub one_values_end : (text : ValueText) (limit : BoardLimit) (bytes : List ℕ) → IsOne (ValuesEnd text limit bytes)
 one_values_end (texts.Document None) Small bytes =
@@ -59,13 +55,9 @@ one_values_end (texts.Document (Some side)) limit bytes =
     one_end outcome_of_run (IsSideSolution limit side) (IsUnsolvedFor limit side) MAX_BOARD_BYTES bytes
     (λ answer other line more is also. (refl, (one_side_solution limit side bytes answer other line more is also).1))
     (one_unsolved_for limit side bytes) (side_solution_or_fault limit side bytes)
-one_values_end (texts.Summary summaries.Report) limit bytes =
-    one_end outcome_of_run (Reports limit) (IsWrongWithin limit) MAX_BOARD_BYTES bytes
-    (λ answer other line more is also. (refl, one_report bytes limit limit line more is also))
-    (one_wrong limit bytes) (λ answer line fault says wrong. not_wrong limit bytes says.0 says.1 fault wrong)
-one_values_end (texts.Summary summaries.Starts) limit bytes =
-    one_end outcome_of_run (SaysStarts limit) (IsWrongWithin limit) MAX_BOARD_BYTES bytes
-    (λ answer other line more is also. (refl, one_starts bytes limit limit line more is also))
+one_values_end (texts.Summary summary) limit bytes =
+    one_end outcome_of_run (Summarizes summary limit) (IsWrongWithin limit) MAX_BOARD_BYTES bytes
+    (λ answer other line more is also. (refl, one_summary_of_text summary bytes limit limit line more is also))
     (one_wrong limit bytes) (λ answer line fault says wrong. not_wrong limit bytes says.0 says.1 fault wrong)
 
 -- the same of the texts of a board and of symmetries
@@ -118,12 +110,9 @@ module _ (output : Stream) (taken : List ℕ) (had : Had output taken) (outcome 
   values_end (texts.Document (Some side)) workers limit =
       alone_ends (IsSideSolution limit side) (CannotSolveFor limit side workers) (IsUnsolvedFor limit side)
       (wrong_side_solving limit side workers) output taken had outcome fair
-  values_end (texts.Summary summaries.Report) workers limit =
-      alone_ends (Reports limit) (CannotSolve limit workers) (IsWrongWithin limit) (wrong_solving limit workers)
-      output taken had outcome fair
-  values_end (texts.Summary summaries.Starts) workers limit =
-      alone_ends (SaysStarts limit) (CannotSolve limit workers) (IsWrongWithin limit) (wrong_solving limit workers)
-      output taken had outcome fair
+  values_end (texts.Summary summary) workers limit =
+      alone_ends (Summarizes summary limit) (CannotSolve limit workers) (IsWrongWithin limit)
+      (wrong_solving limit workers) output taken had outcome fair
 
   pub values_end_up_to : (text : ValueText) (limit : BoardLimit) (first second : File) → first ≢ Unknown
       → second ≢ Unknown → (outcome ≡ Broken Read → CanFail first ⊎ CanFail second)

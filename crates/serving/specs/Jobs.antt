@@ -16,9 +16,8 @@ use Rattle.runs.specs.BoardRun.{Readers, readers_by}
 use Rattle.runs.specs.PlayRun.{IsBrokenOff, IsOver, PlayFails, PlayFailsUpTo, PlayStreams, RanPlay}
 use Rattle.runs.specs.PlayRun.{RanPlayUpTo}
 use Rattle.runs.specs.ChainText.{CannotCountChains, SaysChains}
-use Rattle.runs.specs.Report.{Reports}
-use Rattle.runs.specs.StartText.{SaysStarts}
 use Rattle.runs.specs.Run.{Bytes, Fails, Ran, Stream, Wrote, WrotePrefix}
+use Rattle.runs.specs.Summaries.{Summarizes}
 use Rattle.runs.specs.LimitedSolveRun.{CannotSolveWithin, SolutionWithin}
 use Rattle.runs.specs.SolveRun.{CannotSolve}
 use Rattle.runs.specs.SymmetricRun.{FailsUpTo, HasNoFewOrbits, RanUpTo, SaysUpTo}
@@ -92,10 +91,8 @@ WritesUpTo Says SaysNothing limit read output outcome =
 abbrev pub WritesValuesFor : ValueText → ℕ → BoardLimit → Bytes → Stream → Outcome → Type 0
 WritesValuesFor (texts.Document side) workers limit =
     WritesFor (SolutionWithin limit side) (CannotSolveWithin limit side workers)
-WritesValuesFor (texts.Summary summaries.Report) workers limit =
-    WritesFor (Reports limit) (CannotSolve limit workers)
-WritesValuesFor (texts.Summary summaries.Starts) workers limit =
-    WritesFor (SaysStarts limit) (CannotSolve limit workers)
+WritesValuesFor (texts.Summary summary) workers limit =
+    WritesFor (Summarizes summary limit) (CannotSolve limit workers)
 
 -- the same for the texts of a board and of symmetries, up to which its values are found
 abbrev pub WritesValuesUpTo : ValueText → BoardLimit → Readers → Stream → Outcome → Type 0

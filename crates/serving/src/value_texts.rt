@@ -68,11 +68,8 @@ impl ValueText {
             ValueText::Document(side) => {
                 Outcome::of_run(work.solve(rt, alloc, side, reader, output, errors))
             }
-            ValueText::Summary(Summary::Report) => {
-                Outcome::of_run(work.report(rt, alloc, reader, output, errors))
-            }
-            ValueText::Summary(Summary::Starts) => {
-                Outcome::of_run(work.starts(rt, alloc, reader, output, errors))
+            ValueText::Summary(summary) => {
+                Outcome::of_run(work.summarize(rt, alloc, summary, reader, output, errors))
             }
         }
     }
