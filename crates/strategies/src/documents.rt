@@ -16,7 +16,7 @@ use std::alloc::Global;
 /// The document of the board of `moves`, whose configurations and gaps are those of `space`: the
 /// value of its start, a strategy for the labeller, and one for the adversary if the value is
 /// finite.
-pub fn document_by<V: ValueTable>(
+fn document_by<V: ValueTable>(
     alloc: Global,
     moves: &GapMoves<'_, V>,
     space: &Space,

@@ -36,7 +36,7 @@ mod walk;
 
 pub use best_moves::{best_answer, best_request};
 pub use class_documents::document_by_classes_in_parts;
-pub use documents::{document, document_by};
+pub use documents::document;
 pub use gap_moves::GapMoves;
 pub use laws::{best_answers_last, best_requests_end, one_best_answer, one_best_request};
 pub use laws_of_class_documents::{
