@@ -135,11 +135,11 @@ impl<'a> LineReader<'a> {
     }
 
     /// Takes the number that the rest begins with, if it lies in the range from `low` to `high`.
+    #[inline(always)]
     pub fn number(&mut self, low: u32, high: u32) -> Option<u32>
         ensures { TakesNumber low high result self.old self.new }
     {
-        let n = value(self.digits())?;
-        if low <= n && n <= high { Some(n) } else { None }
+        self.numeral()?.within(low, high)
     }
 
     /// Takes the digits that the rest begins with, one or more,
@@ -210,6 +210,7 @@ impl<'a> LineReader<'a> {
 
     /// Takes a line of `word` and `numbers.len()` space-led numbers
     /// below `bound`, and reads these into `numbers`.
+    #[inline(always)]
     pub fn numbers_line(&mut self, word: &[u8], numbers: &mut [u16], bound: u16) -> Option<()>
         requires some { 0 < length numbers.old }
         requires bound { 0 < bound }
@@ -237,6 +238,7 @@ impl<'a> LineReader<'a> {
         Some(())
     }
 
+    #[inline(always)]
     fn numbers(&mut self, numbers: &mut [u16], bound: u16) -> Option<()>
         requires some { 0 < length numbers.old }
         requires bound { 0 < bound }

@@ -138,6 +138,10 @@ pub(crate) fn add_in_parts<const WORDS: usize>(
     ensures { AreGathered tables (length sets.old) 0 told.now sets.old sets.new }
 {
     let lists = sets.len();
+    if tables == 1 {
+        add_tables(1, lists, told, 0, sets);
+        return;
+    }
     let size = lists.div_ceil(tables).max(1);
     par_chunks_mut_for_each(
         rt,

@@ -39,8 +39,8 @@ impl<const WORDS: usize> Labels<WORDS> {
         ensures { (x : ℕ) → x < MAX_LABELS → (has_bit result x ≡ true) ↔ (x < labels) }
     {
         let mut words = [0; WORDS];
-        for label in 0..labels {
-            words[label as usize / 64] |= 1 << (label % 64);
+        for number in 0..WORDS {
+            words[number] = bits_below(labels, number);
         }
         Labels { words }
     }
@@ -180,5 +180,19 @@ fn bits_from(bound: usize, number: usize) -> u64
         u64::MAX
     } else {
         u64::MAX << (bound % 64)
+    }
+}
+
+/// The bits of the word `number` whose labels are below `bound`.
+fn bits_below(bound: u16, number: usize) -> u64
+    ensures { (bit : ℕ) → bit < 64 → (bit_at result bit ≡ 1) ↔ (64 * number + bit < bound) }
+{
+    let whole = bound as usize / 64;
+    if number < whole {
+        u64::MAX
+    } else if number == whole {
+        (1 << (bound % 64)) - 1
+    } else {
+        0
     }
 }
