@@ -4,6 +4,7 @@ ghost use Rattle.std.specs.Prelude.{◌≡◌, ◌↔◌, ◌≤◌, IfSome, IsT
 ghost use Rattle.board_text.specs.PlainBoard.{IsConfiguration};
 
 use crate::counting::has_few_gaps;
+use crate::makers::{OnThisThread, by_workers};
 use crate::value_table::ValueTable;
 use crate::values::GapValues;
 use board_text::{Board, MAX_PEBBLES, parse};
@@ -52,7 +53,7 @@ fn assert_values(
 ) {
     let board = parse(alloc, text.as_bytes()).ok().expect(rt, "a board");
     assert!(rt; has_few_gaps(&board));
-    match GapValues::of_by(rt, alloc, &board, 1, &NoWatch, &mut ()) {
+    match GapValues::of(alloc, &board, &OnThisThread, &NoWatch, &mut ()) {
         Ok(values) => {
             assert_eq!(rt; values.value(board.start()), wanted);
             let sizes = values.sizes_by(rt, alloc, 1).ok().expect(rt, "memory");
@@ -83,7 +84,7 @@ fn values_of(
     if !has_few_gaps(board) {
         return None;
     }
-    GapValues::of_by(rt, alloc, board, workers, &NoWatch, &mut ()).ok()
+    GapValues::of(alloc, board, &by_workers(rt, workers), &NoWatch, &mut ()).ok()
 }
 
 /// The value of a configuration by its gaps, and the one that the slow program finds.

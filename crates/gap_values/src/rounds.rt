@@ -31,8 +31,8 @@ pub(crate) struct GapRounds<const WORDS: usize> {
 pub const MAX_GAPS: u32 = 536_870_912;
 
 /// Makes rounds, with sets of `WORDS` words.
-pub(crate) trait RoundMaker<const WORDS: usize> {
-    // It may start threads, if it does.
+pub trait RoundMaker<const WORDS: usize> {
+    // The threads that it starts may share what it lends them.
     ghost can_make: { Self → Type 0 };
 
     /// The number of tables of sets that it tells of closed gaps.
