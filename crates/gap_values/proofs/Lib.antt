@@ -1,4 +1,5 @@
 pub mod Cited
+mod ClosedBehind
 mod ClosedGaps
 mod ClosedParts
 mod ClosingSteps

@@ -6,7 +6,7 @@ ghost use Rattle.classes.specs.Numbers.{ways};
 ghost use Rattle.console.specs.Watching.{AreStepsTold};
 ghost use Rattle.gap_values.specs.Inside.Closing.{CanClose, MayClose, IsPartClosed};
 ghost use Rattle.gap_values.specs.Inside.Sets.{AreGapRounds, AreGathered};
-ghost use Rattle.gap_values.specs.Inside.OpenWords.{open_below};
+ghost use Rattle.gap_values.specs.Inside.OpenWords.{AreClosedFrom, open_below};
 ghost use Rattle.gap_values.specs.OpenGaps.{AreOpenCounts};
 
 use crate::closing::OPEN;
@@ -103,8 +103,18 @@ pub(crate) fn rounds_of_gaps<const WORDS: usize, T, W: Watch<T>, M: RoundMaker<W
     let mut closed = vec![in alloc; Labels::below(0); lists as usize]?;
     let mut tables = vec![in alloc; Labels::below(0); maker.tables() as usize * lists as usize]?;
     let mut round = 0;
+    let mut end = words.len();
     loop {
-        let some = maker.close(board, numbers, &closed, round, &mut words, &mut tables);
+        let some = close_open(
+            maker,
+            board,
+            numbers,
+            &closed,
+            round,
+            end,
+            &mut words,
+            &mut tables,
+        );
         maker.add(&tables, &mut closed);
         if round == 0 {
             first.extend_from_slice(&closed)?;
@@ -117,8 +127,31 @@ pub(crate) fn rounds_of_gaps<const WORDS: usize, T, W: Watch<T>, M: RoundMaker<W
             });
         }
         round += 1;
+        end = end_of_open(&words, end);
         tell_open(watch, told, round, &words);
     }
+}
+
+/// The same as `maker.close`, which looks at the words before `end` alone: none is open from there
+/// on.
+fn close_open<const WORDS: usize, M: RoundMaker<WORDS>>(
+    maker: &M,
+    board: &Board,
+    numbers: &ClassNumbers,
+    sets: &[Labels<WORDS>],
+    round: u32,
+    end: usize,
+    words: &mut [u32],
+    told: &mut [Labels<WORDS>],
+) -> bool
+    requires can_make { M.can_make maker.now }
+    requires can_close { CanClose WORDS board.now numbers.now sets.now round }
+    requires part { MayClose board.now round 0 (M.tables_of maker.now) words.old told.old }
+    requires shut { AreClosedFrom words.old end }
+    ensures { IsPartClosed board.now sets.now round 0 (M.tables_of maker.now) words.old words.new
+        told.new result }
+{
+    maker.close(board, numbers, sets, round, &mut words[..end], told)
 }
 
 /// Tells that `round` begins, with the number of `words` that are open, if anything is told.
@@ -143,4 +176,16 @@ fn count_open(words: &[u32]) -> u32
         }
     }
     count
+}
+
+/// One more than the place of the last open word, or 0. None stands at `from` or behind it.
+fn end_of_open(words: &[u32], from: usize) -> usize
+    requires { AreClosedFrom words.now from }
+    ensures { AreClosedFrom words.now result }
+{
+    let mut end = from;
+    while end > 0 && words[end - 1] != OPEN {
+        end -= 1;
+    }
+    end
 }

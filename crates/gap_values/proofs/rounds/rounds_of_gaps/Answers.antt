@@ -4,17 +4,18 @@ use Rattle.std.proofs.lemmas.List.{length-replicate, take_at}
 use Rattle.std.proofs.lemmas.Result.{err_from_is_err_and}
 use Rattle.board_text.specs.PlainBoard.{places}
 use Rattle.classes.specs.Numbers.{ways}
-use Rattle.gap_values.specs.Inside.OpenWords.{open_below}
+use Rattle.gap_values.specs.Inside.OpenWords.{AreClosedFrom, open_below}
 use Rattle.gap_values.specs.Inside.Sets.{ArePassed, AreGathered, AreFresh, AreTablesOf, HasRound, IsOfRound}
 use Rattle.gap_values.specs.Inside.Sets.{TellClosed}
 use Rattle.console.proofs.Cited.{none_told, nothing_told, told_more}
+use Rattle.gap_values.proofs.ClosedBehind.{closed-kept}
 use Rattle.gap_values.proofs.OpenCounts.{all-rounds, lone-counts, none-so-far, one-more}
 use Rattle.gap_values.proofs.RoundSteps.{IsAtRound, gap_count, first-round, last-round, lone-rounds, next-round}
 use Rattle.gap_values.proofs.RoundSteps.{all-told, first-kept, fresh-words}
 use Rattle.gap_values.proofs.RoundSteps.{some-closed, round-told}
 use Rattle.gap_values.proofs.rounds.rounds_of_gaps.Given.{Over}
 use Rattle.gap_values.proofs.rounds.rounds_of_gaps.Goals as goal
-use Rattle.gap_values.proofs.rounds.rounds_of_gaps.Goals.{In_ok-words, After-close-some}
+use Rattle.gap_values.proofs.rounds.rounds_of_gaps.Goals.{In_ok-words, After-close_open-some}
 use Rattle.gap_values.proofs.rounds.rounds_of_gaps.Goals.{then-round-eq0+in_ok-extend_from_slice, else-round-eq0}
 
 words-open : (g : Over) (c : In_ok-words g)
@@ -45,6 +46,10 @@ loop-round-init g c =
           (words-open g (goal.at.loop-round-init g c).In_ok-words)
           (c.in_ok-closed.ensures.items_if_clones_equal (λ y e. e) ∙ ap (λ n. replicate n c.below.result) lists)
           c.below.ensures c.pebbles.ensures.is_board;
+      shut = record {
+        within = omega (arith, c.len-end.ensures, c.in_ok-words.words.ok.0);
+        each = λ index past under. absurd (omega (arith, past, under, c.len-end.ensures, c.in_ok-words.words.ok.0));
+      };
       tables = ap length (c.in_ok-tables.ensures.items_if_clones_equal (λ y e. e))
           ∙ length-replicate {A = List ℕ} (c.tables.result * c.ways-lists.result) c.below-2.result
           ∙ ap (λ n. n * c.ways-lists.result) c.tables.ensures.value
@@ -59,13 +64,13 @@ loop-round-init g c =
     }
 
 -- the gaps of the round were passed
-module _ (g : Over) (c : After-close-some g) where
+module _ (g : Over) (c : After-close_open-some g) where
   abbrev old : List ℕ
   old = c.loop-round.words.items
 
   abbrev new : List ℕ
   new = take c.loop-round.words.len
-      (c.close-some.new.words ++ drop (length c.close-some.new.words) c.loop-round.words.items)
+      (c.close_open-some.new.words ++ drop (length c.close_open-some.new.words) c.loop-round.words.items)
 
   some : 2 ≤ c.args.board.now.pebbles
   some =
@@ -75,9 +80,9 @@ module _ (g : Over) (c : After-close-some g) where
   low : c.loop-round.round < 4294967295
   low = let few = c.loop-round.invariant.at.few in omega (arith, few, c.requires.few)
 
-  new-is : new ≡ c.close-some.new.words
-  new-is = take_at c.close-some.new.words (drop (length c.close-some.new.words) c.loop-round.words.items)
-      c.loop-round.words.len (c.close-some.auto.words ∙ c.deref_mut.ensures.len)
+  new-is : new ≡ c.close_open-some.new.words
+  new-is = take_at c.close_open-some.new.words (drop (length c.close_open-some.new.words) c.loop-round.words.items)
+      c.loop-round.words.len (c.close_open-some.auto.words ∙ c.deref_mut.ensures.len)
 
   passed : ArePassed c.args.board.now c.loop-round.closed.items c.loop-round.round 0 0 (gap_count c.args.board.now) old
       new
@@ -87,15 +92,15 @@ module _ (g : Over) (c : After-close-some g) where
       subst (λ (l : List ℕ). ArePassed c.args.board.now c.loop-round.closed.items c.loop-round.round 0 0
       (gap_count c.args.board.now) old l) (sym new-is)
       (subst (λ (l : List ℕ). ArePassed c.args.board.now c.loop-round.closed.items c.loop-round.round 0 0
-      (gap_count c.args.board.now) l c.close-some.new.words) c.deref_mut.ensures.value
+      (gap_count c.args.board.now) l c.close_open-some.new.words) c.deref_mut.ensures.value
       (subst (λ n. ArePassed c.args.board.now c.loop-round.closed.items c.loop-round.round 0 0 n
-      c.deref_mut.result.now c.close-some.new.words) size
+      c.deref_mut.result.now c.close_open-some.new.words) size
       (subst (λ (l : List (List ℕ)). ArePassed c.args.board.now l c.loop-round.round 0 0
-      (length c.deref_mut.result.now) c.deref_mut.result.now c.close-some.new.words) c.deref.ensures.value
-      c.close-some.ensures.passed)))
+      (length c.deref_mut.result.now) c.deref_mut.result.now c.close_open-some.new.words) c.deref.ensures.value
+      c.close_open-some.ensures.passed)))
 
-pub close-some-requires : goal.close-some-requires
-close-some-requires g c =
+pub close_open-some-requires : goal.close_open-some-requires
+close_open-some-requires g c =
     let least = c.pebbles.ensures.is_board.pebbles.0 in
     let two : 2 ≤ c.args.board.now.pebbles =
     omega (arith, least, c.if-pebbles-eq1.false, c.pebbles.ensures.value) in
@@ -120,27 +125,31 @@ close-some-requires g c =
             each_list = sets;
             is_round = low;
           },
-          record {
-            gaps = omega (arith, words);
-            fresh = fresh;
-            many = ap length c.deref_mut-in-loop-round.ensures.value ∙ c.loop-round.invariant.tables;
-          },
+          (
+            record {
+              gaps = omega (arith, words);
+              fresh = fresh;
+              many = ap length c.deref_mut-in-loop-round.ensures.value ∙ c.loop-round.invariant.tables;
+            },
+            subst (λ (l : List ℕ). AreClosedFrom l c.loop-round.end) (sym c.deref_mut.ensures.value)
+                c.loop-round.invariant.shut,
+          ),
         ),
       ),
     )
 
 -- the tables that were told of the round
-told-is : (g : Over) (c : After-close-some g)
+told-is : (g : Over) (c : After-close_open-some g)
     → take c.loop-round.tables.len
-    (c.close-some.new.told ++ drop (length c.close-some.new.told) c.loop-round.tables.items) ≡ c.close-some.new.told
-told-is g c = take_at c.close-some.new.told (drop (length c.close-some.new.told) c.loop-round.tables.items)
-    c.loop-round.tables.len (c.close-some.auto.told ∙ c.deref_mut-in-loop-round.ensures.len)
+    (c.close_open-some.new.told ++ drop (length c.close_open-some.new.told) c.loop-round.tables.items) ≡ c.close_open-some.new.told
+told-is g c = take_at c.close_open-some.new.told (drop (length c.close_open-some.new.told) c.loop-round.tables.items)
+    c.loop-round.tables.len (c.close_open-some.auto.told ∙ c.deref_mut-in-loop-round.ensures.len)
 
 pub add-requires : goal.add-requires
 add-requires g c =
-    let at = (goal.at.add-requires g c).After-close-some in
+    let at = (goal.at.add-requires g c).After-close_open-some in
     let tables : ℕ = g.M.RoundMaker.tables_of c.args.maker.now in
-    let told : c.deref-in-loop-round.result.now ≡ c.close-some.new.told =
+    let told : c.deref-in-loop-round.result.now ≡ c.close_open-some.new.told =
     c.deref-in-loop-round.ensures.value ∙ told-is g at in
     let sets : length c.deref_mut-in-loop-round-2.result.now
     ≡ ways (c.args.board.now.pebbles - 2) (places c.args.board.now) =
@@ -150,58 +159,58 @@ add-requires g c =
         c.requires.can_make,
         (
           c.requires.narrow,
-          ap length told ∙ c.close-some.auto.told ∙ ap length c.deref_mut-in-loop-round.ensures.value
+          ap length told ∙ c.close_open-some.auto.told ∙ ap length c.deref_mut-in-loop-round.ensures.value
               ∙ c.loop-round.invariant.tables ∙ ap (λ n. tables * n) (sym sets),
         ),
       ),
     )
 
 -- whether some gaps closed
-some-told : (g : Over) (c : After-close-some g) → IsTrue c.close-some.result
+some-told : (g : Over) (c : After-close_open-some g) → IsTrue c.close_open-some.result
     ↔ ((gap : ℕ) × (gap < gap_count c.args.board.now) × (get_or (new g c) gap 0 ≡ c.loop-round.round))
 some-told g c =
     let size : length (new g c) ≡ gap_count c.args.board.now =
     (passed g c).same_length ∙ c.loop-round.invariant.at.size in
-    let says : IsTrue c.close-some.result ↔ HasRound c.loop-round.round (new g c) =
-    subst (λ (l : List ℕ). IsTrue c.close-some.result ↔ HasRound c.loop-round.round l) (sym (new-is g c))
-    c.close-some.ensures.some in (
+    let says : IsTrue c.close_open-some.result ↔ HasRound c.loop-round.round (new g c) =
+    subst (λ (l : List ℕ). IsTrue c.close_open-some.result ↔ HasRound c.loop-round.round l) (sym (new-is g c))
+    c.close_open-some.ensures.some in (
       λ yes. (let found = says.0 yes in (found.0, omega (arith, found.1, size), found.2)),
       λ found. says.1 (found.0, omega (arith, found.1, size), found.2),
     )
 
 -- none closed
-none-closed : (g : Over) (c : After-close-some g) → c.close-some.result ≡ false → (gap : ℕ)
+none-closed : (g : Over) (c : After-close_open-some g) → c.close_open-some.result ≡ false → (gap : ℕ)
     → gap < gap_count c.args.board.now → get_or (new g c) gap 0 ≢ c.loop-round.round
 none-closed g c no_one gap inside closed =
     true≢false (sym ((some-told g c).1 (gap, inside, closed)) ∙ no_one)
 
 -- sets to which the tables were added are told of what closed, and are kept as they are
-record IsAdded (g : Over) (c : After-close-some g) (added : List (List ℕ)) : Type 0 where
+record IsAdded (g : Over) (c : After-close_open-some g) (added : List (List ℕ)) : Type 0 where
   told : TellClosed c.args.board.now (new g c) (c.loop-round.round + 1) added
   kept : take c.loop-round.closed.len (added ++ drop (length added) c.loop-round.closed.items) ≡ added
 
-is-added : (g : Over) (c : After-close-some g) (told from added : List (List ℕ))
+is-added : (g : Over) (c : After-close_open-some g) (told from added : List (List ℕ))
     → told ≡ take c.loop-round.tables.len
-    (c.close-some.new.told ++ drop (length c.close-some.new.told) c.loop-round.tables.items)
+    (c.close_open-some.new.told ++ drop (length c.close_open-some.new.told) c.loop-round.tables.items)
     → from ≡ c.loop-round.closed.items → length from ≡ c.loop-round.closed.len
     → AreGathered (g.M.RoundMaker.tables_of c.args.maker.now) (length from) 0 told from added → IsAdded g c added
 is-added g c told from added told_taken from_is size are =
     let b = c.args.board.now in
     let tables : ℕ = g.M.RoundMaker.tables_of c.args.maker.now in
-    let told_all : told ≡ c.close-some.new.told = told_taken ∙ told-is g c in
+    let told_all : told ≡ c.close_open-some.new.told = told_taken ∙ told-is g c in
     record {
       told = round-told b c.pebbles.ensures.is_board (some g c) c.loop-round.round (old g c) (new g c)
-          c.loop-round.closed.items (low g c) c.loop-round.invariant.at (passed g c) tables c.close-some.new.told added
-          (subst (λ (l : List ℕ). AreTablesOf b tables (IsOfRound c.loop-round.round 0 l) c.close-some.new.told)
-          (sym (new-is g c)) c.close-some.ensures.tell)
-          (subst (λ (l : List (List ℕ)). AreGathered tables (length l) 0 c.close-some.new.told l added) from_is
+          c.loop-round.closed.items (low g c) c.loop-round.invariant.at (passed g c) tables c.close_open-some.new.told added
+          (subst (λ (l : List ℕ). AreTablesOf b tables (IsOfRound c.loop-round.round 0 l) c.close_open-some.new.told)
+          (sym (new-is g c)) c.close_open-some.ensures.tell)
+          (subst (λ (l : List (List ℕ)). AreGathered tables (length l) 0 c.close_open-some.new.told l added) from_is
           (subst (λ (l : List (List ℕ)). AreGathered tables (length from) 0 l from added) told_all are));
       kept = take_at added (drop (length added) c.loop-round.closed.items) c.loop-round.closed.len
           (are.same_length ∙ size);
     }
 
 -- what is told first is of the first round, after it and later ones
-first-begun : (g : Over) (c : After-close-some g) (first taken added : List (List ℕ)) → IsAdded g c added
+first-begun : (g : Over) (c : After-close_open-some g) (first taken added : List (List ℕ)) → IsAdded g c added
     → c.loop-round.round ≡ 0 → first ≡ c.loop-round.first.items ++ taken → taken ≡ take c.loop-round.closed.len
     (added ++ drop (length added) c.loop-round.closed.items)
     → TellClosed c.args.board.now (new g c) 1 first
@@ -211,7 +220,7 @@ first-begun g c first taken added is begun first_is taken_is =
     subst (TellClosed c.args.board.now (new g c) 1) (sym all)
     (subst (λ n. TellClosed c.args.board.now (new g c) (n + 1) added) begun is.told)
 
-first-later : (g : Over) (c : After-close-some g) (first : List (List ℕ)) → c.loop-round.round ≢ 0
+first-later : (g : Over) (c : After-close_open-some g) (first : List (List ℕ)) → c.loop-round.round ≢ 0
     → first ≡ c.loop-round.first.items → TellClosed c.args.board.now (new g c) 1 first
 first-later g c first begun first_is =
     let later : 1 ≤ c.loop-round.round = omega (arith, begun) in
@@ -222,7 +231,7 @@ first-later g c first begun first_is =
 
 pub returns-then-not-some-clause-rounds : goal.returns-then-not-some-clause-rounds
 returns-then-not-some-clause-rounds g c =
-    let at = (goal.at.returns-then-not-some-clause-rounds g c).After-close-some in
+    let at = (goal.at.returns-then-not-some-clause-rounds g c).After-close_open-some in
     let b = c.args.board.now in
     let added = is-added g at _ _ c.add.new.sets c.deref-in-loop-round.ensures.value
     c.deref_mut-in-loop-round-2.ensures.value c.deref_mut-in-loop-round-2.ensures.len c.add.ensures in
@@ -248,14 +257,14 @@ returns-then-not-some-clause-rounds g c =
 
 pub loop-round-smaller : goal.loop-round-smaller
 loop-round-smaller g c =
-    let at = (goal.at.loop-round-smaller g c).After-close-some in
+    let at = (goal.at.loop-round-smaller g c).After-close_open-some in
     some-closed c.args.board.now c.pebbles.ensures.is_board (some g at) c.loop-round.round (old g at) (new g at)
     c.loop-round.closed.items (low g at) c.loop-round.invariant.at (passed g at)
     ((some-told g at).0 c.if-not-some.false)
 
 pub loop-round-preserved : goal.loop-round-preserved
 loop-round-preserved g c =
-    let at = (goal.at.loop-round-preserved g c).After-close-some in
+    let at = (goal.at.loop-round-preserved g c).After-close_open-some in
     let b = c.args.board.now in
     let added = is-added g at _ _ c.add.new.sets c.deref-in-loop-round.ensures.value
     c.deref_mut-in-loop-round-2.ensures.value c.deref_mut-in-loop-round-2.ensures.len c.add.ensures in
@@ -269,7 +278,9 @@ loop-round-preserved g c =
           (next-round b c.pebbles.ensures.is_board (some g at) c.loop-round.round (old g at) (new g at)
           c.loop-round.closed.items (low g at) c.loop-round.invariant.at (passed g at) c.add.new.sets
           ((some-told g at).0 c.if-not-some.false) added.told);
-      tables = ap length (told-is g at) ∙ c.close-some.auto.told
+      shut = subst (λ (l : List ℕ). AreClosedFrom l c.end_of_open-end.result) c.deref-in-loop-round-2.ensures.value
+          c.end_of_open-end.ensures;
+      tables = ap length (told-is g at) ∙ c.close_open-some.auto.told
           ∙ ap length c.deref_mut-in-loop-round.ensures.value ∙ c.loop-round.invariant.tables;
       none = λ begun. absurd (omega (arith, begun));
       first = λ some_round. elim c.if-round-eq0.branch [
@@ -288,7 +299,7 @@ loop-round-preserved g c =
         told_more tells 1 so_far.0 opened c.args.told.now c.loop-round.told c.tell_open.new.told so_far.2
             (subst (λ k. tells c.loop-round.told c.tell_open.new.told k opened) next
             (subst (λ (l : List ℕ). tells c.loop-round.told c.tell_open.new.told (c.loop-round.round + 1)
-            (open_below l (length l))) c.deref-in-loop-round-2.ensures.value c.tell_open.ensures)),
+            (open_below l (length l))) c.deref-in-loop-round-3.ensures.value c.tell_open.ensures)),
       );
     }
 
@@ -313,7 +324,7 @@ returns-in_err-extend_from_slice-clause-untold g c =
 
 pub returns-then-not-some-clause-told : goal.returns-then-not-some-clause-told
 returns-then-not-some-clause-told g c =
-    let at = (goal.at.returns-then-not-some-clause-told g c).After-close-some in
+    let at = (goal.at.returns-then-not-some-clause-told g c).After-close_open-some in
     let b = c.args.board.now in
     let so_far = c.loop-round.invariant.told in (
       so_far.0,
@@ -322,3 +333,10 @@ returns-then-not-some-clause-told g c =
           (none-closed g at c.if-not-some.true),
       so_far.2,
     )
+
+pub end_of_open-end-requires : goal.end_of_open-end-requires
+end_of_open-end-requires g c =
+    let at = (goal.at.end_of_open-end-requires g c).After-close_open-some in
+    subst (λ (l : List ℕ). AreClosedFrom l c.loop-round.end) (sym c.deref-in-loop-round-2.ensures.value)
+    (closed-kept c.args.board.now c.loop-round.closed.items c.loop-round.round (gap_count c.args.board.now) c.loop-round.end
+    (old g at) (new g at) (passed g at) c.loop-round.invariant.shut)
