@@ -12,7 +12,8 @@ pub use Rattle.classes.proofs.OrderCounts.{weight-orders}
 pub use Rattle.classes.proofs.PutPlaces.{all-class_of, of-all-class_of, class_of-own, class_of-set, falls-class_of}
 pub use Rattle.classes.proofs.PutPlaces.{length-class_of, length-put, place-cancel, put-cancel, put-here, put-is}
 pub use Rattle.classes.proofs.PutPlaces.{put-none, put-past, HasPebble, IsIn, in-put, pebble_of_place, all-put}
-pub use Rattle.classes.proofs.PutPlaces.{falls-more, index-put, of-all-put, others-put}
+pub use Rattle.classes.proofs.PutPlaces.{falls-more, gap_at-class, index-here, index-none, index-past, index-put}
+pub use Rattle.classes.proofs.PutPlaces.{of-all-put, others-put}
 pub use Rattle.classes.proofs.PlacesWithout.{all-remove, class-push, remove-last, remove-past}
 pub use Rattle.classes.proofs.Sums.{sum-add, sum-none, sum-same, sum-suc, sum-swap, sum-zero}
 pub use Rattle.classes.proofs.TableNumbers.{few-of-small, lists-fit, place-below, number-more, ways-fit}

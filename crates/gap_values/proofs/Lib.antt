@@ -11,6 +11,7 @@ mod ClassRounds
 mod OpenCounts
 pub mod BestAnswers
 mod LeadingBelow
+mod FirstGaps
 mod Weighing
 mod ClassCounts
 mod UnclosedLabels

@@ -1,11 +1,12 @@
 -- The best answer to a request, by the gap of the other pebbles.
-use Rattle.std.specs.Prelude.{ℕ, ◌<◌, ◌≤◌, List, Option, None, Some}
+use Rattle.std.specs.Prelude.{◌≡◌, ℕ, ◌<◌, ◌≤◌, List, Option, None, Some}
 use Rattle.board_text.specs.PlainBoard.{PlainBoard}
 use Rattle.positions.specs.Counts.{IsSmallest}
-use Rattle.positions.specs.declared.value.Value.TheVariants.{Finite}
+use Rattle.positions.specs.declared.value.Value.{Value}
+use Rattle.positions.specs.declared.value.Value.TheVariants.{Finite, Forever}
 use Rattle.positions.specs.Value.{HasValue, HasValueAtMost}
 use Rattle.positions.specs.Gaps.{AnswersGap}
-use Rattle.classes.specs.ClassGaps.{member_with}
+use Rattle.classes.specs.ClassGaps.{gap_at, member_with}
 use Rattle.gap_values.specs.declared.closing.TheConstants.{OPEN}
 use Rattle.gap_values.specs.declared.value_table.Best.{Best}
 use Rattle.gap_values.specs.RoundWords.{round_of_word}
@@ -40,3 +41,11 @@ IsMostAfter board gap word = (word ≤ OPEN)
 abbrev pub LeadBelow : PlainBoard → List ℕ → ℕ → Type 0
 LeadBelow board gap number = (label : ℕ) → AnswersGap board gap label
     → (depth : ℕ) × (depth < number) × HasValue board (member_with gap label) (Finite depth)
+
+-- the first pebble of the configuration a request of which leads to values below this finite one
+-- alone, if there is one; none for `Forever`
+abbrev pub IsFirstBelow : PlainBoard → List ℕ → Value → Option ℕ → Type 0
+IsFirstBelow board held (Finite number) request =
+    IsSmallest (λ pebble. (pebble < board.pebbles) × LeadBelow board (gap_at held pebble) number)
+    request
+IsFirstBelow board held Forever request = request ≡ None

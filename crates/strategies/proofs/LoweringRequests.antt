@@ -1,6 +1,5 @@
 -- The requests that lower the value, by their best answers.
-use Rattle.std.proofs.Common.{◌≡◌, ℕ, ◌+◌, ◌<◌, ◌≤◌, ◌↔◌, List, Option, None, Some, inl, inr, refl, sym, subst, arith}
-use Rattle.std.proofs.lemmas.Bool.{cases_lt}
+use Rattle.std.proofs.Common.{◌≡◌, ℕ, ◌<◌, ◌↔◌, List, Option, None, Some, inl, inr, refl, sym, subst}
 use Rattle.board_text.specs.PlainBoard.{PlainBoard, IsConfiguration}
 use Rattle.positions.specs.declared.value.Value.{Value}
 use Rattle.positions.specs.declared.value.Value.TheVariants.{Finite, Forever}
@@ -8,9 +7,11 @@ use Rattle.positions.specs.Counts.{IsSmallest}
 use Rattle.positions.specs.Game.{moved}
 use Rattle.positions.specs.Value.{HasValue}
 use Rattle.positions.proofs.Cited.{some_value, same_value}
+use Rattle.gap_values.specs.BestOfGap.{IsFirstBelow}
 use Rattle.gap_values.specs.declared.value_table.Best.{Best}
 use Rattle.strategies.specs.Best.{IsLess, HasSmallerValue, HasNoGreaterValue, LowersValue, IsBestFor}
 use Rattle.strategies.specs.Best.{IsBestRequestIfAny}
+use Rattle.strategies.proofs.GapMembers.{gap-of-lowers, lowers-of-gap}
 use Rattle.strategies.proofs.ValueOrder.{cases_value, IsLess-trans}
 use Rattle.strategies.proofs.BestRequests.{first_is_smallest, best_request, not_lowered}
 
@@ -81,29 +82,11 @@ pub lowers_first : (board : PlainBoard) (configuration : List ℕ) (pebble : ℕ
 lowers_first board configuration pebble none lowers =
     (lowers, first_is_smallest (LowersValue board configuration) pebble none)
 
-pub none_lowers : (board : PlainBoard) (configuration : List ℕ) (pebble : ℕ)
-    → NoneLowersBelow board configuration pebble → ¬ LowersValue board configuration pebble
-    → NoneLowersBelow board configuration (pebble + 1)
-none_lowers board configuration pebble none not other before lowering = elim (cases_lt other pebble) [
-  | inl early ↦ none other early lowering
-  | inr late ↦
-      let same : other ≡ pebble = omega arith in
-      not (subst (LowersValue board configuration) same lowering)
-]
-
 pub request_none : (board : PlainBoard) (configuration : List ℕ) (pebble : ℕ) → IsConfiguration board configuration
     → IsSmallest (LowersValue board configuration) (Some pebble)
     → (Some pebble ≡ None) ↔ HasValue board configuration Forever
 request_none board configuration pebble is best =
     (λ same. absurd cc, λ forever. absurd (not_lowered board configuration pebble is forever best.0))
-
-pub no_request : (board : PlainBoard) (configuration : List ℕ) (bound : ℕ) → IsConfiguration board configuration
-    → board.pebbles ≤ bound
-    → NoneLowersBelow board configuration bound → (◌≡◌ {A = Option ℕ} None None) ↔ HasValue board configuration Forever
-no_request board configuration bound is all none = (
-  λ _. unlowered_lasts board configuration is (λ pebble below lowering. none pebble (omega arith) lowering),
-  λ forever. refl,
-)
 
 -- no request lowers a value that lasts forever
 pub forever_lowers_none : (board : PlainBoard) (configuration : List ℕ) → IsConfiguration board configuration
@@ -112,3 +95,25 @@ forever_lowers_none board configuration is forever = record {
   best = λ other lowering. not_lowered board configuration other is forever lowering;
   none = (λ _. forever, λ _. refl);
 }
+
+-- the first pebble whose gap leads below the value is the best request
+pub first_below_best : (board : PlainBoard) (held : List ℕ) (value : Value) (request : Option ℕ)
+    → IsConfiguration board held → HasValue board held value → IsFirstBelow board held value request
+    → IsBestRequestIfAny board held request
+first_below_best board held Forever request is has none =
+    subst (IsBestRequestIfAny board held) (sym none) (forever_lowers_none board held is has)
+first_below_best board held (Finite number) None is has none =
+    let not : (other : ℕ) → LowersValue board held other → ⊥ =
+    λ other lowering. none other
+    (lowering.is_pebble, gap-of-lowers board held is other lowering.is_pebble number has lowering) in
+    record {
+      best = not;
+      none = (λ _. unlowered_lasts board held is (λ other inside lowering. not other lowering), λ _. refl);
+    }
+first_below_best board held (Finite number) (Some pebble) is has first =
+    let best : IsSmallest (LowersValue board held) (Some pebble) = (
+      lowers-of-gap board held is pebble first.0.0 number has first.0.1,
+      λ other lowering. first.1 other
+          (lowering.is_pebble, gap-of-lowers board held is other lowering.is_pebble number has lowering),
+    ) in
+    record { best = best; none = request_none board held pebble is best }

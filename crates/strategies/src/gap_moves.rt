@@ -97,28 +97,7 @@ impl<'a, V: ValueTable> GapMoves<'a, V> {
         ensures value { HasValue self.now held.now result.0 }
         ensures request { IsBestRequestIfAny self.now held.now result.1 }
     {
-        let value = self.value(held);
-        let Value::Finite(number) = value else {
-            return (value, None);
-        };
-        for pebble in 0..self.board.pebbles() {
-            if self.lowers(held, pebble, number) {
-                return (value, Some(pebble));
-            }
-        }
-        (value, None)
-    }
-
-    /// Whether all legal results of a request of `pebble` at the configuration `held`, whose value
-    /// is `number`, have a smaller value.
-    fn lowers(&self, held: &[u16], pebble: u8, number: u32) -> bool
-        requires held { IsConfiguration self.now held.now }
-        requires pebble { pebble < self.now.pebbles }
-        requires value { HasValue self.now held.now (Finite number) }
-        ensures { IsTrue result ↔ LowersValue self.now held.now pebble }
-    {
-        let gap = others_of(self.board, held, pebble);
-        self.values.leads_below(self.board, gap.as_slice(), number)
+        self.values.request(self.board, held)
     }
 }
 
