@@ -8,9 +8,10 @@ use Rattle.std.specs.Int.Count.{ones}
 use Rattle.std.proofs.lemmas.Bool.{cases_eq, cases_lt, eqb-true, eq-eqb}
 use Rattle.std.proofs.lemmas.List.{get_or_past, get_or-replicate, get_or-set_same, get_or-set_other, length-set}
 use Rattle.std.proofs.lemmas.List.{length-replicate}
+use Rattle.std.proofs.lemmas.Nat.{one_shl}
 use Rattle.std.proofs.lemmas.Nat.Bits.{bit_at_set_same, bit_at_set_other, bit_at-zero, bit_at_and, bit_at_or, bit_at-lt}
 use Rattle.std.proofs.lemmas.Nat.Bits.{bit_at_not}
-use Rattle.std.proofs.lemmas.Nat.Bits.{bit_at_ones, bit_at_mask_inside, bit_at_mask_below, bit_at-trailing_zeros}
+use Rattle.std.proofs.lemmas.Nat.Bits.{bit_at_ones, bit_at_ones_above, bit_at_mask_inside, bit_at_mask_below, bit_at-trailing_zeros}
 use Rattle.std.proofs.lemmas.Nat.Bits.{ones_shl}
 use Rattle.board_text.specs.Domination.{has_bit}
 use Rattle.board_text.specs.declared.board.TheConstants.{MAX_LABELS}
@@ -82,23 +83,49 @@ below_none count = record {
   );
 }
 
-pub below_more : (count : ℕ) (words : List ℕ) (bound : ℕ) → bound < 64 * count → HasBelow count words bound
-    → HasBelow count (with_bit words bound) (bound + 1)
-below_more count words bound small has = record {
-  size =
-      length-set words (bound / 64) (bit_or (get_or words (bound / 64) 0) (1 * 2 ^ (bound % 64) % 2 ^ 64)) ∙ has.size;
-  each = λ x low. elim (cases_eq x bound) [
-    | inl same ↦ (
-      λ set. omega arith,
-      λ less. ap (has_bit (with_bit words bound)) same ∙ has_bit-set_same words bound (omega (arith, has.size, small)),
-    )
-    | inr other ↦ (
-      λ set. let less : x < bound = (has.each x low).0
-          (sym (has_bit-set_other words bound x (omega (arith, has.size, small)) other) ∙ set) in omega arith,
-      λ less. has_bit-set_other words bound x (omega (arith, has.size, small)) other ∙ (has.each x low).1 (omega arith),
-    )
-  ];
-}
+-- the first bits of the next word are set
+pub below_word : (count : ℕ) (words : List ℕ) (number k : ℕ) → number < count → k ≤ 64
+    → HasBelow count words (64 * number) → HasBelow count (set words number (2 ^ k - 1)) (64 * number + k)
+below_word count words number k inside few has =
+    let word : ℕ = 2 ^ k - 1 in
+    let new : List ℕ = set words number word in
+    let here : get_or new number 0 ≡ word = get_or-set_same words number word 0 (omega (arith, has.size, inside)) in
+    record {
+      size = length-set words number word ∙ has.size;
+      each = λ x low. elim (cases_eq (x / 64) number) [
+        | inl same ↦
+            let is : get_or new (x / 64) 0 ≡ word = ap (λ n. get_or new n 0) same ∙ here in (
+              λ set. elim (cases_lt (x % 64) k) [
+                | inl below ↦ omega (arith, same, below)
+                | inr above ↦
+                    let one : bit_at (get_or new (x / 64) 0) (x % 64) ≡ 1 =
+                    eqb-true (bit_at (get_or new (x / 64) 0) (x % 64)) 1 set in
+                    let zero : bit_at (get_or new (x / 64) 0) (x % 64) ≡ 0 =
+                    ap (λ w. bit_at w (x % 64)) is ∙ bit_at_ones_above k (x % 64) above in
+                    absurd (omega arith)
+              ],
+              λ less. ap (λ w. nat_eq (bit_at w (x % 64)) 1) is
+                  ∙ eq-eqb (bit_at word (x % 64)) 1 (bit_at_ones k (x % 64) (omega (arith, same, less))),
+            )
+        | inr other ↦
+            let kept : has_bit new x ≡ has_bit words x =
+            ap (λ w. nat_eq (bit_at w (x % 64)) 1) (get_or-set_other words number (x / 64) word 0 other) in (
+              λ set. let less : x < 64 * number = (has.each x low).0 (sym kept ∙ set) in omega (arith, less),
+              λ less. kept ∙ (has.each x low).1 (omega (arith, less, few, other)),
+            )
+      ];
+    }
+
+-- the bits of the last labels in a word that isn't full
+pub below_rest : (count : ℕ) (words : List ℕ) (labels : ℕ) → labels ≤ 64 * count → 0 < labels % 64
+    → HasBelow count words (64 * (labels / 64))
+    → HasBelow count (set words (labels / 64) (1 * 2 ^ (labels % 64) % 2 ^ 64 - 1)) labels
+below_rest count words labels fits some has =
+    let whole : 64 * (labels / 64) + labels % 64 ≡ labels = omega arith in
+    let mask : 2 ^ (labels % 64) ≡ 1 * 2 ^ (labels % 64) % 2 ^ 64 = sym (one_shl (labels % 64) 64 (omega arith)) in
+    subst (λ bits. HasBelow count (set words (labels / 64) (bits - 1)) labels) mask
+    (subst (HasBelow count (set words (labels / 64) (2 ^ (labels % 64) - 1))) whole
+    (below_word count words (labels / 64) (labels % 64) (omega (arith, fits, some)) (omega arith) has))
 
 -- ---- words that are made one after the other
 

@@ -38,9 +38,13 @@ impl<const WORDS: usize> Labels<WORDS> {
         requires { labels ≤ 64 * WORDS }
         ensures { (x : ℕ) → x < MAX_LABELS → (has_bit result x ≡ true) ↔ (x < labels) }
     {
+        let whole = labels as usize / 64;
         let mut words = [0; WORDS];
-        for label in 0..labels {
-            words[label as usize / 64] |= 1 << (label % 64);
+        for number in 0..whole {
+            words[number] = u64::MAX;
+        }
+        if labels % 64 > 0 {
+            words[whole] = (1 << (labels % 64)) - 1;
         }
         Labels { words }
     }
