@@ -44,7 +44,8 @@ pub row_word : (board : PlainBoard) (row : List ℕ) (place : ℕ) → place < b
     → AreBitsOf (λ label. DominatesPlace board label place) (get_or row 0 0)
 row_word board row place is_label beaten label low =
     let same : 64 * 0 + label ≡ label = omega arith in
-    let bit = subst (λ x. has_bit row x ≡ nat_eq (bit_at (get_or row 0 0) label) 1) same (bit_of_word row 0 label low) in
+    let bit = subst (λ x. has_bit row x ≡ nat_eq (bit_at (get_or row 0 0) label) 1) same
+    (bit_of_word row 0 label low) in
     let small : label < MAX_LABELS = omega arith in (
       λ set held. (beaten label small).0 (bit ∙ eq-eqb (bit_at (get_or row 0 0) label) 1 set),
       λ dominates. eqb-true (bit_at (get_or row 0 0) label) 1 (sym bit ∙ (beaten label small).1 (dominates is_label)),
@@ -52,12 +53,16 @@ row_word board row place is_label beaten label low =
 
 pub blank_word : (board : PlainBoard) (place : ℕ) → board.labels ≤ place
     → AreBitsOf (λ label. DominatesPlace board label place) (2 ^ 64 - 1)
-blank_word board place blank label low = (λ set held. absurd (omega (arith, held, blank)), λ all. bit_at_ones 64 label low)
+blank_word board place blank label low = (
+  λ set held. absurd (omega (arith, held, blank)),
+  λ all. bit_at_ones 64 label low,
+)
 
 -- one more place, at the end or before the first
 pub next_before : (board : PlainBoard) (places : List ℕ) (end word row : ℕ)
     → AreBitsOf (λ label. DominatesPlace board label (get_or places end 0)) row
-    → AreBitsOf (DominatesFrom board places 0 end) word → AreBitsOf (DominatesFrom board places 0 (end + 1)) (bit_and word row)
+    → AreBitsOf (DominatesFrom board places 0 end) word
+    → AreBitsOf (DominatesFrom board places 0 (end + 1)) (bit_and word row)
 next_before board places end word row of_row of_word =
     bits_of_both (DominatesFrom board places 0 end) (λ label. DominatesPlace board label (get_or places end 0))
     (DominatesFrom board places 0 (end + 1)) word row (λ label. (
@@ -70,10 +75,12 @@ next_before board places end word row of_row of_word =
 
 pub next_after : (board : PlainBoard) (places : List ℕ) (first end word row : ℕ) → first < end
     → AreBitsOf (λ label. DominatesPlace board label (get_or places first 0)) row
-    → AreBitsOf (DominatesFrom board places (first + 1) end) word → AreBitsOf (DominatesFrom board places first end) (bit_and word row)
+    → AreBitsOf (DominatesFrom board places (first + 1) end) word
+    → AreBitsOf (DominatesFrom board places first end) (bit_and word row)
 next_after board places first end word row some of_row of_word =
-    bits_of_both (DominatesFrom board places (first + 1) end) (λ label. DominatesPlace board label (get_or places first 0))
-    (DominatesFrom board places first end) word row (λ label. (
+    bits_of_both (DominatesFrom board places (first + 1) end)
+    (λ label. DominatesPlace board label (get_or places first 0)) (DominatesFrom board places first end) word row
+    (λ label. (
       λ all. (λ other from to. all other (omega arith) to, all first (omega arith) some),
       λ each other from to. elim (cases_eq other first) [
         | inl same ↦ subst (λ k. DominatesPlace board label (get_or places k 0)) (sym same) each.1
@@ -150,7 +157,8 @@ made_previous board places first words after row few inside of_row made =
             get_or-set_same words first word 0 (omega (arith, inside, few, made.sized)) in
             subst (λ k. AreBitsOf (DominatesOthers board places k) (get_or (set words first word) k 0)) (sym same)
             (subst (AreBitsOf (DominatesOthers board places first)) (sym is)
-            (of_others board places first (get_or words first 0) after inside (made.earlier first (omega arith)) made.all))
+            (of_others board places first (get_or words first 0) after inside (made.earlier first (omega arith))
+            made.all))
         | inr differs ↦ subst (AreBitsOf (DominatesOthers board places pebble))
             (sym (get_or-set_other words first pebble word 0 differs))
             (made.each pebble (omega (arith, from, differs)) below)

@@ -11,7 +11,8 @@ AreBitsOf fact word = (label : ℕ) → label < 64 → (bit_at word label ≡ 1)
 -- the label dominates the places of the pebbles from `first` up to `end`
 abbrev pub DominatesFrom : PlainBoard → List ℕ → ℕ → ℕ → ℕ → Type 0
 DominatesFrom board places first end label =
-    (other : ℕ) → first ≤ other → other < end → DominatesPlace board label (slice_index places other)
+    (other : ℕ) → first ≤ other → other < end
+    → DominatesPlace board label (slice_index places other)
 
 -- for each of the first pebbles the labels that dominate the places before its own
 abbrev pub AreOfEarlier : PlainBoard → List ℕ → ℕ → List ℕ → Type 0
