@@ -2,7 +2,7 @@
 
 ghost use Rattle.std.specs.Prelude.{◌≡◌, ◌≢◌, ℕ, ◌+◌, ◌≤◌, ◌<◌, ◌^◌, ◌++◌, ◌∷◌, [], List, length};
 ghost use Rattle.std.specs.Prelude.{IsTrue, ◌↔◌};
-ghost use Rattle.std.specs.Prelude.{MatchOption, option_map};
+ghost use Rattle.std.specs.Prelude.{MatchOption, Some, None, option_map};
 ghost use Rattle.std.specs.Char.{is_ascii_digit};
 ghost use Rattle.std.specs.Str.Parse.{AllDigits, digits_value};
 ghost use Rattle.std.specs.Fmt.{decimal};
@@ -10,6 +10,7 @@ ghost use Rattle.std.specs.List.{prefix_len};
 ghost use Rattle.board_text.specs.LineForms.{Takes, TakesNumber, NoDigit, number_line};
 ghost use Rattle.board_text.specs.LineForms.{numbers_line};
 ghost use Rattle.board_text.specs.Inside.LineForms.{TakesNumbers};
+ghost use Rattle.board_text.specs.Inside.PlaceForms.{TakesPlace};
 ghost use Rattle.board_text.specs.Ranges.{InRange, AreNumbers};
 ghost use Rattle.board_text.specs.declared.line_reader.Numeral.TheVariants.{Number};
 
@@ -110,7 +111,11 @@ impl<'a> LineReader<'a> {
             (λ _. self.old ≡ text.now ++ self.new) }
         ensures none { MatchOption result (self.new ≡ self.old) (λ _. Unit {0}) }
     {
-        // The texts are short: byte by byte is quicker than a comparison of slices.
+        // The texts are short: byte by byte, with one look at the length, is quicker than a
+        // comparison of slices.
+        if self.rest.len() < text.len() {
+            return None;
+        }
         let mut rest = self.rest;
         for byte in text {
             let (first, after) = rest.split_first()?;
@@ -171,13 +176,16 @@ impl<'a> LineReader<'a> {
             (option_map (λ are. (are, places.new)) result) self.old self.new }
     {
         let mut are_places = true;
+        let mut rest = self.rest;
         for place in places.iter_mut() {
-            self.take(b" ")?;
-            match self.place(labels, bound)? {
+            let (found, after) = spaced_place(rest, labels, bound)?;
+            rest = after;
+            match found {
                 Some(n) => *place = n,
                 None => are_places = false,
             }
         }
+        self.rest = rest;
         Some(are_places)
     }
 
@@ -253,13 +261,50 @@ impl<'a> LineReader<'a> {
     }
 }
 
-/// The number of at most three digits that `bytes` begin with, and the bytes after it.
-/// `None`: there is no digit, a fourth one follows, or a zero leads.
+/// The place that the text after a space spells, if it is below `bound`, and the bytes after it.
+/// `None`: `bytes` don't begin with a space and the text of a place.
+#[inline(always)]
+fn spaced_place(bytes: &[u8], labels: u16, bound: u16) -> Option<(Option<u16>, &[u8])>
+    requires { (labels ≤ bound) × (bound ≤ labels + 1) }
+    ensures { MatchOption result
+        ((rest : List ℕ) → bytes.now ≡ 32 ∷ rest → TakesPlace labels bound None rest [])
+        (λ found. (rest : List ℕ) × (bytes.now ≡ 32 ∷ rest)
+        × TakesPlace labels bound (Some found.0) rest found.1.now) }
+{
+    let (first, rest) = bytes.split_first()?;
+    if *first != b' ' {
+        return None;
+    }
+    match short_number(rest) {
+        Some((n, after)) => Some((Numeral::Number(n).below(labels), after)),
+        None => long_place(rest, labels, bound),
+    }
+}
+
+/// The same for a text without a space before it, however long it is.
+#[cold]
+#[inline(never)]
+fn long_place(bytes: &[u8], labels: u16, bound: u16) -> Option<(Option<u16>, &[u8])>
+    requires { (labels ≤ bound) × (bound ≤ labels + 1) }
+    ensures { MatchOption result (TakesPlace labels bound None bytes.now [])
+        (λ found. TakesPlace labels bound (Some found.0) bytes.now found.1.now) }
+{
+    let mut text = LineReader::new(bytes);
+    let place = text.place(labels, bound)?;
+    Some((place, text.rest))
+}
+
+/// The number of at most three digits that `bytes` begin with, and the bytes after it. `None`:
+/// there is no digit, a fourth one follows, a zero leads, or there are fewer than four bytes.
 #[inline(always)]
 fn short_number(bytes: &[u8]) -> Option<(u32, &[u8])>
     ensures { MatchOption result (Unit {0}) (λ found. (found.0 < 1000)
         × (bytes.now ≡ decimal found.0 ++ found.1.now) × NoDigit found.1.now) }
 {
+    // Asked once, for all four digits that are looked at.
+    if bytes.len() < 4 {
+        return None;
+    }
     let (first, after_first) = split_digit(bytes)?;
     let Some((second, after_second)) = split_digit(after_first) else {
         return Some((first, after_first));

@@ -69,7 +69,7 @@ pub fn read_all<A: Allocator, S: Source>(
     Err(ReadFault::Limit)
 }
 
-/// Makes `bytes` longer than `filled`, so that a read finds room: twice as long if it is full.
+/// Makes `bytes` longer than `filled`, so that a read finds room: by a quarter if it is full.
 fn make_room<A: Allocator>(
     bytes: &mut Vec<u8, A>,
     filled: usize,
@@ -87,7 +87,10 @@ fn make_room<A: Allocator>(
     if filled < bytes.len() {
         return Ok(());
     }
-    let longer = filled.saturating_mul(2).max(FIRST_READ).min(limit + 1);
+    let longer = filled
+        .saturating_add(filled / 4)
+        .max(FIRST_READ)
+        .min(limit + 1);
     bytes.resize(longer, 0)
 }
 

@@ -11,7 +11,7 @@ use Rattle.classes.specs.Numbers.{number_by_greatest}
 use Rattle.classes.proofs.Cited.{class_of-own, gap_at-class, index-put}
 use Rattle.gap_values.specs.BestOfGap.{IsFirstBelow, LeadBelow}
 use Rattle.gap_values.specs.GapTables.{IsClosedBefore, IsFirstClosed, IsGapTable}
-use Rattle.gap_values.specs.Inside.Words.{IsFirstGap, IsFirstWith, gap_table, word_at}
+use Rattle.gap_values.specs.Inside.Words.{IsFirstGap, IsFirstWith, gap_table, gap_word}
 use Rattle.gap_values.specs.RoundWords.{round_of_word}
 use Rattle.gap_values.proofs.ClosedGaps.{first-closed, gap-is}
 use Rattle.gap_values.proofs.LeadingBelow.{below-closed, closed-below}
@@ -28,13 +28,13 @@ at-most-open words held end word None is = omega (arith, is.first)
 at-most-open words held end word (Some pebble) is = let low = is.first.1 in omega arith
 
 pub first-more : (words held : List ℕ) (end word new : ℕ) (pebble : Option ℕ) → IsFirstGap words held end word pebble
-    → word_at words held end ≡ new → new < word → IsFirstGap words held (end + 1) new (Some end)
+    → gap_word words held end ≡ new → new < word → IsFirstGap words held (end + 1) new (Some end)
 first-more words held end word new pebble was is less = record {
   least = λ other low. elim (cases_lt other end) [
     | inl before ↦ (let most = was.least other before in omega arith)
     | inr last ↦
         let same : end ≡ other = omega arith in
-        let here : word_at words held other ≡ new = ap (word_at words held) (sym same) ∙ is in omega arith
+        let here : gap_word words held other ≡ new = ap (gap_word words held) (sym same) ∙ is in omega arith
   ];
   first = (
     omega arith,
@@ -45,13 +45,13 @@ first-more words held end word new pebble was is less = record {
 }
 
 pub first-same : (words held : List ℕ) (end word new : ℕ) (pebble : Option ℕ) → IsFirstGap words held end word pebble
-    → word_at words held end ≡ new → word ≤ new → IsFirstGap words held (end + 1) word pebble
+    → gap_word words held end ≡ new → word ≤ new → IsFirstGap words held (end + 1) word pebble
 first-same words held end word new pebble was is most = record {
   least = λ other low. elim (cases_lt other end) [
     | inl before ↦ was.least other before
     | inr last ↦
         let same : end ≡ other = omega arith in
-        let here : word_at words held other ≡ new = ap (word_at words held) (sym same) ∙ is in omega arith
+        let here : gap_word words held other ≡ new = ap (gap_word words held) (sym same) ∙ is in omega arith
   ];
   first = go pebble was.first;
 }
@@ -83,7 +83,7 @@ module _ (board : PlainBoard) (words held : List ℕ) (table : IsGapTable board 
   is-first word None first bound = (
     λ before. (let low = before-to word bound before in absurd (omega (arith, low.1, first.first))),
     λ has.
-        let low = before-to (word_at words held has.0) bound has.2 in
+        let low = before-to (gap_word words held has.0) bound has.2 in
         absurd (let most = first.least has.0 has.1 in omega (arith, low.1, most, first.first)),
   )
   is-first word (Some p) first bound = (
@@ -93,7 +93,7 @@ module _ (board : PlainBoard) (words held : List ℕ) (table : IsGapTable board 
       subst (λ w. IsClosedBefore (round_of_word w) bound) (sym first.first.2) before,
     ),
     λ has.
-        let low = before-to (word_at words held has.0) bound has.2 in
+        let low = before-to (gap_word words held has.0) bound has.2 in
         let most = first.least has.0 has.1 in before-from word bound (omega (arith, low.0, most)) first.first.1,
   )
 
@@ -102,17 +102,17 @@ module _ (board : PlainBoard) (words held : List ℕ) (table : IsGapTable board 
   first-value word pebble first =
       first-closed board (gap_table words) held (round_of_word word) table is (is-first word pebble first)
 
-  below : (p number : ℕ) → p < board.pebbles → word_at words held p < 4294967295 → word_at words held p ≤ number
+  below : (p number : ℕ) → p < board.pebbles → gap_word words held p < 4294967295 → gap_word words held p ≤ number
       → LeadBelow board (gap_at held p) number
   below p number inside low most =
       closed-below board (gap_table words) table (gap_at held p) is_board (gap-is board held is p inside) number
-      (word_at words held p) refl low most
+      (gap_word words held p) refl low most
 
   not-below : (p number : ℕ) → p < board.pebbles → LeadBelow board (gap_at held p) number
-      → word_at words held p ≤ number
+      → gap_word words held p ≤ number
   not-below p number inside leads =
       (below-closed board (gap_table words) table (gap_at held p) is_board (gap-is board held is p inside) number
-      (word_at words held p) refl leads).0
+      (gap_word words held p) refl leads).0
 
   pub first-request : (word : ℕ) (pebble : Option ℕ) → IsFirstGap words held board.pebbles word pebble
       → IsFirstBelow board held (round_of_word word) pebble
@@ -120,12 +120,12 @@ module _ (board : PlainBoard) (words held : List ℕ) (table : IsGapTable board 
       subst (λ value. IsFirstBelow board held value None) (sym (round-none word (omega (arith, first.first)))) refl
   first-request word (Some p) first =
       let inside : p < board.pebbles = first.first.0 in
-      let at : word_at words held p ≡ word = first.first.2 in
+      let at : gap_word words held p ≡ word = first.first.2 in
       subst (λ value. IsFirstBelow board held value (Some p)) (sym (round-finite word first.first.1)) (
         (inside, below p word inside (omega (arith, at, first.first.1)) (omega (arith, at))),
         λ other leads. elim (cases_lt other p) [
           | inl before ↦
-              let less : word < word_at words held other = first.first.3 other before in
+              let less : word < gap_word words held other = first.first.3 other before in
               absurd (let most = not-below other word leads.0 leads.1 in omega arith)
           | inr late ↦ late
         ],

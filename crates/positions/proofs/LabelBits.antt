@@ -8,11 +8,11 @@ use Rattle.std.specs.Int.Count.{ones}
 use Rattle.std.proofs.lemmas.Bool.{cases_eq, cases_lt, eqb-true, eq-eqb}
 use Rattle.std.proofs.lemmas.List.{get_or_past, get_or-replicate, get_or-set_same, get_or-set_other, length-set}
 use Rattle.std.proofs.lemmas.List.{length-replicate}
+use Rattle.std.proofs.lemmas.Nat.{one_shl}
 use Rattle.std.proofs.lemmas.Nat.Bits.{bit_at_set_same, bit_at_set_other, bit_at-zero, bit_at_and, bit_at_or, bit_at-lt}
 use Rattle.std.proofs.lemmas.Nat.Bits.{bit_at_not}
-use Rattle.std.proofs.lemmas.Nat.Bits.{bit_at_ones, bit_at_ones_above, bit_at_mask_inside, bit_at_mask_below, bit_at-trailing_zeros}
-use Rattle.std.proofs.lemmas.Nat.Bits.{ones_shl}
-use Rattle.std.proofs.lemmas.Nat.{one_shl}
+use Rattle.std.proofs.lemmas.Nat.Bits.{bit_at_ones, bit_at_ones_above, bit_at_mask_inside, bit_at_mask_below}
+use Rattle.std.proofs.lemmas.Nat.Bits.{bit_at-trailing_zeros, ones_shl}
 use Rattle.board_text.specs.Domination.{has_bit}
 use Rattle.board_text.specs.declared.board.TheConstants.{MAX_LABELS}
 use Rattle.positions.specs.Counts.{HasSize, IsSmallest}
@@ -63,62 +63,69 @@ get_or-zeros count k = elim (cases_lt k count) [
   | inr past ↦ get_or_past (replicate count 0) k 0 (omega (arith, past, length-replicate {A = ℕ} count 0))
 ]
 
--- ---- the labels below a number
-
--- of the bits of the word at a place these are set, whose labels are below the bound
-abbrev pub KeepsBelow : ℕ → ℕ → ℕ → Type 0
-KeepsBelow bound place kept = (j : ℕ) → j < 64 → (bit_at kept j ≡ 1) ↔ (64 * place + j < bound)
-
-pub keeps_none : (bound place : ℕ) → bound ≤ 64 * place → KeepsBelow bound place 0
-keeps_none bound place high j small = (λ one. absurd (omega (arith, bit_at-zero j)), λ less. absurd (omega arith))
-
-pub keeps_whole : (bound place : ℕ) → place < bound / 64 → KeepsBelow bound place (2 ^ 64 - 1)
-keeps_whole bound place low j small = (λ one. omega arith, λ less. bit_at_ones 64 j small)
-
-pub keeps_lowest : (bound place : ℕ) → place ≡ bound / 64 → KeepsBelow bound place (1 * 2 ^ (bound % 64) % 2 ^ 64 - 1)
-keeps_lowest bound place is =
-    let count : ℕ = bound % 64 in
-    let whole : 64 * place + count ≡ bound = omega arith in
-    subst (λ (k : ℕ). KeepsBelow bound place (k - 1)) (sym (one_shl count 64 (omega arith))) (λ j small.
-    elim (cases_lt j count) [
-      | inl under ↦ (λ one. omega arith, λ less. bit_at_ones count j under)
-      | inr over ↦ (λ one. absurd (omega (arith, bit_at_ones_above count j over)), λ less. absurd (omega arith))
-    ])
-
--- so many words, of which those before a place have the bits of the labels below a number
-pub record HasBelow (count : ℕ) (words : List ℕ) (bound place : ℕ) : Type 0 where
+-- in so many words the bits of the labels below a number are set
+pub record HasBelow (count : ℕ) (words : List ℕ) (bound : ℕ) : Type 0 where
   pub size : length words ≡ count
-  pub each : (k : ℕ) → k < place → KeepsBelow bound k (get_or words k 0)
+  pub each : (x : ℕ) → x < MAX_LABELS → (has_bit words x ≡ true) ↔ (x < bound)
 
-pub below_none : (count bound : ℕ) → HasBelow count (replicate count 0) bound 0
-below_none count bound = record { size = length-replicate count 0; each = λ k low. absurd (omega arith) }
-
-pub below_more : (count : ℕ) (words : List ℕ) (bound place word : ℕ) → place < count → KeepsBelow bound place word
-    → HasBelow count words bound place → HasBelow count (set words place word) bound (place + 1)
-below_more count words bound place word small keeps has = record {
-  size = length-set words place word ∙ has.size;
-  each = λ k low. elim (cases_eq k place) [
-    | inl same ↦ subst (λ (w : ℕ). KeepsBelow bound k w)
-        (sym (ap (λ (i : ℕ). get_or (set words place word) i 0) same
-        ∙ get_or-set_same words place word 0 (omega (arith, small, has.size))))
-        (subst (λ (i : ℕ). KeepsBelow bound i word) (sym same) keeps)
-    | inr other ↦ subst (λ (w : ℕ). KeepsBelow bound k w) (sym (get_or-set_other words place k word 0 other))
-        (has.each k (omega (arith, low, other)))
-  ];
+pub below_none : (count : ℕ) → HasBelow count (replicate count 0) 0
+below_none count = record {
+  size = length-replicate count 0;
+  each = λ x low. (
+    λ set. (
+        let bit : bit_at (get_or (replicate count 0) (x / 64) 0) (x % 64) ≡ 1 =
+        eqb-true (bit_at (get_or (replicate count 0) (x / 64) 0) (x % 64)) 1 set in
+        let cleared : bit_at (get_or (replicate count 0) (x / 64) 0) (x % 64) ≡ 0 =
+        ap (λ w. bit_at w (x % 64)) (get_or-zeros count (x / 64)) ∙ bit_at-zero (x % 64) in
+        absurd (omega arith)
+        ),
+    λ less. absurd (omega arith),
+  );
 }
 
-pub below_all : (count : ℕ) (words : List ℕ) (bound place x : ℕ) → bound ≤ 64 * count → count ≤ place
-    → HasBelow count words bound place → (has_bit words x ≡ true) ↔ (x < bound)
-below_all count words bound place x few all has = elim (cases_lt (x / 64) count) [
-  | inl inside ↦
-      let keeps = has.each (x / 64) (omega arith) (x % 64) (omega arith) in
-      let word : ℕ = bit_at (get_or words (x / 64) 0) (x % 64) in
-      let whole : 64 * (x / 64) + x % 64 ≡ x = omega arith in (
-        λ set. omega (arith, keeps.0 (eqb-true word 1 set), whole),
-        λ less. eq-eqb word 1 (keeps.1 (omega (arith, less, whole))),
-      )
-  | inr past ↦ (λ set. absurd (past-bit words x (omega (arith, past, has.size)) set), λ less. absurd (omega arith))
-]
+-- the first bits of the next word are set
+pub below_word : (count : ℕ) (words : List ℕ) (number k : ℕ) → number < count → k ≤ 64
+    → HasBelow count words (64 * number) → HasBelow count (set words number (2 ^ k - 1)) (64 * number + k)
+below_word count words number k inside few has =
+    let word : ℕ = 2 ^ k - 1 in
+    let new : List ℕ = set words number word in
+    let here : get_or new number 0 ≡ word = get_or-set_same words number word 0 (omega (arith, has.size, inside)) in
+    record {
+      size = length-set words number word ∙ has.size;
+      each = λ x low. elim (cases_eq (x / 64) number) [
+        | inl same ↦
+            let is : get_or new (x / 64) 0 ≡ word = ap (λ n. get_or new n 0) same ∙ here in (
+              λ set. elim (cases_lt (x % 64) k) [
+                | inl below ↦ omega (arith, same, below)
+                | inr above ↦
+                    let one : bit_at (get_or new (x / 64) 0) (x % 64) ≡ 1 =
+                    eqb-true (bit_at (get_or new (x / 64) 0) (x % 64)) 1 set in
+                    let zero : bit_at (get_or new (x / 64) 0) (x % 64) ≡ 0 =
+                    ap (λ w. bit_at w (x % 64)) is ∙ bit_at_ones_above k (x % 64) above in
+                    absurd (omega arith)
+              ],
+              λ less. ap (λ w. nat_eq (bit_at w (x % 64)) 1) is
+                  ∙ eq-eqb (bit_at word (x % 64)) 1 (bit_at_ones k (x % 64) (omega (arith, same, less))),
+            )
+        | inr other ↦
+            let kept : has_bit new x ≡ has_bit words x =
+            ap (λ w. nat_eq (bit_at w (x % 64)) 1) (get_or-set_other words number (x / 64) word 0 other) in (
+              λ set. let less : x < 64 * number = (has.each x low).0 (sym kept ∙ set) in omega (arith, less),
+              λ less. kept ∙ (has.each x low).1 (omega (arith, less, few, other)),
+            )
+      ];
+    }
+
+-- the bits of the last labels in a word that isn't full
+pub below_rest : (count : ℕ) (words : List ℕ) (labels : ℕ) → labels ≤ 64 * count → 0 < labels % 64
+    → HasBelow count words (64 * (labels / 64))
+    → HasBelow count (set words (labels / 64) (1 * 2 ^ (labels % 64) % 2 ^ 64 - 1)) labels
+below_rest count words labels fits some has =
+    let whole : 64 * (labels / 64) + labels % 64 ≡ labels = omega arith in
+    let mask : 2 ^ (labels % 64) ≡ 1 * 2 ^ (labels % 64) % 2 ^ 64 = sym (one_shl (labels % 64) 64 (omega arith)) in
+    subst (λ bits. HasBelow count (set words (labels / 64) (bits - 1)) labels) mask
+    (subst (HasBelow count (set words (labels / 64) (2 ^ (labels % 64) - 1))) whole
+    (below_word count words (labels / 64) (labels % 64) (omega (arith, fits, some)) (omega arith) has))
 
 -- ---- words that are made one after the other
 

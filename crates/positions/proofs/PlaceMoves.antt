@@ -72,7 +72,7 @@ legal_by_places board held words pebble bound end are label small = (
 )
 
 module _ (position : Position) (board space : PlainBoard) (rank : ℕ) (held : List ℕ)
-    (is : position_at board rank ≡ position) (has : HasPlaces board space rank held) where
+    {words : List ℕ} (is : position_at board rank ≡ position) (has : HasPlaces board space rank held words) where
   -- a label is legal exactly if it beats the labels of all other pebbles
   pub legal_is : (pebble label : ℕ)
       → ((label < board.labels) × DominatesOthersBelow board held pebble board.pebbles label)

@@ -38,9 +38,13 @@ impl<const WORDS: usize> Labels<WORDS> {
         requires { labels ≤ 64 * WORDS }
         ensures { (x : ℕ) → x < MAX_LABELS → (has_bit result x ≡ true) ↔ (x < labels) }
     {
+        let whole = labels as usize / 64;
         let mut words = [0; WORDS];
-        for number in 0..WORDS {
-            words[number] = bits_below(labels, number);
+        for number in 0..whole {
+            words[number] = u64::MAX;
+        }
+        if labels % 64 > 0 {
+            words[whole] = (1 << (labels % 64)) - 1;
         }
         Labels { words }
     }
@@ -180,19 +184,5 @@ fn bits_from(bound: usize, number: usize) -> u64
         u64::MAX
     } else {
         u64::MAX << (bound % 64)
-    }
-}
-
-/// The bits of the word `number` whose labels are below `bound`.
-fn bits_below(bound: u16, number: usize) -> u64
-    ensures { (bit : ℕ) → bit < 64 → (bit_at result bit ≡ 1) ↔ (64 * number + bit < bound) }
-{
-    let whole = bound as usize / 64;
-    if number < whole {
-        u64::MAX
-    } else if number == whole {
-        (1 << (bound % 64)) - 1
-    } else {
-        0
     }
 }

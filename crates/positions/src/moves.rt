@@ -1,11 +1,14 @@
 //! The moves from a configuration.
 
 ghost use Rattle.std.specs.Prelude.{◌≡◌, ℕ, ◌+◌, ◌*◌, ◌<◌, ◌≤◌, ◌↔◌, true, IsTrue};
+ghost use Rattle.std.specs.Int.{bit_at};
 ghost use Rattle.board_text.specs.Domination.{has_bit};
+ghost use Rattle.board_text.specs.PlainBoard.{DominatesPlace};
 ghost use Rattle.positions.specs.Game.{Legal, moved};
 ghost use Rattle.positions.specs.Gaps.{IsDominator};
 ghost use Rattle.positions.specs.Position.{position_at};
 ghost use Rattle.positions.specs.Ranks.{configurations, rank_of};
+ghost use Rattle.positions.specs.Inside.LegalWords.{AreBitsOf, AreOfEarlier, AreOfOthers};
 
 use crate::label_set::LabelSet;
 use crate::members::Members;
@@ -23,6 +26,9 @@ pub struct LegalMoves<'a> {
     rank: u32,
     /// The place of each pebble of the board.
     places: [u16; MAX_PEBBLES],
+    /// For each pebble a bit for each label below 64: whether it dominates the other pebbles'
+    /// places.
+    legal: [u64; MAX_PEBBLES],
 }
 
 impl<'a> Model for LegalMoves<'a> {
@@ -33,7 +39,7 @@ impl<'a> Model for LegalMoves<'a> {
 
     ghost view = { λ m. position_at m.board.now m.rank };
 
-    ghost invariant = { λ m. HasPlaces m.board.now m.space.now m.rank m.places };
+    ghost invariant = { λ m. HasPlaces m.board.now m.space.now m.rank m.places m.legal };
 }
 
 impl Space {
@@ -52,11 +58,13 @@ impl Space {
             places[pebble as usize] = (rest / weight) as u16;
             rest %= weight;
         }
+        let legal = legal_words(board, &places);
         LegalMoves {
             board,
             space: self,
             rank,
             places,
+            legal,
         }
     }
 }
@@ -69,6 +77,17 @@ impl<'a> LegalMoves<'a> {
         if label >= self.board.labels() {
             return false;
         }
+        if label < 64 && pebble < self.board.pebbles() {
+            return is_set(self.legal[pebble as usize], label);
+        }
+        self.dominates_others(pebble, label)
+    }
+
+    /// Whether `label` dominates the places of all pebbles but `pebble`.
+    fn dominates_others(&self, pebble: u8, label: u16) -> bool
+        requires { label < self.now.board.labels }
+        ensures { IsTrue result ↔ Legal self.now.board self.now.configuration pebble label }
+    {
         for other in 0..self.space.pebbles() {
             if other != pebble && !self.board.beats_place(label, self.places[other as usize]) {
                 return false;
@@ -126,4 +145,55 @@ impl<'a> LegalMoves<'a> {
     {
         self.results(pebble).rank(label)
     }
+}
+
+/// For each of the `places` of the board's pebbles a bit for each label below 64: whether it
+/// dominates all others of them. They are found in two passes, by those before and after each.
+#[inline(always)]
+fn legal_words(board: &Board, places: &[u16; MAX_PEBBLES]) -> [u64; MAX_PEBBLES]
+    ensures { AreOfOthers board.now places.now result }
+{
+    let mut words = words_before(board, places);
+    let mut after = u64::MAX;
+    for pebble in (0..board.pebbles()).rev() {
+        words[pebble as usize] &= after;
+        after &= dominators_word(board, places[pebble as usize]);
+    }
+    words
+}
+
+/// For each of the `places` of the board's pebbles a bit for each label below 64: whether it
+/// dominates those before it.
+#[inline(always)]
+fn words_before(board: &Board, places: &[u16; MAX_PEBBLES]) -> [u64; MAX_PEBBLES]
+    ensures { AreOfEarlier board.now places.now board.now.pebbles result }
+{
+    let mut words = [0; MAX_PEBBLES];
+    let mut before = u64::MAX;
+    for pebble in 0..board.pebbles() {
+        words[pebble as usize] = before;
+        before &= dominators_word(board, places[pebble as usize]);
+    }
+    words
+}
+
+/// A bit for each label below 64: whether it dominates `place`.
+#[inline(always)]
+fn dominators_word(board: &Board, place: u16) -> u64
+    ensures { AreBitsOf (λ label. DominatesPlace board.now label place) result }
+{
+    if place < board.labels() {
+        board.dominators(place)[0]
+    } else {
+        u64::MAX
+    }
+}
+
+/// Whether the bit of `label` is set in `word`.
+#[inline(always)]
+fn is_set(word: u64, label: u16) -> bool
+    requires { label < 64 }
+    ensures { IsTrue result ↔ (bit_at word label ≡ 1) }
+{
+    (word >> label) & 1 == 1
 }

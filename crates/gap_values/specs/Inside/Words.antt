@@ -40,18 +40,18 @@ least_word words class (suc index) =
     then word_without words class index else least_word words class index
 
 -- the word of the gap of a pebble
-abbrev pub word_at : List ℕ → List ℕ → ℕ → ℕ
-word_at words held pebble = slice_index words (number_by_greatest (gap_at held pebble))
+abbrev pub gap_word : List ℕ → List ℕ → ℕ → ℕ
+gap_word words held pebble = slice_index words (number_by_greatest (gap_at held pebble))
 
 -- the pebble is the first of those before an end whose gap has the word, which stands for a round;
 -- or no pebble does, and the word stands for none
 abbrev pub IsFirstWith : List ℕ → List ℕ → ℕ → ℕ → Option ℕ → Type 0
 IsFirstWith words held end word (Some pebble) = (pebble < end) × (word < OPEN)
-    × (word_at words held pebble ≡ word)
-    × ((other : ℕ) → other < pebble → word < word_at words held other)
+    × (gap_word words held pebble ≡ word)
+    × ((other : ℕ) → other < pebble → word < gap_word words held other)
 IsFirstWith words held end word None = word ≡ OPEN
 
 -- no gap of the pebbles before an end has a lesser word, and the pebble is the first with it
 pub record IsFirstGap (words held : List ℕ) (end word : ℕ) (pebble : Option ℕ) : Type 0 where
-  pub least : (other : ℕ) → other < end → word ≤ word_at words held other
+  pub least : (other : ℕ) → other < end → word ≤ gap_word words held other
   pub first : IsFirstWith words held end word pebble

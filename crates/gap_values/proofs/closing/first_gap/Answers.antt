@@ -5,7 +5,7 @@ use Rattle.classes.specs.Classes.{IsClass, class_of}
 use Rattle.classes.specs.ClassGaps.{gap_at, index_in}
 use Rattle.classes.specs.Numbers.{number_by_greatest}
 use Rattle.classes.proofs.Cited.{is-below, length-class_of}
-use Rattle.gap_values.specs.Inside.Words.{word_at}
+use Rattle.gap_values.specs.Inside.Words.{gap_word}
 use Rattle.gap_values.proofs.ClosedGaps.{class-is, gap-is}
 use Rattle.gap_values.proofs.FirstGaps.{class-index, class-number, first-more, first-same}
 use Rattle.gap_values.proofs.closing.first_gap.Goals as goal
@@ -107,7 +107,7 @@ loop-pebble-preserved c =
     let at = (goal.at.loop-pebble-preserved c).After-index_of in
     let words : List ℕ = c.args.words.now in
     let word : ℕ = get_or words (number at) 0 in
-    let word-is : word_at words c.args.held.now c.loop-pebble.pebble ≡ word =
+    let word-is : gap_word words c.args.held.now c.loop-pebble.pebble ≡ word =
     sym (ap (λ n. get_or words n 0) (number-is at)) in
     elim c.if-word-first.branch [
       | then-word-first w ↦ rw (w.first-is, w.asked-is)
