@@ -8,7 +8,7 @@ use fakes::boards::{ONE_PAIR, TOO_MANY_CONFIGURATIONS};
 use fakes::documents::PAIR_VALUE_ONE;
 use fakes::{Drip, Failing, once_more};
 use positions::Value;
-use runs::{RunFault, report_text_alone, run_report, run_solve, run_solve_alone, solve_text_alone};
+use runs::{RunFault, report_text_alone, run_report, run_solve, solve_text_alone};
 use std::alloc::Global;
 use std::fmt::Debug;
 use std::process::Abort;
@@ -20,7 +20,7 @@ use strategies::DocumentText;
 const PAIR_REPORT: &str =
     "report 1\nlabels 2\npebbles 2\nconfigurations 4\nstart value 1\nvalue 0: 3\nvalue 1: 1\nforever: 0\nend\n";
 
-/// The command that is asked for, on this thread, by one worker or by several.
+/// The command that is asked for, by one worker or by several.
 #[derive(Clone, Copy, Debug, PartialEq, Eq)]
 enum Command {
     Solve,
@@ -68,7 +68,7 @@ fn outcome(
     let mut reader = Drip::new(ends.board.as_bytes(), ends.reads);
     let mut writer = Writer::new(ends.writes, ends.failing);
     let answer = match command {
-        Command::Solve => run_solve_alone(alloc, &mut reader, &mut writer).map(Some),
+        Command::Solve => run_solve(rt, alloc, 1, &mut reader, &mut writer).map(Some),
         Command::SolveByTwo => run_solve(rt, alloc, 2, &mut reader, &mut writer).map(Some),
         Command::Report => run_report(rt, alloc, 1, &mut reader, &mut writer).map(|()| None),
         Command::ReportBySixteen => {

@@ -7,7 +7,8 @@ ghost use Rattle.proof_text.specs.Documents.{AreHeldMaps};
 ghost use Rattle.symmetries.specs.Groups.{IsEachOnce};
 
 use board_text::{Board, MAX_PEBBLES, Memory, parse};
-use gap_values::{GapValues, ValueTable, has_few_gaps};
+use console::NoWatch;
+use gap_values::{GapValues, OnThisThread, ValueTable, has_few_gaps};
 use orbits::OrbitValues;
 use positions::Value;
 use proof_check::wrong_map;
@@ -92,7 +93,7 @@ fn values_by_gaps(alloc: Global, board: &Board) -> Option<GapValues>
     if !has_few_gaps(board) {
         return None;
     }
-    GapValues::of(alloc, board).ok()
+    GapValues::of(alloc, board, &OnThisThread, &NoWatch, &mut ()).ok()
 }
 
 /// The best answer on a board of two pebbles while the other one has this place.

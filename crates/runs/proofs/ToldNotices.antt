@@ -13,8 +13,9 @@ use Rattle.gap_values.specs.OpenGaps.{AreOpenCounts}
 use Rattle.positions.specs.Ranks.{configurations}
 use Rattle.positions.specs.declared.space.TheConstants.{MAX_CONFIGURATIONS}
 use Rattle.runs.specs.BoardRun.{GaveBoard, GaveNoBoard}
-use Rattle.runs.specs.Notices.{AreAllRounds, AreRoundsTold, IsNoticed, IsNoticedInRun, IsNoticedOfText, is_told_of}
-use Rattle.runs.specs.Notices.{notice_for}
+use Rattle.runs.specs.Inside.SolveRun.{IsToldOnText}
+use Rattle.runs.specs.Notices.{AreAllRounds, AreRoundsTold, IsToldInRun, IsToldOnBoard, is_told_of, notice_for}
+use Rattle.runs.specs.Notices.{nothing_after}
 use Rattle.runs.specs.Notices.{bytes_words, round_line, size_notice, tenths_of, tenths_words}
 use Rattle.runs.specs.Run.{Bytes, Gave}
 use Rattle.runs.specs.Texts.{HasNoneWithin, IsBoardWithin}
@@ -107,11 +108,17 @@ module _ {E : Type 0} (known : E → Option (List ℕ)) (failed : E → Bool) wh
   rounds_told shows shown board old new (Err fault) same told untold =
       ([], refl, subst (λ e. IsMore known failed old e []) (sym untold) (none_more known failed old))
 
+-- all rounds, and nothing after them
+pub all_told : {Answer : Type 0} (shows : Bool) (board : PlainBoard) (result : Result Answer RunFault)
+    (rounds : List ℕ) → AreAllRounds (is_told_of shows board) board rounds
+    → AreRoundsTold shows nothing_after board result rounds
+all_told shows board result rounds all = inr (rounds, [], sym (append-nil rounds), all, refl)
+
 -- what was told of rounds may belong to another result, if memory is refused in that too
 pub other_result : {Answer Other : Type 0} (shows : Bool) (board : PlainBoard) (result : Result Answer RunFault)
     (other : Result Other RunFault) → (result ≡ Err Memory → other ≡ Err Memory) → (rounds : List ℕ)
-    → AreRoundsTold shows board result rounds → AreRoundsTold shows board other rounds
-other_result shows board result other to rounds (inl (refused, none)) = inl (to refused, none)
+    → AreRoundsTold shows nothing_after board result rounds → AreRoundsTold shows nothing_after board other rounds
+other_result shows board result other to rounds (inl (refused, kept, none)) = inl (to refused, kept, none)
 other_result shows board result other to rounds (inr all) = inr all
 
 -- a fault that is told of one answer is told of another
@@ -122,18 +129,19 @@ err_again result fault broke refused = let same : fault ≡ Memory = cc in ap Er
 -- the notice of the board with this text, and its rounds, in a run that ends so
 pub noticed_text : {Answer Other : Type 0} (limit : BoardLimit) (text : List ℕ) (shows : Bool) (board : PlainBoard)
     → IsBoardWithin limit text board → (result : Result Answer RunFault) (other : Result Other RunFault)
-    → (result ≡ Err Memory → other ≡ Err Memory) → (rounds : List ℕ) → AreRoundsTold shows board result rounds
-    → IsNoticedOfText limit text shows other (notice_for shows board ++ rounds)
+    → (result ≡ Err Memory → other ≡ Err Memory) → (rounds : List ℕ)
+    → AreRoundsTold shows nothing_after board result rounds
+    → IsToldOnText limit text shows other (notice_for shows board ++ rounds)
 noticed_text limit text shows board within result other to rounds are =
-    inl (board, within, rounds, other_result shows board result other to rounds are, refl)
+    inr (board, within, rounds, refl, other_result shows board result other to rounds are)
 
 -- what was told of the rounds that find values belongs to a run in which memory is refused, if it is for these
 pub rounds_of_run : {Values Answer : Type 0} (shows : Bool) (board : PlainBoard) (values : Result Values MemoryFault)
     (result : Result Answer RunFault) → (is_err values ≡ true → result ≡ Err Memory) → (rounds : List ℕ)
     → MatchResult values (λ found. AreAllRounds (is_told_of shows board) board rounds) (λ memory. rounds ≡ [])
-    → AreRoundsTold shows board result rounds
-rounds_of_run shows board (Ok found) result to rounds all = inr all
-rounds_of_run shows board (Err memory) result to rounds none = inl (to refl, none)
+    → AreRoundsTold shows nothing_after board result rounds
+rounds_of_run shows board (Ok found) result to rounds all = all_told shows board result rounds all
+rounds_of_run shows board (Err memory) result to rounds none = inl (to refl, tt, none)
 
 -- the values were found, so all rounds were told of
 pub rounds_found : {Values : Type 0} (shows : Bool) (board : PlainBoard) (values : Result Values MemoryFault)
@@ -165,71 +173,72 @@ untold_more known failed old middle new notice rounds first none second =
 module _ {Answer Other : Type 0} (IsGiven IsGivenToo : PlainBoard → Type 0) (IsMissing IsMissingToo : RunFault → Type 0)
     (given : (board : PlainBoard) → IsGiven board → IsGivenToo board)
     (missing : (fault : RunFault) → IsMissing fault → IsMissingToo fault) (shows : Bool) (told : List ℕ)
-    (result : Result Answer RunFault) (is : IsNoticed IsGiven IsMissing shows result told) where
+    (result : Result Answer RunFault) (is : IsToldOnBoard IsGiven IsMissing shows nothing_after result told) where
   pub given_then : (answer : Answer) → result ≡ Ok answer → (other : Result Other RunFault)
-      → IsNoticed IsGivenToo IsMissingToo shows other told
+      → IsToldOnBoard IsGivenToo IsMissingToo shows nothing_after other told
   given_then answer ok other = by is
     where
-      by : IsNoticed IsGiven IsMissing shows result told → IsNoticed IsGivenToo IsMissingToo shows other told
-      by (inl (board, is_given, rounds, are, told_is)) =
-          inl (
+      by : IsToldOnBoard IsGiven IsMissing shows nothing_after result told
+          → IsToldOnBoard IsGivenToo IsMissingToo shows nothing_after other told
+      by (inl (fault, broke, is_missing, kept, none)) = cc
+      by (inr (board, is_given, rounds, told_is, are)) =
+          inr (
             board,
             given board is_given,
             rounds,
-            other_result shows board result other (λ refused. let bad : ⊥ = cc in absurd bad) rounds are,
             told_is,
+            other_result shows board result other (λ refused. let bad : ⊥ = cc in absurd bad) rounds are,
           )
-      by (inr (fault, broke, is_missing, none)) = cc
 
   pub given_before : (fault : RunFault) → result ≡ Err fault
-      → IsNoticed {Answer = Other} IsGivenToo IsMissingToo shows (Err fault) told
+      → IsToldOnBoard {Answer = Other} IsGivenToo IsMissingToo shows nothing_after (Err fault) told
   given_before fault broke = by is
     where
       one : (other : RunFault) → result ≡ Err other → other ≡ fault
       one other same = cc
 
-      by : IsNoticed IsGiven IsMissing shows result told
-          → IsNoticed {Answer = Other} IsGivenToo IsMissingToo shows (Err fault) told
-      by (inl (board, is_given, rounds, are, told_is)) =
-          inl (
+      by : IsToldOnBoard IsGiven IsMissing shows nothing_after result told
+          → IsToldOnBoard {Answer = Other} IsGivenToo IsMissingToo shows nothing_after (Err fault) told
+      by (inl (other, same, is_missing, kept, none)) =
+          inl (fault, refl, missing fault (subst IsMissing (one other same) is_missing), kept, none)
+      by (inr (board, is_given, rounds, told_is, are)) =
+          inr (
             board,
             given board is_given,
             rounds,
+            told_is,
             other_result {Other = Other} shows board result (Err fault) (λ refused. ap Err (sym (one Memory refused)))
                 rounds are,
-            told_is,
           )
-      by (inr (other, same, is_missing, none)) =
-          inr (fault, refl, missing fault (subst IsMissing (one other same) is_missing), none)
 
 -- ---- of a small board, nothing
 
 pub small_unnoticed : {Answer : Type 0} (text : List ℕ) (shows : Bool) (IsSolved : PlainBoard → Answer → Type 0)
     (result : Result Answer RunFault)
     → IfOk result (λ answer. (board : PlainBoard) × IsBoardWithin Small text board × IsSolved board answer)
-    → IfErr result (HasNoneWithin Small text) → IsNoticedOfText Small text shows result []
+    → IfErr result (HasNoneWithin Small text) → IsToldOnText Small text shows result []
 small_unnoticed text shows IsSolved (Ok answer) (board, within, solved) fault =
-    inl (
+    inr (
       board,
       within,
       [],
-      inr (small_rounds shows board within.few),
       small_board shows board within.few ∙ sym (append-nil (notice_for shows board)),
+      all_told shows board (Ok answer) [] (small_rounds shows board within.few),
     )
-small_unnoticed text shows IsSolved (Err fault) ok none = inr (fault, refl, none, refl)
+small_unnoticed text shows IsSolved (Err fault) ok none = inl (fault, refl, none, tt, refl)
 
 -- ---- of the same board, in another run
 
 module _ {Answer Other : Type 0} (limit : BoardLimit) (text : List ℕ) (shows : Bool) (told : List ℕ)
-    (result : Result Answer RunFault) (is : IsNoticedOfText limit text shows result told) where
+    (result : Result Answer RunFault) (is : IsToldOnText limit text shows result told) where
   pub text_noticed : (answer : Answer) → result ≡ Ok answer → (other : Result Other RunFault)
-      → IsNoticedOfText limit text shows other told
+      → IsToldOnText limit text shows other told
   text_noticed =
       given_then (IsBoardWithin limit text) (IsBoardWithin limit text) (HasNoneWithin limit text)
       (HasNoneWithin limit text) (λ board within. within) (λ fault lacking. lacking) shows told result is
 
   pub text_noticed_before : (fault : RunFault) → result ≡ Err fault
-      → IsNoticedOfText {Answer = Other} limit text shows (Err fault) told
+      → IsToldOnText {Answer = Other} limit text shows (Err fault) told
   text_noticed_before =
       given_before (IsBoardWithin limit text) (IsBoardWithin limit text) (HasNoneWithin limit text)
       (HasNoneWithin limit text) (λ board within. within) (λ fault lacking. lacking) shows told result is
@@ -238,16 +247,16 @@ module _ {Answer Other : Type 0} (limit : BoardLimit) (text : List ℕ) (shows :
 
 module _ {Answer Other : Type 0} (limit : BoardLimit) (read : Bytes) (text : List ℕ)
     (gave : Gave MAX_BOARD_BYTES read text) (shows : Bool) (told : List ℕ) (result : Result Answer RunFault)
-    (is : IsNoticedOfText limit text shows result told) where
+    (is : IsToldOnText limit text shows result told) where
   pub noticed_then : (answer : Answer) → result ≡ Ok answer → (other : Result Other RunFault)
-      → IsNoticedInRun limit read shows other told
+      → IsToldInRun limit read shows nothing_after other told
   noticed_then =
       given_then (IsBoardWithin limit text) (GaveBoard limit MAX_BOARD_BYTES read) (HasNoneWithin limit text)
       (GaveNoBoard limit MAX_BOARD_BYTES read) (λ board within. (text, gave, within))
       (λ fault lacking. inr (text, gave, lacking)) shows told result is
 
   pub noticed_before : (fault : RunFault) → result ≡ Err fault
-      → IsNoticedInRun {Answer = Other} limit read shows (Err fault) told
+      → IsToldInRun {Answer = Other} limit read shows nothing_after (Err fault) told
   noticed_before =
       given_before (IsBoardWithin limit text) (GaveBoard limit MAX_BOARD_BYTES read) (HasNoneWithin limit text)
       (GaveNoBoard limit MAX_BOARD_BYTES read) (λ board within. (text, gave, within))

@@ -16,7 +16,7 @@ use Rattle.positions.specs.Ranks.{configurations}
 use Rattle.positions.specs.declared.space.TheConstants.{MAX_CONFIGURATIONS}
 use Rattle.runs.specs.BoardRun.{GaveBoard, GaveBoardAmong, GaveNoBoard, GaveNoneAmong}
 use Rattle.runs.specs.Run.{Bytes}
-use Rattle.runs.specs.Texts.{HasNoneWithin, IsBoardWithin, OfAnySize}
+use Rattle.runs.specs.Texts.{OfAnySize}
 use Rattle.runs.specs.declared.fault.RunFault.{RunFault}
 use Rattle.runs.specs.declared.fault.RunFault.TheVariants.{Memory}
 use Rattle.runs.specs.declared.notices.TheConstants.{MANY_CHAINS, MINUTES_OF_GAPS}
@@ -70,34 +70,42 @@ AreAllRounds false board told = told ≡ []
 AreAllRounds true board told =
     (counts : List ℕ) × AreOpenCounts board counts × (told ≡ lines_of round_line 1 counts)
 
--- the same in a run that gave this result; or memory for the values was refused, and nothing was
--- told
-abbrev pub AreRoundsTold : {Answer : Type 0} → Bool → PlainBoard → Result Answer RunFault → List ℕ
-    → Type 0
-AreRoundsTold shows board result told =
-    ((result ≡ Err Memory) × (told ≡ [])) ⊎ AreAllRounds (is_told_of shows board) board told
+-- the part of a run on a board that comes after the rounds: that its streams are untouched, and
+-- what is told in it
+pub record AfterRounds : Type 1 where
+  pub IsUntouched : Type 0
+  pub IsTold : PlainBoard → List ℕ → Type 0
 
--- the notice of the board that was given was told, and then its rounds; or none was given, and
--- nothing was told
-abbrev pub IsNoticed : {Answer : Type 0} → (PlainBoard → Type 0) → (RunFault → Type 0) → Bool
-    → Result Answer RunFault → List ℕ → Type 0
-IsNoticed IsGiven IsMissing shows result told =
-    ((board : PlainBoard) × IsGiven board × (rounds : List ℕ)
-    × AreRoundsTold shows board result rounds × (told ≡ notice_for shows board ++ rounds))
-    ⊎ ((fault : RunFault) × (result ≡ Err fault) × IsMissing fault × (told ≡ []))
+-- nothing is told in it
+abbrev pub nothing_after : AfterRounds
+nothing_after = record { IsUntouched = Unit {0}; IsTold = λ board later. later ≡ [] }
 
--- the same of the board within the limit whose text this is
-abbrev pub IsNoticedOfText : {Answer : Type 0} → BoardLimit → List ℕ → Bool
+-- what is told after the notice of a board, in a run that gave this result: the rounds that find
+-- its values, and then what is told after them; or nothing, if memory for the values was refused,
+-- and then the streams of what comes after are untouched
+abbrev pub AreRoundsTold : {Answer : Type 0} → Bool → AfterRounds → PlainBoard
     → Result Answer RunFault → List ℕ → Type 0
-IsNoticedOfText limit text shows result told =
-    IsNoticed (IsBoardWithin limit text) (HasNoneWithin limit text) shows result told
+AreRoundsTold shows after board result told =
+    ((result ≡ Err Memory) × after.IsUntouched × (told ≡ []))
+    ⊎ ((rounds later : List ℕ) × (told ≡ rounds ++ later)
+    × AreAllRounds (is_told_of shows board) board rounds × after.IsTold board later)
 
--- and of the board within the limit whose text was read
-abbrev pub IsNoticedInRun : {Answer : Type 0} → BoardLimit → Bytes → Bool
+-- what a person is told in a run on a board: nothing, if none was given, and then those streams are
+-- untouched; else the notice of the board, and then its rounds and what is told after them
+abbrev pub IsToldOnBoard : {Answer : Type 0} → (PlainBoard → Type 0) → (RunFault → Type 0) → Bool
+    → AfterRounds → Result Answer RunFault → List ℕ → Type 0
+IsToldOnBoard IsGiven IsMissing shows after result told =
+    ((fault : RunFault) × (result ≡ Err fault) × IsMissing fault × after.IsUntouched × (told ≡ []))
+    ⊎ ((board : PlainBoard) × IsGiven board
+    × (rest : List ℕ) × (told ≡ notice_for shows board ++ rest)
+    × AreRoundsTold shows after board result rest)
+
+-- the same of the board within the limit whose text was read
+abbrev pub IsToldInRun : {Answer : Type 0} → BoardLimit → Bytes → Bool → AfterRounds
     → Result Answer RunFault → List ℕ → Type 0
-IsNoticedInRun limit read shows result told =
-    IsNoticed (GaveBoard limit MAX_BOARD_BYTES read) (GaveNoBoard limit MAX_BOARD_BYTES read)
-    shows result told
+IsToldInRun limit read shows after result told =
+    IsToldOnBoard (GaveBoard limit MAX_BOARD_BYTES read) (GaveNoBoard limit MAX_BOARD_BYTES read)
+    shows after result told
 
 -- ---- chains
 

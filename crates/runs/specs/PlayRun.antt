@@ -1,5 +1,5 @@
 -- Runs of plays: the bytes read, the answer, and the bytes written.
-use Rattle.std.specs.Prelude.{◌≡◌, ℕ, ◌⊎◌, List, [], ◌++◌, Option, Result, Ok, Err}
+use Rattle.std.specs.Prelude.{◌≡◌, ℕ, ◌⊎◌, false, List, Option, Result, Ok, Err}
 use Rattle.board_text.specs.PlainBoard.{PlainBoard}
 use Rattle.player.specs.Prompts.{ArePrompts}
 use Rattle.player.specs.Transcript.{Game, PersonAsks, PersonAnswers, IsPlayed}
@@ -9,15 +9,14 @@ use Rattle.player.specs.declared.end.PlayEnd.{PlayEnd}
 use Rattle.player.specs.declared.end.PlayFault.{PlayFault}
 use Rattle.positions.specs.declared.side.Side.{Side}
 use Rattle.positions.specs.declared.side.Side.TheVariants.{Labeller, Adversary}
-use Rattle.runs.specs.BoardRun.{FailsOn, GaveBoard, GaveNoBoard, RanOn, Readers}
+use Rattle.runs.specs.BoardRun.{FailsOn, RanOn, Readers}
 use Rattle.runs.specs.Faults.{fault_of_play}
-use Rattle.runs.specs.Notices.{AreAllRounds, is_told_of, notice_for}
+use Rattle.runs.specs.Notices.{AfterRounds, IsToldOnBoard}
 use Rattle.runs.specs.Run.{Bytes, bytes_of}
 use Rattle.runs.specs.SymmetricRun.{GaveDomain, GaveNoDomain}
 use Rattle.runs.specs.Texts.{IsWithinLimit}
 use Rattle.command_line.specs.declared.asked.BoardLimit.{BoardLimit}
 use Rattle.runs.specs.declared.fault.RunFault.{RunFault}
-use Rattle.runs.specs.declared.fault.RunFault.TheVariants.{Memory}
 use Rattle.runs.specs.declared.playing.Playing.{Playing}
 use Rattle.runs.specs.declared.reading.TheConstants.{MAX_BOARD_BYTES}
 
@@ -90,25 +89,16 @@ ArePrompted playing board play result prompts =
     × ArePrompts playing.prompts (game_played playing.side board) play.lines play.written played
     prompts
 
--- what a person is told in the run of a play: nothing, if there was no board; else the notice of
--- the board, then the rounds that find its values, and then the prompts of the play on it; or after
--- the notice nothing, if memory for the values was refused. Without a board or its values nothing
--- else is touched
-abbrev pub IsToldInRun : Playing → Bytes → PlayStreams → Result PlayEnd RunFault → List ℕ → Type 0
-IsToldInRun playing board play result told =
-    ((fault : RunFault) × (result ≡ Err fault)
-    × GaveNoBoard playing.limit MAX_BOARD_BYTES board fault × play.AreKept × (told ≡ []))
-    ⊎ ((b : PlainBoard) × GaveBoard playing.limit MAX_BOARD_BYTES board b
-    × (later : List ℕ) × (told ≡ notice_for playing.shows_size b ++ later)
-    × (((result ≡ Err Memory) × play.AreKept × (later ≡ []))
-    ⊎ ((rounds prompts : List ℕ) × (later ≡ rounds ++ prompts)
-    × AreAllRounds (is_told_of playing.shows_size b) b rounds
-    × ArePrompted playing b play result prompts)))
+-- the play, which comes after the rounds in a run that ends so, with its prompts
+abbrev pub prompts_after : Playing → PlayStreams → Result PlayEnd RunFault → AfterRounds
+prompts_after playing play result = record {
+  IsUntouched = play.AreKept;
+  IsTold = λ board prompts. ArePrompted playing board play result prompts;
+}
 
--- what a person is told in such a run: the prompts of the play; nothing, if it isn't played
+-- what a person is told in such a run up to symmetries: the prompts alone, without a notice or
+-- rounds; nothing, if it isn't played
 abbrev pub IsToldUpTo : Playing → Readers → PlayStreams → Result PlayEnd RunFault → List ℕ → Type 0
 IsToldUpTo playing read play result told =
-    ((fault : RunFault) × (result ≡ Err fault)
-    × GaveNoDomain playing.limit read fault × play.AreKept × (told ≡ []))
-    ⊎ ((b : PlainBoard) × GaveDomain playing.limit read.board read.text b
-    × ArePrompted playing b play result told)
+    IsToldOnBoard (GaveDomain playing.limit read.board read.text)
+    (GaveNoDomain playing.limit read) false (prompts_after playing play result) result told

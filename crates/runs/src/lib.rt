@@ -42,7 +42,7 @@ pub use nesting::run_nested;
 pub use playing::{Playing, run_climb, run_play};
 pub use reading::MAX_BOARD_BYTES;
 pub use reporting::{report_text_alone, run_report};
-pub use solving::{run_solve, run_solve_alone, solve_text_alone};
+pub use solving::{run_solve, solve_text_alone};
 pub use summaries::Summary;
 pub use verdicts::{DocumentVersion, Verdict, version_of};
 pub use work::Work;

@@ -10,9 +10,10 @@ ghost use Rattle.player.specs.Transcript.{IsPlayed, PersonClimbs};
 ghost use Rattle.player.specs.declared.end.PlayEnd.{PlayEnd};
 ghost use Rattle.player.specs.declared.end.PlayFault.{PlayFault};
 ghost use Rattle.runs.specs.BoardRun.{readers_of};
-ghost use Rattle.runs.specs.PlayRun.{IsBrokenOff, IsOver, IsToldInRun, IsToldUpTo, PlayFails};
+ghost use Rattle.runs.specs.Notices.{IsToldInRun};
+ghost use Rattle.runs.specs.PlayRun.{IsBrokenOff, IsOver, IsToldUpTo, PlayFails};
 ghost use Rattle.runs.specs.PlayRun.{PlayFailsUpTo, RanPlay, RanPlayUpTo, game_played};
-ghost use Rattle.runs.specs.PlayRun.{play_streams, run_of_play};
+ghost use Rattle.runs.specs.PlayRun.{play_streams, prompts_after, run_of_play};
 ghost use Rattle.runs.specs.Run.{TellsFailures, bytes_of, stream_of};
 
 use crate::fault::RunFault;
@@ -111,10 +112,10 @@ impl Playing {
         ensures streams { TellsFailures result
             ((B.has_failed board.new ≡ true) ⊎ (L.has_failed lines.new ≡ true))
             (stream_of W.contents W.has_failed writer.old writer.new) }
-        ensures prompts { (told : List ℕ) × IsToldInRun self
-            (bytes_of B.remaining board.old board.new)
-            (play_streams L.remaining lines.old lines.new W.contents writer.old writer.new)
-            result told
+        ensures prompts { (told : List ℕ) × IsToldInRun self.limit
+            (bytes_of B.remaining board.old board.new) self.shows_size
+            (prompts_after self (play_streams L.remaining lines.old lines.new
+            W.contents writer.old writer.new) result) result told
             × IsMore E.contents E.has_failed errors.old errors.new told }
     {
         let board = read_board(alloc, self.limit, board)?;

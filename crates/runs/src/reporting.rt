@@ -19,7 +19,8 @@ use crate::summaries::Summary;
 use crate::work::Work;
 use board_text::{Board, Sink, Source, Through};
 use command_line::BoardLimit;
-use gap_values::{GapValues, Sizes, ValueTable};
+use console::NoWatch;
+use gap_values::{GapValues, OnThisThread, Sizes, ValueTable};
 use positions::{Claim, Value};
 use proof_text::write_claim;
 use round_workers::MAX_WORKERS;
@@ -65,7 +66,7 @@ pub fn report_text_alone(alloc: Global, text: &[u8]) -> Result<String, RunFault>
     ensures fault { IfErr result (HasNoBoard text.now) }
 {
     let board = small_board(alloc, text)?;
-    let values = GapValues::of(alloc, &board)?;
+    let values = GapValues::of(alloc, &board, &OnThisThread, &NoWatch, &mut ())?;
     let sizes = values.sizes(alloc)?;
     Ok(report_by(alloc, &GapMoves::new(&board, &values), &sizes)?)
 }

@@ -13,12 +13,12 @@ ghost use Rattle.runs.specs.Texts.{HasNoBoard};
 
 use crate::boards::small_board;
 use crate::fault::RunFault;
-use crate::reading::{MAX_BOARD_BYTES, read_text};
+use crate::reading::MAX_BOARD_BYTES;
 use crate::work::Work;
-use crate::writing::write_parts;
 use board_text::{Sink, Source, Through};
 use command_line::BoardLimit;
-use gap_values::{GapValues, ValueTable};
+use console::NoWatch;
+use gap_values::{GapValues, OnThisThread, ValueTable};
 use positions::{MAX_CONFIGURATIONS, Side, Space, Value};
 use round_workers::MAX_WORKERS;
 use std::alloc::Global;
@@ -26,34 +26,11 @@ use std::sync::Wait;
 use std::thread::Threads;
 use strategies::{DocumentText, GapMoves, document_text, document_text_in_parts};
 
-/// Reads a board, finds the value of its start on this thread and writes the document that shows
-/// it.
+/// Reads a board, finds the value of its start and writes the document that shows it.
 ///
 /// The reader and the writer must not have failed before, nor the reader have reported its end.
 /// Nothing is written before the whole text is built: after a fault nothing was written, but for
 /// `Write`, after which a prefix of the text was.
-pub fn run_solve_alone<R: Source, W: Sink>(
-    alloc: Global,
-    reader: &mut R,
-    writer: &mut W,
-) -> Result<Value, RunFault>
-    requires reader_ready { R.has_failed reader.old ≡ false }
-    requires reader_unended { R.has_ended reader.old ≡ false }
-    requires writer_ready { W.has_failed writer.old ≡ false }
-    ensures ok { IfOk result (Ran IsSolution MAX_BOARD_BYTES
-        (bytes_of R.remaining reader.old reader.new) (bytes_of W.contents writer.old writer.new)) }
-    ensures fault { IfErr result (Fails IsSolution HasNoBoard MAX_BOARD_BYTES
-        (bytes_of R.remaining reader.old reader.new) (bytes_of W.contents writer.old writer.new)) }
-    ensures streams { TellsStreams result (R.has_failed reader.new ≡ true)
-        (stream_of W.contents W.has_failed writer.old writer.new) }
-{
-    let text = read_text(alloc, reader, MAX_BOARD_BYTES)?;
-    let solved = solve_text_alone(alloc, text.as_slice())?;
-    write_parts(writer, &solved.parts)?;
-    Ok(solved.value)
-}
-
-/// The same as `run_solve_alone`, with several workers.
 ///
 /// The number of `workers` is 1 to `MAX_WORKERS`. They share the work that `solve_classes` shares,
 /// and each makes the document's rows of a part of the ranks, if a part has 16,384 of them or more.
@@ -89,7 +66,7 @@ pub fn solve_text_alone(alloc: Global, text: &[u8]) -> Result<DocumentText, RunF
     ensures fault { IfErr result (HasNoBoard text.now) }
 {
     let board = small_board(alloc, text)?;
-    let values = GapValues::of(alloc, &board)?;
+    let values = GapValues::of(alloc, &board, &OnThisThread, &NoWatch, &mut ())?;
     let moves = GapMoves::new(&board, &values);
     let space = Space::new(&board);
     Ok(document_text(alloc, &moves, &space)?)

@@ -7,7 +7,8 @@ ghost use Rattle.board_text.specs.PlainBoard.{IsBoard};
 ghost use Rattle.board_text.specs.Ranges.{InRange};
 ghost use Rattle.console.specs.Showing.{IsMore};
 ghost use Rattle.runs.specs.BoardRun.{readers_of};
-ghost use Rattle.runs.specs.Notices.{IsNoticedInRun, IsNoticedOfText};
+ghost use Rattle.runs.specs.Inside.SolveRun.{IsToldOnText};
+ghost use Rattle.runs.specs.Notices.{IsToldInRun, nothing_after};
 ghost use Rattle.runs.specs.Run.{Fails, Ran, TellsStreams, bytes_of, stream_of};
 ghost use Rattle.runs.specs.SolveRun.{CannotSolve};
 ghost use Rattle.runs.specs.Summaries.{IsSummary, Summarizes};
@@ -68,8 +69,8 @@ impl Work {
             (bytes_of W.contents writer.old writer.new)) }
         ensures streams { TellsStreams result (R.has_failed reader.new ≡ true)
             (stream_of W.contents W.has_failed writer.old writer.new) }
-        ensures notice { (told : List ℕ) × IsNoticedInRun self.limit
-            (bytes_of R.remaining reader.old reader.new) self.shows_size result told
+        ensures notice { (told : List ℕ) × IsToldInRun self.limit
+            (bytes_of R.remaining reader.old reader.new) self.shows_size nothing_after result told
             × IsMore E.contents E.has_failed errors.old errors.new told }
     {
         let text = read_text(alloc, reader, MAX_BOARD_BYTES)?;
@@ -92,7 +93,7 @@ impl Work {
             Summarizes summary self.limit text.now tt (string_bytes written)) }
         ensures fault { IfErr result (CannotSolve self.limit self.workers text.now) }
         ensures notice { (told : List ℕ)
-            × IsNoticedOfText self.limit text.now self.shows_size result told
+            × IsToldOnText self.limit text.now self.shows_size result told
             × IsMore E.contents E.has_failed errors.old errors.new told }
     {
         let found = self.board_with_values(rt, alloc, text, errors)?;

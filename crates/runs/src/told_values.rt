@@ -5,8 +5,8 @@ ghost use Rattle.board_text.specs.PlainBoard.{places};
 ghost use Rattle.board_text.specs.Ranges.{InRange};
 ghost use Rattle.classes.specs.Numbers.{ways};
 ghost use Rattle.console.specs.Showing.{IsMore};
-ghost use Rattle.runs.specs.Inside.SolveRun.{IsRefused};
-ghost use Rattle.runs.specs.Notices.{AreAllRounds, AreRoundsTold, IsNoticedOfText, is_told_of};
+ghost use Rattle.runs.specs.Inside.SolveRun.{IsRefused, IsToldOnText};
+ghost use Rattle.runs.specs.Notices.{AreAllRounds, AreRoundsTold, is_told_of, nothing_after};
 ghost use Rattle.runs.specs.SolveRun.{CannotSolve};
 ghost use Rattle.runs.specs.Texts.{IsBoardWithin, IsWithinLimit};
 
@@ -17,7 +17,7 @@ use crate::playing::Playing;
 use crate::work::Work;
 use board_text::{Board, Memory, Sink};
 use command_line::BoardLimit;
-use gap_values::{GapValues, MAX_GAPS};
+use gap_values::{GapValues, MAX_GAPS, OnThisThread, by_workers};
 use round_workers::{MAX_WORKERS, NoGate, solve_classes};
 use std::alloc::Global;
 use std::sync::Wait;
@@ -44,7 +44,7 @@ impl Work {
         ensures values { IfOk result (λ found. found.values ≡ found.board) }
         ensures fault { IfErr result (CannotSolve self.limit self.workers text.now) }
         ensures notice { (told : List ℕ)
-            × IsNoticedOfText self.limit text.now self.shows_size result told
+            × IsToldOnText self.limit text.now self.shows_size result told
             × IsMore E.contents E.has_failed errors.old errors.new told }
     {
         let board = board_within(alloc, self.limit, text)?;
@@ -68,7 +68,8 @@ impl Work {
         requires workers { InRange 1 MAX_WORKERS self.workers }
         ensures values { IfOk result (λ values. values ≡ board.now) }
         ensures refused { IfErr result (IsRefused self.limit self.workers board.now) }
-        ensures rounds { (told : List ℕ) × AreRoundsTold self.shows_size board.now result told
+        ensures rounds { (told : List ℕ) × AreRoundsTold self.shows_size nothing_after board.now
+            result told
             × IsMore E.contents E.has_failed errors.old errors.new told }
     {
         match self.limit {
@@ -77,7 +78,8 @@ impl Work {
             }
             _ => {
                 let lines = RoundLines::of(board, self.shows_size);
-                Ok(GapValues::of_by(rt, alloc, board, self.workers, &lines, errors)?)
+                let workers = by_workers(rt, self.workers);
+                Ok(GapValues::of(alloc, board, &workers, &lines, errors)?)
             }
         }
     }
@@ -100,6 +102,6 @@ impl Playing {
             × IsMore E.contents E.has_failed errors.old errors.new told }
     {
         let lines = RoundLines::of(board, self.shows_size);
-        GapValues::watched(alloc, board, &lines, errors)
+        GapValues::of(alloc, board, &OnThisThread, &lines, errors)
     }
 }

@@ -4,7 +4,8 @@ ghost use Rattle.std.specs.Prelude.{◌≡◌, ℕ, List, false, true, IfOk, IfE
 ghost use Rattle.board_text.specs.Ranges.{InRange};
 ghost use Rattle.console.specs.Showing.{IsMore};
 ghost use Rattle.runs.specs.LimitedSolveRun.{CannotSolveWithin, SolutionWithin};
-ghost use Rattle.runs.specs.Notices.{IsNoticedInRun, IsNoticedOfText};
+ghost use Rattle.runs.specs.Inside.SolveRun.{IsToldOnText};
+ghost use Rattle.runs.specs.Notices.{IsToldInRun, nothing_after};
 ghost use Rattle.runs.specs.Run.{Ran, Fails, TellsStreams, bytes_of, stream_of};
 
 use crate::class_solving::class_solution;
@@ -79,8 +80,8 @@ impl Work {
             (bytes_of W.contents writer.old writer.new)) }
         ensures streams { TellsStreams result (R.has_failed reader.new ≡ true)
             (stream_of W.contents W.has_failed writer.old writer.new) }
-        ensures notice { (told : List ℕ) × IsNoticedInRun self.limit
-            (bytes_of R.remaining reader.old reader.new) self.shows_size result told
+        ensures notice { (told : List ℕ) × IsToldInRun self.limit
+            (bytes_of R.remaining reader.old reader.new) self.shows_size nothing_after result told
             × IsMore E.contents E.has_failed errors.old errors.new told }
     {
         let text = read_text(alloc, reader, MAX_BOARD_BYTES)?;
@@ -105,7 +106,7 @@ impl Work {
         ensures fault { IfErr result
             (CannotSolveWithin self.limit side self.workers text.now) }
         ensures notice { (told : List ℕ)
-            × IsNoticedOfText self.limit text.now self.shows_size result told
+            × IsToldOnText self.limit text.now self.shows_size result told
             × IsMore E.contents E.has_failed errors.old errors.new told }
     {
         if self.workers == 1 && side.is_none() && matches!(self.limit, BoardLimit::Small) {

@@ -17,13 +17,13 @@ use Rattle.positions.specs.declared.side.Side.{Side}
 use Rattle.runs.specs.BoardRun.{readers_by}
 use Rattle.runs.specs.CheckRun.{RanCheck}
 use Rattle.console.specs.Watching.{lines_of}
-use Rattle.runs.specs.Notices.{IsNoticed, IsNoticedInRun, IsToldOfChains, notice_of_length}
-use Rattle.runs.specs.PlayRun.{IsToldInRun, PlayStreams, game_played}
+use Rattle.runs.specs.Notices.{AfterRounds, IsToldInRun, IsToldOfChains, IsToldOnBoard, nothing_after}
+use Rattle.runs.specs.Notices.{notice_of_length}
+use Rattle.runs.specs.PlayRun.{ArePrompted, PlayStreams, game_played, prompts_after}
 use Rattle.runs.specs.Run.{Bytes, Ran}
 use Rattle.runs.specs.Verdicts.{IsAnswered}
 use Rattle.runs.specs.declared.checking.TheConstants.{MAX_JOINED_BYTES, MAX_PROOF_BYTES}
 use Rattle.runs.specs.declared.fault.RunFault.{RunFault}
-use Rattle.runs.specs.declared.playing.Playing.{Playing}
 use Rattle.runs.specs.declared.reading.TheConstants.{MAX_BOARD_BYTES}
 use Rattle.runs.specs.declared.verdicts.Verdict.{Verdict}
 use Rattle.runs.specs.declared.verdicts.Verdict.TheVariants.{Accepted, Refused, RefusedByClasses}
@@ -42,27 +42,19 @@ unseen : (typed sees : Bool) → sees ≡ false → (typed && sees) ≡ false
 unseen true sees off = off
 unseen false sees off = refl
 
-untold_of : {Answer : Type 0} (IsGiven : PlainBoard → Type 0) (IsMissing : RunFault → Type 0) (shows : Bool)
-    → shows ≡ false
-    → (result : Result Answer RunFault) (told : List ℕ) → IsNoticed IsGiven IsMissing shows result told → told ≡ []
-untold_of IsGiven IsMissing true off result told is = cc
-untold_of IsGiven IsMissing false off result told (inl (board, given, rounds, inl (refused, none), is)) = is ∙ none
-untold_of IsGiven IsMissing false off result told (inl (board, given, rounds, inr none, is)) = is ∙ none
-untold_of IsGiven IsMissing false off result told (inr (fault, broke, missing, none)) = none
-
--- how a play is run where nobody sees it
-abbrev unseen_play : Side → BoardLimit → Playing
-unseen_play side limit = record { side = side; limit = limit; shows_size = false; prompts = false }
-
-unprompted : (limit : BoardLimit) (side : Side) (board : Bytes) (play : PlayStreams)
-    (result : Result PlayEnd RunFault) (told : List ℕ)
-    → IsToldInRun (unseen_play side limit) board play result told → told ≡ []
-unprompted limit side board play result told (inl none) = none.4
-unprompted limit side board play result told (inr (b, gave, later, is, inl (refused, kept, none))) = is ∙ none
-unprompted limit side board play result told
-    (inr (b, gave, later, is, inr (rounds, prompts, both, none, (played, same, are)))) =
-    is ∙ both ∙ ap (λ r. r ++ prompts) none
-    ∙ nothing_told (game_played side b) prompts play.lines play.written played are
+-- nothing of a board and its rounds, where nothing is told after them
+untold_on : {Answer : Type 0} (IsGiven : PlainBoard → Type 0) (IsMissing : RunFault → Type 0) (shows : Bool)
+    → shows ≡ false → (after : AfterRounds)
+    → ((board : PlainBoard) (later : List ℕ) → after.IsTold board later → later ≡ [])
+    → (result : Result Answer RunFault) (told : List ℕ) → IsToldOnBoard IsGiven IsMissing shows after result told
+    → told ≡ []
+untold_on IsGiven IsMissing true off after none result told is = cc
+untold_on IsGiven IsMissing false off after none result told (inl missing) = missing.4
+untold_on IsGiven IsMissing false off after none result told
+    (inr (board, given, rest, is, inl (refused, untouched, nothing))) = is ∙ nothing
+untold_on IsGiven IsMissing false off after none result told
+    (inr (board, given, rest, is, inr (rounds, later, both, all, are))) =
+    is ∙ both ∙ ap (λ r. r ++ later) all ∙ none board later are
 
 -- nor of lengths of many chains
 no_lines : (shows : Bool) → shows ≡ false → (step : ℕ) (counts : List ℕ)
@@ -101,15 +93,22 @@ module _ (at : List ℕ → File) (terminals : Terminals) (off : terminals.error
   unseen_here : types_and_sees terminals ≡ false
   unseen_here = unseen terminals.input terminals.errors off
 
-  unseen_as : (side : Side) (limit : BoardLimit) → playing_at terminals side limit ≡ unseen_play side limit
-  unseen_as side limit = rw (unseen_here, off) refl
+  -- no prompts of a play
+  unprompted : (side : Side) (limit : BoardLimit) (result : Result PlayEnd RunFault) (board : PlainBoard)
+      (prompts : List ℕ) → ArePrompted (playing_at terminals side limit) board play result prompts → prompts ≡ []
+  unprompted side limit result board prompts (played, same, are) =
+      nothing_told (game_played side board) prompts play.lines play.written played
+      (subst (λ shows. ArePrompts shows (game_played side board) play.lines play.written played prompts) unseen_here
+      are)
 
   -- of the size of a board
   size_untold : (text : ValueText) (limit : BoardLimit) (symmetries : Option (Bor Text)) (board : Bor Text)
       (told : List ℕ) → IsToldOfValues at terminals.errors text limit symmetries board outcome told → told ≡ []
   size_untold text limit None board told is =
-      unopened {Answer = AnswerOf text} (at board.now) (λ read. IsNoticedInRun limit read terminals.errors) outcome
-      told (λ read result tells. untold_of _ _ terminals.errors off result told tells) is
+      unopened {Answer = AnswerOf text} (at board.now) (λ read. IsToldInRun limit read terminals.errors nothing_after)
+      outcome told
+      (λ read result tells. untold_on _ _ terminals.errors off nothing_after (λ given later none. none) result told
+      tells) is
   size_untold text limit (Some symmetries) board told is = is
 
   pub nothing_in_job : (job : Job) (told : List ℕ) → IsToldInJob at terminals play outcome job told → told ≡ []
@@ -132,16 +131,16 @@ module _ (at : List ℕ → File) (terminals : Terminals) (off : terminals.error
       (λ read result tells. no_lengths most read terminals.errors off result told tells) is
   nothing_in_job (Play side limit None board) told is =
       unopened {Answer = PlayEnd} (at board.now)
-      (λ read. IsToldInRun (playing_at terminals side limit) read play) outcome told
-      (λ read result tells. unprompted limit side read play result told
-      (subst (λ p. IsToldInRun p read play result told) (unseen_as side limit) tells)) is
+      (λ read result. IsToldInRun limit read terminals.errors
+      (prompts_after (playing_at terminals side limit) play result) result) outcome told
+      (λ read result tells. untold_on _ _ terminals.errors off
+      (prompts_after (playing_at terminals side limit) play result) (unprompted side limit result) result told
+      tells) is
   nothing_in_job (Play side limit (Some symmetries) board) told (inl (fails, is)) = is
   nothing_in_job (Play side limit (Some symmetries) board) told
-      (inr (b, s, opens, opens_too, (result, same, inl (fault, broke, none, stays, is)))) = is
-  nothing_in_job (Play side limit (Some symmetries) board) told
-      (inr (b, s, opens, opens_too, (result, same, inr (given, domain, (played, run, are))))) =
-      nothing_told (game_played side given) told play.lines play.written played
-      (subst (λ shows. ArePrompts shows (game_played side given) play.lines play.written played told) unseen_here are)
+      (inr (b, s, opens, opens_too, (result, same, tells))) =
+      untold_on _ _ false refl (prompts_after (playing_at terminals side limit) play result)
+      (unprompted side limit result) result told tells
   nothing_in_job (Climb levels) told (played, same, are) =
       nothing_told (PersonClimbs levels) told play.lines play.written played
       (subst (λ shows. ArePrompts shows (PersonClimbs levels) play.lines play.written played told) unseen_here are)

@@ -19,8 +19,8 @@ use Rattle.positions.specs.declared.value.Value.{Value}
 use Rattle.positions.specs.declared.side.Side.{Side}
 use Rattle.runs.specs.BoardRun.{Readers, readers_by}
 use Rattle.runs.specs.CheckRun.{RanCheck}
-use Rattle.runs.specs.Notices.{IsNoticedInRun, IsToldOfChains}
-use Rattle.runs.specs.PlayRun.{IsToldInRun, IsToldUpTo, PlayStreams, run_of_play}
+use Rattle.runs.specs.Notices.{IsToldInRun, IsToldOfChains, nothing_after}
+use Rattle.runs.specs.PlayRun.{IsToldUpTo, PlayStreams, prompts_after, run_of_play}
 use Rattle.runs.specs.Run.{Bytes, Ran}
 use Rattle.runs.specs.Verdicts.{IsAnswered}
 use Rattle.runs.specs.declared.checking.TheConstants.{MAX_JOINED_BYTES, MAX_PROOF_BYTES}
@@ -110,7 +110,8 @@ AnswerOf (texts.Summary summary) = Unit {0}
 abbrev pub IsToldOfValues : (List ℕ → File) → Bool → ValueText → BoardLimit → Option (Bor Text)
     → Bor Text → Outcome → List ℕ → Type 0
 IsToldOfValues at shows text limit None board =
-    OpensAndTells {Answer = AnswerOf text} (at board.now) (λ read. IsNoticedInRun limit read shows)
+    OpensAndTells {Answer = AnswerOf text} (at board.now)
+    (λ read. IsToldInRun limit read shows nothing_after)
 IsToldOfValues at shows text limit (Some symmetries) board = λ outcome told. told ≡ []
 
 -- how a play is run, by what of the streams is a terminal
@@ -150,7 +151,8 @@ module _ (at : List ℕ → File) (terminals : Terminals) (play : PlayStreams)
       OpensAndTells {Answer = Unit {0}} (at board.now)
       (λ read. IsToldOfChains most read terminals.errors) outcome told
   IsToldInJob (Play side limit None board) told = OpensAndTells {Answer = PlayEnd} (at board.now)
-      (λ read. IsToldInRun (playing_at terminals side limit) read play) outcome told
+      (λ read result. IsToldInRun limit read terminals.errors
+      (prompts_after (playing_at terminals side limit) play result) result) outcome told
   IsToldInJob (Play side limit (Some symmetries) board) told =
       OpensBothAndTells {Answer = PlayEnd} (at board.now) (at symmetries.now)
       (λ read. IsToldUpTo (playing_at terminals side limit) read play) outcome told

@@ -6,7 +6,8 @@ ghost use Rattle.serving.specs.declared.outcome.Outcome.TheVariants.{Broken};
 ghost use Rattle.board_text.specs.Ranges.{InRange};
 ghost use Rattle.console.specs.Showing.{IsMore};
 ghost use Rattle.player.specs.declared.end.PlayEnd.{PlayEnd as EndData};
-ghost use Rattle.runs.specs.PlayRun.{IsToldInRun, IsToldUpTo, play_streams};
+ghost use Rattle.runs.specs.Notices.{IsToldInRun};
+ghost use Rattle.runs.specs.PlayRun.{IsToldUpTo, play_streams, prompts_after};
 ghost use Rattle.runs.specs.Run.{bytes_of, stream_of};
 ghost use Rattle.serving.specs.Consoles.{IsReady};
 ghost use Rattle.serving.specs.Folders.{CanFail};
@@ -46,9 +47,9 @@ pub(crate) fn play<'a, F: Folder, I: Source, O: Sink, E: Sink>(
         ⊎ (I.has_failed console.new.input ≡ true) }
     ensures told { (told : List ℕ) × OpensAndTells {Answer = EndData}
         (F.at files.now.folder.now board.now)
-        (λ read. IsToldInRun playing read
+        (λ read ended. IsToldInRun playing.limit read playing.shows_size (prompts_after playing
         (play_streams I.remaining console.old.input console.new.input
-        O.contents console.old.output console.new.output)) result.outcome told
+        O.contents console.old.output console.new.output) ended) ended) result.outcome told
         × IsMore E.contents E.has_failed console.old.errors console.new.errors told }
 {
     let Ok(mut reader) = files.open(alloc, board) else {

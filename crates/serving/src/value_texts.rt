@@ -6,7 +6,7 @@ ghost use Rattle.serving.specs.declared.outcome.Outcome.TheVariants.{Broken};
 ghost use Rattle.board_text.specs.Ranges.{InRange};
 ghost use Rattle.console.specs.Showing.{IsMore};
 ghost use Rattle.runs.specs.BoardRun.{readers_by};
-ghost use Rattle.runs.specs.Notices.{IsNoticedInRun};
+ghost use Rattle.runs.specs.Notices.{IsToldInRun, nothing_after};
 ghost use Rattle.runs.specs.Run.{bytes_of, stream_of};
 ghost use Rattle.serving.specs.Folders.{CanFail};
 ghost use Rattle.serving.specs.Jobs.{CanFailAt, TellsReads, TellsWrites, WritesAlone, WritesBoth};
@@ -60,8 +60,8 @@ impl ValueText {
         ensures reads { TellsReads (stream_of R.remaining R.has_failed reader.old reader.new)
             result }
         ensures told { (told : List ℕ) × TellsOfRun {Answer = AnswerOf self}
-            (IsNoticedInRun work.limit (bytes_of R.remaining reader.old reader.new)
-            work.shows_size) result told
+            (IsToldInRun work.limit (bytes_of R.remaining reader.old reader.new)
+            work.shows_size nothing_after) result told
             × IsMore E.contents E.has_failed errors.old errors.new told }
     {
         match self {
@@ -189,7 +189,8 @@ impl<'a> ValueJob<'a> {
             → CanFail (F.at files.now.folder.now self.now.board.now) }
         ensures told { (told : List ℕ) × OpensAndTells {Answer = AnswerOf self.now.text}
             (F.at files.now.folder.now self.now.board.now)
-            (λ read. IsNoticedInRun work.limit read work.shows_size) result.outcome told
+            (λ read. IsToldInRun work.limit read work.shows_size nothing_after)
+            result.outcome told
             × IsMore E.contents E.has_failed console.old.errors console.new.errors told }
     {
         let Ok(mut reader) = files.open(alloc, self.board) else {

@@ -7,7 +7,8 @@ ghost use Rattle.graphs.specs.Numbered.{numbered, Ordered, Classes};
 ghost use Rattle.solver.specs.Solving.{IsFresh};
 
 use board_text::{Board, Memory};
-use gap_values::{GapValues, has_few_gaps};
+use console::NoWatch;
+use gap_values::{GapValues, OnThisThread, has_few_gaps};
 use index_lists::{ListStore, PlainLists};
 use positions::{MAX_CONFIGURATIONS, Value, is_small};
 use solver::{SolveFault, Solver, Values};
@@ -61,8 +62,8 @@ pub fn gap_values_of(alloc: Global, board: &Board) -> Option<GapValues>
     if !has_few_gaps(board) {
         return None;
     }
-    match GapValues::of(alloc, board) {
-        Err(Memory) => GapValues::of(alloc, board).ok(),
+    match GapValues::of(alloc, board, &OnThisThread, &NoWatch, &mut ()) {
+        Err(Memory) => GapValues::of(alloc, board, &OnThisThread, &NoWatch, &mut ()).ok(),
         Ok(values) => Some(values),
     }
 }

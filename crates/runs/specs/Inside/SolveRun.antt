@@ -1,5 +1,5 @@
 -- Clauses of this crate's own functions, beside `SolveRun`.
-use Rattle.std.specs.Prelude.{◌≡◌, ℕ, ◌<◌, ◌≤◌, List, Option, Some, length}
+use Rattle.std.specs.Prelude.{◌≡◌, ℕ, ◌<◌, ◌≤◌, Bool, List, Option, Result, Some, length}
 use Rattle.board_text.specs.PlainBoard.{PlainBoard}
 use Rattle.classes.specs.Numbers.{class_count}
 use Rattle.positions.specs.Value.{HasValue}
@@ -10,6 +10,8 @@ use Rattle.positions.specs.declared.value.Value.TheVariants.{Forever}
 use Rattle.proof_text.specs.Proof.{PlainProof}
 use Rattle.proof_text.specs.ProofText.{class_text}
 use Rattle.round_workers.specs.declared.solving.TheConstants.{MIN_SHARED}
+use Rattle.runs.specs.Notices.{IsToldOnBoard, nothing_after}
+use Rattle.runs.specs.Texts.{HasNoneWithin, IsBoardWithin}
 use Rattle.runs.specs.declared.fault.RunFault.{RunFault}
 use Rattle.strategies.specs.ClassDocument.{HasLongText, IsClassDocumentFor}
 use Rattle.strategies.specs.DocumentTexts.{IsDocumentText}
@@ -64,3 +66,11 @@ abbrev pub IsSolvedByClassesFor : Option Side → PlainBoard → Value → List 
 IsSolvedByClassesFor side board value text = IsValueFor side board value
     × ((document : PlainProof) × IsClassDocumentFor side board document
     × (text ≡ class_text board document)) × (length text ≤ MAX_PROOF_BYTES)
+
+-- what is told of a board within the limit whose text this is, as in a run that reads it and tells
+-- nothing after the rounds
+abbrev pub IsToldOnText : {Answer : Type 0} → BoardLimit → List ℕ → Bool → Result Answer RunFault
+    → List ℕ → Type 0
+IsToldOnText limit text shows result told =
+    IsToldOnBoard (IsBoardWithin limit text) (HasNoneWithin limit text) shows nothing_after
+    result told

@@ -149,7 +149,9 @@ returns-in_err-play-clause-prompts g c =
             c.in_ok-text.text.items c.in_ok-text.ensures.ok
             c.in_ok-symmetries.symmetries (rw c.as_slice.ensures.value at c.in_ok-symmetries.ensures.found)
             c.in_ok-values.ensures.few,
-        (c.play.result, ap run_of_play (sym c.in_err-play.was), told.1),
+        told.0,
+        refl,
+        inr ([], told.0, refl, refl, (c.play.result, ap run_of_play (sym c.in_err-play.was), told.1)),
       )),
       told.2,
     )
@@ -164,7 +166,9 @@ returns-clause-prompts g c =
             c.in_ok-text.text.items c.in_ok-text.ensures.ok
             c.in_ok-symmetries.symmetries (rw c.as_slice.ensures.value at c.in_ok-symmetries.ensures.found)
             c.in_ok-values.ensures.few,
-        (c.play.result, ap run_of_play (sym c.in_ok-play.was), told.1),
+        told.0,
+        refl,
+        inr ([], told.0, refl, refl, (c.play.result, ap run_of_play (sym c.in_ok-play.was), told.1)),
       ),
       told.2,
     )

@@ -5,6 +5,6 @@ use Rattle.runs.proofs.playing.Playing.values.Goals as goal
 pub returns-clause-rounds : goal.returns-clause-rounds
 returns-clause-rounds g c =
     rounds_told g.E.Sink.contents g.E.Sink.has_failed (is_told_of c.args.self.shows_size c.args.board.now)
-    c.of-lines.result.are_shown c.args.board.now c.args.errors.now c.watched.new.told c.watched.result
+    c.of-lines.result.are_shown c.args.board.now c.args.errors.now c.of.new.told c.of.result
     c.of-lines.ensures
-    c.watched.ensures.told c.watched.ensures.untold
+    c.of.ensures.told c.of.ensures.untold

@@ -1,4 +1,4 @@
-use Rattle.std.proofs.Common.{[], inl, inr, refl}
+use Rattle.std.proofs.Common.{[], inl, refl}
 use Rattle.std.proofs.lemmas.Result.{err_from_is_err_and}
 use Rattle.console.proofs.Cited.{none_more}
 use Rattle.runs.specs.LimitedSolveRun.{CannotSolveWithin, SolutionWithin}
@@ -46,7 +46,7 @@ pub returns-in_err-text-clause-notice : goal.returns-in_err-text-clause-notice
 returns-in_err-text-clause-notice g c =
     let p = err_from_is_err_and c.from_residual.result c.from_residual.ensures.1 in (
       [],
-      rw (p.1, p.2) (inr (c.in_err-text.field-0.0, refl, inl c.in_err-text.ensures.fault, refl)),
+      rw (p.1, p.2) (inl (c.in_err-text.field-0.0, refl, inl c.in_err-text.ensures.fault, tt, refl)),
       none_more g.E.Sink.contents g.E.Sink.has_failed c.args.errors.now,
     )
 
