@@ -1,14 +1,15 @@
 //! The numbers of ordered configurations: ranks.
 
-ghost use Rattle.std.specs.Prelude.{◌≡◌, ◌<◌, length};
+ghost use Rattle.std.specs.Prelude.{◌≡◌, ◌<◌, ◌≤◌, length};
 ghost use Rattle.board_text.specs.PlainBoard.{IsBoard};
 ghost use Rattle.graphs.specs.Inside.Filling.{IsGapNoted, IsGapZeroed};
 ghost use Rattle.graphs.specs.Ordered.{ordered};
+ghost use Rattle.positions.specs.Ranks.{configurations};
 
 use crate::graph::MAX_PLACES;
 use crate::numbering::Numbering;
 use board_text::{Board, Memory};
-use positions::{LabelSet, Space, TupleAnswers};
+use positions::{LabelSet, MAX_CONFIGURATIONS, Space, TupleAnswers};
 use std::alloc::Global;
 use std::marker::Model;
 
@@ -22,12 +23,15 @@ pub struct ByRanks {
 impl Model for ByRanks {
     ghost use Rattle.std.specs.Prelude.{◌≡◌, ◌≤◌};
     ghost use Rattle.board_text.specs.PlainBoard.{PlainBoard, IsBoard};
+    ghost use Rattle.positions.specs.Ranks.{configurations};
+    ghost use Rattle.positions.specs.declared.space.TheConstants.{MAX_CONFIGURATIONS};
 
     ghost Value = { PlainBoard };
 
     ghost view = { λ s. s.space };
 
-    ghost invariant = { λ s. (s.answers ≡ s.space) × IsBoard s.space };
+    ghost invariant = { λ s. (s.answers ≡ s.space) × IsBoard s.space
+        × (configurations s.space ≤ MAX_CONFIGURATIONS) };
 }
 
 #[tactic(auto, unfolding(crate::specs::Numbered::graph_by))]
@@ -93,9 +97,11 @@ impl Numbering for ByRanks {
 
 #[tactic(auto, unfolding(crate::specs::Numbered::graph_by))]
 impl ByRanks {
-    /// The configurations and gaps.
-    pub(crate) fn space(&self) -> &Space
-        ensures { result.now ≡ self.now }
+    /// The space of the board.
+    pub fn space(&self) -> &Space
+        ensures value { result.now ≡ self.now }
+        ensures is_board { IsBoard self.now }
+        ensures few { configurations self.now ≤ MAX_CONFIGURATIONS }
     {
         &self.space
     }

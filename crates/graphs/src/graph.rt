@@ -6,13 +6,13 @@ ghost use Rattle.board_text.specs.PlainBoard.{IsBoard};
 ghost use Rattle.positions.specs.Ranks.{configurations};
 ghost use Rattle.graphs.specs.Answers.{AreAnswerBits, AreMembers};
 ghost use Rattle.graphs.specs.Graph.{IsGraph};
-ghost use Rattle.graphs.specs.Numbered.{numbered, graph_of, Ordered};
+ghost use Rattle.graphs.specs.Numbered.{numbered, graph_of};
 ghost use Rattle.graphs.specs.Stuck.{AreStuckZeroed};
 
 use crate::by_ranks::ByRanks;
 use crate::numbering::Numbering;
 use board_text::{Board, MAX_LABELS, Memory};
-use positions::{LabelSet, MAX_CONFIGURATIONS, Space};
+use positions::{LabelSet, MAX_CONFIGURATIONS};
 use std::alloc::Global;
 use std::marker::Model;
 
@@ -47,18 +47,6 @@ impl<N: Numbering> Model for Graph<N> {
         s.struck.items };
 }
 
-impl Graph {
-    /// The space of the board. Numbers are ranks.
-    pub fn space(&self) -> &Space
-        ensures value { result.now ≡ self.now.board }
-        ensures ordered { self.now.numbering ≡ Ordered }
-        ensures is_board { IsBoard self.now.board }
-        ensures few { configurations self.now.board ≤ MAX_CONFIGURATIONS }
-    {
-        self.numbers.space()
-    }
-}
-
 impl<N: Numbering> Graph<N> {
     /// The graph of `board`, which has at most `MAX_CONFIGURATIONS` configurations, by the numbers
     /// `N`. The error is that memory ran out.
@@ -78,6 +66,20 @@ impl<N: Numbering> Graph<N> {
             struck,
             numbers,
         })
+    }
+
+    /// The numbers.
+    pub fn numbers(&self) -> &N
+        ensures { N.game result.now ≡ self.now }
+    {
+        &self.numbers
+    }
+
+    /// The numbers, without the table.
+    pub fn into_numbers(self) -> N
+        ensures { N.game result ≡ self }
+    {
+        self.numbers
     }
 
     /// The number of configurations, each a number below it.
