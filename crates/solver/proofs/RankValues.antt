@@ -284,9 +284,9 @@ pub answer-set : (board : PlainBoard) (gap : ℕ) (labels : List ℕ) → IsBoar
     → (label : ℕ) → IsInSet labels label ↔ IsAnswer board gap label
 unfolding graph_by
 answer-set board gap labels is low are label = (
-      λ set. answer-of board is gap low label ((are.each label set.0).0 set.1),
-      λ answer.
-          let is_in = answer-in board is gap low label answer in
-          let small = are.few label is_in in
-          (small, (are.each label small).1 is_in),
-    )
+  λ set. answer-of board is gap low label ((are.each label set.0).0 set.1),
+  λ answer.
+      let is_in = answer-in board is gap low label answer in
+      let small = are.few label is_in in
+      (small, (are.each label small).1 is_in),
+)

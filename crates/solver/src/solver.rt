@@ -346,18 +346,6 @@ impl<S: ListStore + Drop> Solver<S> {
     {
         self.after_all_rounds().close()
     }
-
-    /// The solver after all rounds that the board takes.
-    fn after_all_rounds(self) -> Solver<S>
-        ensures game { result.game ≡ self.game }
-        ensures done { result.is_done ≡ true }
-    {
-        let mut solver = self;
-        while !solver.done() {
-            solver.round();
-        }
-        solver
-    }
 }
 
 impl<S: ListStore + Drop, N: Numbering> Solver<S, N> {
@@ -375,5 +363,17 @@ impl<S: ListStore + Drop, N: Numbering> Solver<S, N> {
         let Solver { stage, .. } = self;
         let (_, _, words, _) = stage.into_parts();
         Ok(words)
+    }
+
+    /// The solver after all rounds that the board takes.
+    fn after_all_rounds(self) -> Solver<S, N>
+        ensures game { result.game ≡ self.game }
+        ensures done { result.is_done ≡ true }
+    {
+        let mut solver = self;
+        while !solver.done() {
+            solver.round();
+        }
+        solver
     }
 }

@@ -81,7 +81,11 @@ fn count_answers<N: Numbering>(graph: &Graph<N>, gap: u32) -> u32
 
 /// The word of each configuration before the first round:
 /// 0 if a request has no answer, else `OPEN`.
-fn first_words<N: Numbering>(alloc: Global, graph: &Graph<N>, counts: &[u32]) -> Result<Vec<u32>, Memory>
+fn first_words<N: Numbering>(
+    alloc: Global,
+    graph: &Graph<N>,
+    counts: &[u32],
+) -> Result<Vec<u32>, Memory>
     requires { IsCounted (graph_of graph.now) (lasts (graph_of graph.now) 0) counts.now }
     ensures { IfOk result (λ words. AreFirstWords (graph_of graph.now) words.items) }
 {

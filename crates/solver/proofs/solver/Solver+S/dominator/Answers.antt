@@ -5,19 +5,19 @@ use Rattle.positions.specs.Gaps.{gaps, pebble_of, IsDominator}
 use Rattle.graphs.specs.Numbered.{Numbered, graph_of, configuration_of, Ordered}
 use Rattle.graphs.proofs.Cited.{ordered-gaps, dominator-some, dominator-none}
 use Rattle.solver.specs.Solving.{Solving}
-use Rattle.solver.proofs.solver.Solver.dominator.Given
-use Rattle.solver.proofs.solver.Solver.dominator.Goals as goal
-use Rattle.solver.proofs.solver.Solver.dominator.Goals.{After-answered_gap}
+use Rattle.solver.proofs.solver.Solver+S.dominator.Given
+use Rattle.solver.proofs.solver.Solver+S.dominator.Goals as goal
+use Rattle.solver.proofs.solver.Solver+S.dominator.Goals.{After-answered_gap}
 
 module _ (g : Given.Over) (c : After-answered_gap g) where
   abbrev game : Numbered
   game = c.self.inside.stage.game
 
   ordered : game.numbering ≡ Ordered
-  ordered = rw (← c.self.view_is) at c.requires.ordered
+  ordered = rw (← c.self.view_is) at c.space-space.ensures.ordered
 
   inside : c.args.rank < (graph_of game).configurations
-  inside = rw (← c.self.view_is) at c.requires.rank
+  inside = rw (← c.self.view_is) at c.requires
 
   same : (n : ℕ) → n ≡ (graph_of c.graph.result.now).struck c.args.rank → n ≡ (graph_of game).struck c.args.rank
   same n e = subst (λ (m : Numbered). n ≡ (graph_of m).struck c.args.rank) c.graph.ensures e
@@ -26,7 +26,7 @@ pub gap_pebble-requires : goal.gap_pebble-requires
 gap_pebble-requires g c =
     let at = (goal.at.gap_pebble-requires g c).After-answered_gap in
     let low = subst (λ (m : Numbered). c.in-Some.gap < (graph_of m).gaps) c.graph.ensures c.in-Some.ensures.1 in
-    let own : c.space.result.now ≡ (game g at).board = c.space.ensures ∙ ap (λ (v : Solving). v.game.board)
+    let own : c.space-space.result.now ≡ (game g at).board = c.space-space.ensures.value ∙ ap (λ (v : Solving). v.game.board)
     (sym c.self.view_is) in
     subst (λ (b : PlainBoard). c.in-Some.gap < gaps b) (sym own)
     (subst (λ n. c.in-Some.gap < n) (ordered-gaps (game g at) (ordered g at)) low)
@@ -35,7 +35,7 @@ pub returns-in-Some : goal.returns-in-Some
 returns-in-Some g c =
     let at = (goal.at.returns-in-Some g c).After-answered_gap in
     let low = subst (λ (m : Numbered). c.in-Some.gap < (graph_of m).gaps) c.graph.ensures c.in-Some.ensures.1 in
-    let own : c.space.result.now ≡ (game g at).board = c.space.ensures ∙ ap (λ (v : Solving). v.game.board)
+    let own : c.space-space.result.now ≡ (game g at).board = c.space-space.ensures.value ∙ ap (λ (v : Solving). v.game.board)
     (sym c.self.view_is) in
     let pebble : pebble_of (game g at).board c.in-Some.gap ≡ c.gap_pebble.result =
     ap (λ (b : PlainBoard). pebble_of b c.in-Some.gap) (sym own) ∙ sym c.gap_pebble.ensures.pebble in
