@@ -21,7 +21,11 @@ use std::alloc::Global;
 use std::process::Abort;
 
 /// The solver of a board.
-pub(crate) fn open<S: ListStore + Drop>(rt: &impl Abort, alloc: Global, board: &Board) -> Solver<S> {
+pub(crate) fn open<S: ListStore + Drop>(
+    rt: &impl Abort,
+    alloc: Global,
+    board: &Board,
+) -> Solver<S> {
     solver_of(alloc, board).expect(rt, "a solver")
 }
 
