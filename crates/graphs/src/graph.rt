@@ -22,9 +22,9 @@ pub const MAX_PLACES: usize = MAX_LABELS + 1;
 /// A game as numbers: the members of each gap, which are found whenever they are asked for, and a
 /// table of the gap in which each configuration is an answer.
 ///
-/// Configurations and gaps are numbers from 0 on, which the type `N` finds. A gap has one member for
-/// each place of its pebble. Contracts see the board, and whether a number stands for a configuration
-/// or for a class of them.
+/// Configurations and gaps are numbers from 0 on, of the type `N`. A gap has one member for each
+/// place of its pebble. Contracts see the board, and whether a number stands for a configuration or
+/// for a class of them.
 #[derive(Drop)]
 pub struct Graph<N: Numbering = ByRanks> {
     numbers: N,

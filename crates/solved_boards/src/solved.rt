@@ -24,8 +24,8 @@ pub fn solver_of<S: ListStore + Drop>(alloc: Global, board: &Board) -> Result<So
     }
 }
 
-/// The solver of a board that isn't too large, by classes. `Solver::of` is asked once more if it was
-/// refused memory.
+/// The solver of a board that isn't too large, by classes. `Solver::of` is asked once more if it
+/// was refused memory.
 pub fn class_solver_of<S: ListStore + Drop>(
     alloc: Global,
     board: &Board,

@@ -32,7 +32,7 @@ use positions::{MAX_CONFIGURATIONS, Space, is_small};
 use std::alloc::Global;
 use std::marker::Model;
 
-/// A board whose values are found round by round.
+/// A board whose values are found round by round, by the numbers `N` of its configurations.
 ///
 /// It holds no board: contracts see it as the board that it was opened for and what the numbers of
 /// its configurations stand for, with the configurations that are filed and those that aren't. No

@@ -16,6 +16,9 @@ module _ (g : Given.Over) (c : After-answered_gap g) where
   ordered : game.numbering ≡ Ordered
   ordered = rw (← c.self.view_is) at c.space-space.ensures.ordered
 
+  own : c.space-space.result.now ≡ game.board
+  own = c.space-space.ensures.value ∙ ap (λ (v : Solving). v.game.board) (sym c.self.view_is)
+
   inside : c.args.rank < (graph_of game).configurations
   inside = rw (← c.self.view_is) at c.requires
 
@@ -26,19 +29,15 @@ pub gap_pebble-requires : goal.gap_pebble-requires
 gap_pebble-requires g c =
     let at = (goal.at.gap_pebble-requires g c).After-answered_gap in
     let low = subst (λ (m : Numbered). c.in-Some.gap < (graph_of m).gaps) c.graph.ensures c.in-Some.ensures.1 in
-    let own : c.space-space.result.now ≡ (game g at).board = c.space-space.ensures.value ∙ ap (λ (v : Solving). v.game.board)
-    (sym c.self.view_is) in
-    subst (λ (b : PlainBoard). c.in-Some.gap < gaps b) (sym own)
+    subst (λ (b : PlainBoard). c.in-Some.gap < gaps b) (sym (own g at))
     (subst (λ n. c.in-Some.gap < n) (ordered-gaps (game g at) (ordered g at)) low)
 
 pub returns-in-Some : goal.returns-in-Some
 returns-in-Some g c =
     let at = (goal.at.returns-in-Some g c).After-answered_gap in
     let low = subst (λ (m : Numbered). c.in-Some.gap < (graph_of m).gaps) c.graph.ensures c.in-Some.ensures.1 in
-    let own : c.space-space.result.now ≡ (game g at).board = c.space-space.ensures.value ∙ ap (λ (v : Solving). v.game.board)
-    (sym c.self.view_is) in
     let pebble : pebble_of (game g at).board c.in-Some.gap ≡ c.gap_pebble.result =
-    ap (λ (b : PlainBoard). pebble_of b c.in-Some.gap) (sym own) ∙ sym c.gap_pebble.ensures.pebble in
+    ap (λ (b : PlainBoard). pebble_of b c.in-Some.gap) (sym (own g at)) ∙ sym c.gap_pebble.ensures.pebble in
     subst (λ (v : Solving). IsSmallest (IsDominator v.game.board (configuration_of v.game c.args.rank))
     (Some c.gap_pebble.result)) c.self.view_is
     (subst (λ p. IsSmallest (IsDominator (game g at).board (configuration_of (game g at) c.args.rank)) (Some p)) pebble
