@@ -15,6 +15,7 @@ use crate::table::{Halves, Hand, Look, Plan, Rule, Strike, Try};
 use crate::words::{OPEN, first_words};
 use atomic_table::Table;
 use board_text::Memory;
+use graphs::{ByRanks, Numbering};
 use index_lists::ListStore;
 use solver::Solver;
 use std::alloc::Global;
@@ -31,14 +32,14 @@ use std::marker::Model;
 /// its index in it. The calls of a seat stand in their order, and after those of the seats that it
 /// was split or joined from. No order is promised of the calls of two seats that never met.
 #[derive(Drop)]
-pub struct SharedRound<'a, S: ListStore> {
+pub struct SharedRound<'a, S: ListStore, N: Numbering = ByRanks> {
     alloc: Global,
-    solver: &'a Solver<S>,
+    solver: &'a Solver<S, N>,
     width: u32,
-    table: Table<(), Hand, Plan<'a, S>, Rule, Global>,
+    table: Table<(), Hand, Plan<'a, S, N>, Rule, Global>,
 }
 
-impl<'a, S: ListStore> Model for SharedRound<'a, S> {
+impl<'a, S: ListStore, N: Numbering> Model for SharedRound<'a, S, N> {
     ghost use Rattle.claim_round.specs.Shared.{RoundId};
 
     ghost Value = { RoundId };
@@ -81,16 +82,16 @@ pub enum Why {
 
 /// A round that was not closed.
 #[derive(Drop)]
-pub struct NotClosed<'a, S: ListStore> {
+pub struct NotClosed<'a, S: ListStore, N: Numbering = ByRanks> {
     /// The round, as it was.
-    pub round: SharedRound<'a, S>,
+    pub round: SharedRound<'a, S, N>,
     /// The seat, as it was.
     pub seat: RoundSeat,
     /// Why it was not closed.
     pub why: Why,
 }
 
-impl<'a, S: ListStore> SharedRound<'a, S> {
+impl<'a, S: ListStore, N: Numbering> SharedRound<'a, S, N> {
     /// Opens a round at the value of `solver`. Its first seat has all the configurations to strike
     /// and the whole `width`.
     ///
@@ -99,9 +100,9 @@ impl<'a, S: ListStore> SharedRound<'a, S> {
     /// strike, and no more than there are configurations.
     pub fn open(
         alloc: Global,
-        solver: &'a Solver<S>,
+        solver: &'a Solver<S, N>,
         width: u32,
-    ) -> Result<(SharedRound<'a, S>, RoundSeat), Memory>
+    ) -> Result<(SharedRound<'a, S, N>, RoundSeat), Memory>
         requires going { solver.now.is_done ≡ false }
         requires some_width { 0 < width }
         ensures { IfOk result (λ r. Opens solver.now width r.0 r.1) }
@@ -288,7 +289,7 @@ impl<'a, S: ListStore> SharedRound<'a, S> {
     ///
     /// The history is then whole: all strikes and claims that were made were told to this seat, or
     /// to one that was joined in.
-    pub fn close(self, seat: RoundSeat) -> Result<Closed, NotClosed<'a, S>>
+    pub fn close(self, seat: RoundSeat) -> Result<Closed, NotClosed<'a, S, N>>
         requires mine { IsOf self seat }
         ensures ok { IfOk result (λ c. IsClosedBy self.entry seat c) }
         ensures finished { IfOk result (λ c. Finishes self.entry.key.solving c) }

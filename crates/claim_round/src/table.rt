@@ -1,6 +1,7 @@
 //! The rule of a round's table, and the contract of each kind of step.
 
 use atomic_table::{Join, Play, Split, TableRule};
+use graphs::Numbering;
 use index_lists::ListStore;
 use solver::Solver;
 use std::marker::Model;
@@ -21,12 +22,12 @@ impl Model for Hand {
 
 /// The solver and the width that a table is made for.
 #[derive(Drop)]
-pub struct Plan<'a, S: ListStore> {
-    pub solver: &'a Solver<S>,
+pub struct Plan<'a, S: ListStore, N: Numbering> {
+    pub solver: &'a Solver<S, N>,
     pub width: u32,
 }
 
-impl<'a, S: ListStore> Model for Plan<'a, S> {
+impl<'a, S: ListStore, N: Numbering> Model for Plan<'a, S, N> {
     ghost use Rattle.claim_round.specs.Shared.{Key};
 
     ghost Value = { Key };
@@ -37,7 +38,7 @@ impl<'a, S: ListStore> Model for Plan<'a, S> {
 /// The rule between any two steps of any threads: the words and the seats have a history.
 pub struct Rule;
 
-impl<'a, S: ListStore> TableRule<(), Hand, Plan<'a, S>> for Rule {
+impl<'a, S: ListStore, N: Numbering> TableRule<(), Hand, Plan<'a, S, N>> for Rule {
     ghost use Rattle.claim_round.specs.Rule.{Kept};
     ghost use Rattle.claim_round.specs.Inside.Openings.{opening_view};
 

@@ -4,6 +4,7 @@ ghost use Rattle.std.specs.Prelude.{◌≡◌, ◌+◌, ◌≤◌, ◌++◌, fal
 ghost use Rattle.claim_round.specs.Inside.Openings.{AreOpeningWords};
 
 use board_text::Memory;
+use graphs::Numbering;
 use index_lists::ListStore;
 use solver::Solver;
 use std::alloc::Global;
@@ -13,9 +14,9 @@ pub const OPEN: u64 = gap_values::OPEN as u64;
 
 /// The words of a round of `solver` at its opening: the count of each gap, and then the word of
 /// each configuration.
-pub(crate) fn first_words<S: ListStore>(
+pub(crate) fn first_words<S: ListStore, N: Numbering>(
     alloc: Global,
-    solver: &Solver<S>,
+    solver: &Solver<S, N>,
 ) -> Result<Vec<u64>, Memory>
     requires { solver.now.is_done ≡ false }
     ensures { IfOk result (λ words. AreOpeningWords solver.now words.items) }

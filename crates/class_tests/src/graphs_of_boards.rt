@@ -4,12 +4,12 @@
 //! made once more.
 
 ghost use Rattle.std.specs.Prelude.{◌≡◌, IfSome};
-ghost use Rattle.graphs.specs.Numbered.{numbered, Ordered, Classes};
+ghost use Rattle.graphs.specs.Numbered.{numbered};
 
 use crate::assertions::{assert_same, board_of};
 use board_text::Board;
 use fakes::boards::{CYCLE_WITHOUT_LABELS, THREE_CYCLE};
-use graphs::{Graph, MAX_PLACES};
+use graphs::{ByClasses, ByRanks, Graph, MAX_PLACES, Numbering};
 use positions::is_small;
 use std::alloc::Global;
 use std::process::Abort;
@@ -108,29 +108,16 @@ const BLANKS_BY_RANKS: Worked = Worked {
     ],
 };
 
-/// The graph of the configurations of a board that isn't too large.
-fn graph_of_ranks(alloc: Global, board: &Board) -> Option<Graph>
-    ensures { IfSome result (λ graph. graph ≡ numbered board.now Ordered) }
+/// The graph of a board that isn't too large.
+fn graph_of<N: Numbering>(alloc: Global, board: &Board) -> Option<Graph<N>>
+    ensures { IfSome result (λ graph. graph ≡ numbered board.now N.numbering) }
 {
     if !is_small(board) {
         return None;
     }
-    match Graph::of_ranks(alloc, board) {
+    match Graph::of(alloc, board) {
         Ok(graph) => Some(graph),
-        Err(_) => Graph::of_ranks(alloc, board).ok(),
-    }
-}
-
-/// The graph of the classes of a board that isn't too large.
-fn graph_of_classes(alloc: Global, board: &Board) -> Option<Graph>
-    ensures { IfSome result (λ graph. graph ≡ numbered board.now Classes) }
-{
-    if !is_small(board) {
-        return None;
-    }
-    match Graph::of_classes(alloc, board) {
-        Ok(graph) => Some(graph),
-        Err(_) => Graph::of_classes(alloc, board).ok(),
+        Err(_) => Graph::of(alloc, board).ok(),
     }
 }
 
@@ -143,7 +130,7 @@ fn wanted_member(worked: &Worked, gap: u32, place: u32) -> Option<(u32, bool)> {
 }
 
 /// Asserts the members of a graph's gaps, and which are answers.
-fn assert_members(rt: &impl Abort, graph: &Graph, worked: &Worked) {
+fn assert_members<N: Numbering>(rt: &impl Abort, graph: &Graph<N>, worked: &Worked) {
     assert_same(rt, "gaps", graph.gaps() as usize, worked.members.len());
     for gap in 0..graph.gaps() {
         for place in 0..graph.places() {
@@ -160,7 +147,7 @@ fn assert_members(rt: &impl Abort, graph: &Graph, worked: &Worked) {
 }
 
 /// Asserts the members of each gap as one row, and its answers as a set, among three labels.
-fn assert_rows(rt: &impl Abort, graph: &Graph, worked: &Worked) {
+fn assert_rows<N: Numbering>(rt: &impl Abort, graph: &Graph<N>, worked: &Worked) {
     let mut members = [0; MAX_PLACES];
     for gap in 0..graph.gaps() {
         graph.write_members(gap, &mut members);
@@ -186,7 +173,7 @@ fn assert_rows(rt: &impl Abort, graph: &Graph, worked: &Worked) {
 }
 
 /// Asserts the gap in which each configuration is an answer.
-fn assert_struck(rt: &impl Abort, graph: &Graph, worked: &Worked) {
+fn assert_struck<N: Numbering>(rt: &impl Abort, graph: &Graph<N>, worked: &Worked) {
     assert_same(
         rt,
         "configurations",
@@ -204,43 +191,31 @@ fn assert_struck(rt: &impl Abort, graph: &Graph, worked: &Worked) {
     }
 }
 
-/// Asserts that a graph is the one that was worked out.
-fn assert_graph(rt: &impl Abort, graph: &Graph, worked: &Worked) {
-    assert_members(rt, graph, worked);
-    assert_rows(rt, graph, worked);
-    assert_struck(rt, graph, worked);
-}
-
-/// Asserts that a board has the graph of ranks that was worked out.
-fn assert_ranks(rt: &impl Abort, alloc: Global, worked: &Worked) {
+/// Asserts that a board has the graph that was worked out.
+fn assert_graph<N: Numbering>(rt: &impl Abort, alloc: Global, worked: &Worked) {
     let board = board_of(rt, alloc, worked.text);
-    let graph = graph_of_ranks(alloc, &board).expect(rt, "a graph");
-    assert_graph(rt, &graph, worked);
-}
-
-/// Asserts that a board has the graph of classes that was worked out.
-fn assert_classes(rt: &impl Abort, alloc: Global, worked: &Worked) {
-    let board = board_of(rt, alloc, worked.text);
-    let graph = graph_of_classes(alloc, &board).expect(rt, "a graph");
-    assert_graph(rt, &graph, worked);
+    let graph = graph_of::<N>(alloc, &board).expect(rt, "a graph");
+    assert_members(rt, &graph, worked);
+    assert_rows(rt, &graph, worked);
+    assert_struck(rt, &graph, worked);
 }
 
 #[test]
 fn a_cycle_by_ranks(rt: HostRuntime) {
-    assert_ranks(&rt, rt.alloc(), &CYCLE_BY_RANKS);
+    assert_graph::<ByRanks>(&rt, rt.alloc(), &CYCLE_BY_RANKS);
 }
 
 #[test]
 fn a_cycle_by_classes(rt: HostRuntime) {
-    assert_classes(&rt, rt.alloc(), &CYCLE_BY_CLASSES);
+    assert_graph::<ByClasses>(&rt, rt.alloc(), &CYCLE_BY_CLASSES);
 }
 
 #[test]
 fn pebbles_without_labels_by_ranks(rt: HostRuntime) {
-    assert_ranks(&rt, rt.alloc(), &BLANKS_BY_RANKS);
+    assert_graph::<ByRanks>(&rt, rt.alloc(), &BLANKS_BY_RANKS);
 }
 
 #[test]
 fn pebbles_without_labels_by_classes(rt: HostRuntime) {
-    assert_classes(&rt, rt.alloc(), &BLANKS_BY_CLASSES);
+    assert_graph::<ByClasses>(&rt, rt.alloc(), &BLANKS_BY_CLASSES);
 }

@@ -11,6 +11,7 @@ pub mod Filling
 pub mod StruckFamilies
 pub mod FilledFamilies
 pub mod StuckParts
+pub mod StuckGaps
 pub mod RankTables
 pub mod ClassTables
 pub mod NumberedValues

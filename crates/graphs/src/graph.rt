@@ -1,41 +1,33 @@
 //! A game as numbers, and a table of the gaps in which they are answers.
 
 ghost use Rattle.std.specs.Prelude.{◌≡◌, ℕ, ◌<◌, ◌≤◌, drop, length, slice_index, MatchOption};
-ghost use Rattle.std.specs.Prelude.{◌↔◌, IfOk, IsTrue, true, false};
+ghost use Rattle.std.specs.Prelude.{IfOk};
 ghost use Rattle.board_text.specs.PlainBoard.{IsBoard};
 ghost use Rattle.positions.specs.Ranks.{configurations};
 ghost use Rattle.graphs.specs.Answers.{AreAnswerBits, AreMembers};
 ghost use Rattle.graphs.specs.Graph.{IsGraph};
-ghost use Rattle.graphs.specs.Numbered.{numbered, graph_of, Ordered, Classes};
+ghost use Rattle.graphs.specs.Numbered.{numbered, graph_of};
 ghost use Rattle.graphs.specs.Stuck.{AreStuckZeroed};
 
-use crate::listed_classes::ListedClasses;
-use crate::ordered_numbers::OrderedNumbers;
+use crate::by_ranks::ByRanks;
+use crate::numbering::Numbering;
 use board_text::{Board, MAX_LABELS, Memory};
-use positions::{LabelSet, MAX_CONFIGURATIONS, Space};
+use positions::{LabelSet, MAX_CONFIGURATIONS};
 use std::alloc::Global;
 use std::marker::Model;
 
 /// The most places that a pebble can have: those of the labels, and one without a label.
 pub const MAX_PLACES: usize = MAX_LABELS + 1;
 
-/// The numbers of a board's configurations and of their gaps, by which the members and the answers
-/// of a gap are found.
-#[derive(Drop)]
-enum Numbers {
-    Ranks(OrderedNumbers),
-    Classes(ListedClasses),
-}
-
 /// A game as numbers: the members of each gap, which are found whenever they are asked for, and a
 /// table of the gap in which each configuration is an answer.
 ///
-/// Configurations and gaps are numbers from 0 on. A gap has one member for each place of its
-/// pebble. Contracts see the board, and whether a number stands for a configuration or for a class
-/// of them.
+/// Configurations and gaps are numbers from 0 on, of the type `N`. A gap has one member for each
+/// place of its pebble. Contracts see the board, and whether a number stands for a configuration or
+/// for a class of them.
 #[derive(Drop)]
-pub struct Graph {
-    numbers: Numbers,
+pub struct Graph<N: Numbering = ByRanks> {
+    numbers: N,
     configurations: u32,
     gaps: u32,
     places: u32,
@@ -43,73 +35,51 @@ pub struct Graph {
     struck: Vec<u32>,
 }
 
-impl Model for Graph {
+impl<N: Numbering> Model for Graph<N> {
     ghost use Rattle.graphs.specs.Numbered.{Numbered};
-    ghost use Rattle.graphs.specs.Inside.Tables.{AreTables, found_by};
+    ghost use Rattle.graphs.specs.Inside.Tables.{AreTables};
 
     ghost Value = { Numbered };
 
-    ghost view = { λ s. found_by s.numbers };
+    ghost view = { λ s. N.game s.numbers };
 
-    ghost invariant = { λ s. AreTables (found_by s.numbers) s.configurations s.gaps s.places
+    ghost invariant = { λ s. AreTables (N.game s.numbers) s.configurations s.gaps s.places
         s.struck.items };
 }
 
-#[tactic(auto, unfolding(crate::specs::Numbered::graph_by))]
-impl Graph {
-    /// The graph of the configurations of `board`, which has at most `MAX_CONFIGURATIONS` of them.
-    /// A configuration has its rank as its number, and a gap is a pebble with the places of the
-    /// others. The error is that memory ran out.
+impl<N: Numbering> Graph<N> {
+    /// The graph of `board`, which has at most `MAX_CONFIGURATIONS` configurations, by the numbers
+    /// `N`. The error is that memory ran out.
     ///
-    /// It takes time in the number of answers of all gaps.
-    pub fn of_ranks(alloc: Global, board: &Board) -> Result<Graph, Memory>
+    /// By ranks it takes time in the number of answers of all gaps, and by classes in the number of
+    /// classes.
+    pub fn of(alloc: Global, board: &Board) -> Result<Graph<N>, Memory>
         requires { configurations board.now ≤ MAX_CONFIGURATIONS }
-        ensures { IfOk result (λ graph. graph ≡ numbered board.now Ordered) }
+        ensures { IfOk result (λ graph. graph ≡ numbered board.now N.numbering) }
     {
-        let ranks = OrderedNumbers::of(alloc, board)?;
-        let struck = ranks.all_struck(alloc)?;
-        let space = ranks.space();
+        let numbers = N::of(alloc, board)?;
+        let struck = numbers.all_struck(alloc, board)?;
         Ok(Graph {
-            configurations: space.configurations(),
-            gaps: space.gaps(),
-            places: space.places() as u32,
+            configurations: numbers.configurations(),
+            gaps: numbers.gaps(),
+            places: numbers.places(),
             struck,
-            numbers: Numbers::Ranks(ranks),
+            numbers,
         })
     }
 
-    /// The graph of the classes of `board`, which has at most `MAX_CONFIGURATIONS` configurations.
-    /// A class is the places of all pebbles, and a gap those of all but one, whichever pebble holds
-    /// which. The error is that memory ran out.
-    ///
-    /// It takes time in the number of classes.
-    pub fn of_classes(alloc: Global, board: &Board) -> Result<Graph, Memory>
-        requires { configurations board.now ≤ MAX_CONFIGURATIONS }
-        ensures { IfOk result (λ graph. graph ≡ numbered board.now Classes) }
+    /// The numbers.
+    pub fn numbers(&self) -> &N
+        ensures { N.game result.now ≡ self.now }
     {
-        let classes = ListedClasses::of(alloc, board)?;
-        let struck = classes.all_struck(alloc, board)?;
-        Ok(Graph {
-            configurations: classes.class_count(),
-            gaps: classes.gap_count(),
-            places: classes.numbers().places() as u32,
-            struck,
-            numbers: Numbers::Classes(classes),
-        })
+        &self.numbers
     }
 
-    /// The space of the board. Numbers are ranks.
-    pub fn space(&self) -> &Space
-        requires { self.now.numbering ≡ Ordered }
-        ensures value { result.now ≡ self.now.board }
-        ensures is_board { IsBoard self.now.board }
-        ensures few { configurations self.now.board ≤ MAX_CONFIGURATIONS }
+    /// The numbers, without the table.
+    pub fn into_numbers(self) -> N
+        ensures { N.game result ≡ self }
     {
-        match &self.numbers {
-            Numbers::Ranks(ranks) => ranks.space(),
-            // A graph whose numbers are ranks has them from a space.
-            Numbers::Classes(_) => unreachable!(),
-        }
+        self.numbers
     }
 
     /// The number of configurations, each a number below it.
@@ -146,10 +116,7 @@ impl Graph {
         ensures below { result < (graph_of self.now).configurations }
         ensures graph { IsGraph (graph_of self.now) }
     {
-        match &self.numbers {
-            Numbers::Ranks(ranks) => ranks.member(gap, place),
-            Numbers::Classes(classes) => classes.member(gap, place),
-        }
+        self.numbers.member(gap, place)
     }
 
     /// Writes the members of `gap` by place, in ascending order. The entries after them keep what
@@ -164,28 +131,17 @@ impl Graph {
         ensures few { (graph_of self.now).places ≤ MAX_PLACES }
         ensures graph { IsGraph (graph_of self.now) }
     {
-        match &self.numbers {
-            Numbers::Ranks(ranks) => ranks.write_members(gap, members),
-            Numbers::Classes(classes) => classes.write_members(gap, members),
-        }
+        self.numbers.write_members(gap, members)
     }
 
-    /// Writes 0 as the word of each member of a gap with the count 0, if numbers are those of
-    /// classes, and returns whether they are. It takes time in the number of classes.
-    pub fn zero_families(&self, counts: &[u32], words: &mut [u32]) -> bool
+    /// Writes 0 as the word of each member of a gap with the count 0.
+    pub fn zero_stuck(&self, counts: &[u32], words: &mut [u32])
         requires counts { length counts.now ≡ (graph_of self.now).gaps }
         requires words { length words.old ≡ (graph_of self.now).configurations }
-        ensures zeroed { result ≡ true → AreStuckZeroed (graph_of self.now) counts.now
+        ensures { AreStuckZeroed (graph_of self.now) counts.now
             (graph_of self.now).configurations words.old words.new }
-        ensures kept { result ≡ false → words.new ≡ words.old }
     {
-        match &self.numbers {
-            Numbers::Ranks(_) => false,
-            Numbers::Classes(classes) => {
-                classes.zero_families(counts, words);
-                true
-            }
-        }
+        self.numbers.zero_stuck(counts, words)
     }
 
     /// The labels that are answers of `gap`.
@@ -193,10 +149,7 @@ impl Graph {
         requires { gap < (graph_of self.now).gaps }
         ensures { AreAnswerBits (graph_of self.now) gap result }
     {
-        match &self.numbers {
-            Numbers::Ranks(ranks) => ranks.answers(gap),
-            Numbers::Classes(classes) => classes.answers(gap),
-        }
+        self.numbers.answers(gap)
     }
 
     /// The gap in which `configuration` is an answer, if there is one.

@@ -15,6 +15,7 @@ use crate::seat::Seat;
 use crate::step::{Seen, Step, StepFault};
 use board_text::Memory;
 use gap_values::OPEN;
+use graphs::{ByRanks, Numbering};
 use index_lists::ListStore;
 use solver::{Solver, value_of};
 use std::alloc::Global;
@@ -28,9 +29,9 @@ use std::mem;
 /// Contracts see the words of the round and all its seats;
 /// whatever the steps were, these are lawful.
 #[derive(Drop)]
-pub struct RoundState<'a, S: ListStore> {
+pub struct RoundState<'a, S: ListStore, N: Numbering = ByRanks> {
     alloc: Global,
-    solver: &'a Solver<S>,
+    solver: &'a Solver<S, N>,
     width: u32,
     counts: Vec<u32>,
     /// The value of each configuration that has one, else `OPEN`.
@@ -38,7 +39,7 @@ pub struct RoundState<'a, S: ListStore> {
     seats: Vec<Seat>,
 }
 
-impl<'a, S: ListStore> Model for RoundState<'a, S> {
+impl<'a, S: ListStore, N: Numbering> Model for RoundState<'a, S, N> {
     ghost use Rattle.std.specs.Prelude.{map};
     ghost use Rattle.solver.specs.Solving.{IsSolving};
     ghost use Rattle.solver.specs.Words.{value_of_word};
@@ -54,13 +55,13 @@ impl<'a, S: ListStore> Model for RoundState<'a, S> {
         (map value_of_word s.words.items) s.seats.items) };
 }
 
-impl<'a, S: ListStore> RoundState<'a, S> {
+impl<'a, S: ListStore, N: Numbering> RoundState<'a, S, N> {
     /// Opens a round of the width `width` at the value of `solver`.
     pub fn open(
         alloc: Global,
-        solver: &'a Solver<S>,
+        solver: &'a Solver<S, N>,
         width: u32,
-    ) -> Result<RoundState<'a, S>, Memory>
+    ) -> Result<RoundState<'a, S, N>, Memory>
         requires going { solver.now.is_done ≡ false }
         requires some_width { 0 < width }
         ensures { IfOk result (λ round. IsOpening solver.now width round) }

@@ -8,6 +8,7 @@ ghost use Rattle.retro_core.specs.Round.{spent_seat, seat_struck, seat_tried, se
 ghost use Rattle.retro_core.specs.Round.{seat_joined};
 
 use board_text::Memory;
+use graphs::Numbering;
 use index_lists::ListStore;
 use solver::Solver;
 use std::alloc::Global;
@@ -80,9 +81,9 @@ impl Seat {
 
     /// Strikes the first configuration to strike,
     /// and owes the open members of `gap` if `count` is 1.
-    pub(crate) fn strike<S: ListStore>(
+    pub(crate) fn strike<S: ListStore, N: Numbering>(
         &mut self,
-        solver: &Solver<S>,
+        solver: &Solver<S, N>,
         gap: u32,
         count: u32,
     ) -> Result<(), Memory>
@@ -154,9 +155,9 @@ impl Seat {
 }
 
 /// Appends the open members of `gap` to `owed`.
-fn owe_members<S: ListStore>(
+fn owe_members<S: ListStore, N: Numbering>(
     owed: &mut Vec<u32>,
-    solver: &Solver<S>,
+    solver: &Solver<S, N>,
     gap: u32,
 ) -> Result<(), Memory>
     requires { gap < (graph_of solver.now.game).gaps }

@@ -7,6 +7,7 @@ ghost use Rattle.round_workers.specs.Work.{IsWorked};
 
 use crate::worker::work;
 use claim_round::{RoundSeat, SharedRound};
+use graphs::Numbering;
 use index_lists::ListStore;
 use solver::SolveFault;
 
@@ -32,7 +33,7 @@ pub trait Sharing {
         ensures fault { IfErr result (λ f. f ≢ SolveFault.TooLarge) };
 }
 
-impl<'a, S: ListStore> Sharing for SharedRound<'a, S> {
+impl<'a, S: ListStore, N: Numbering> Sharing for SharedRound<'a, S, N> {
     ghost id = { λ r. r };
 
     fn work(&self, seat: &mut RoundSeat) {

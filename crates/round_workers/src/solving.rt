@@ -13,6 +13,7 @@ use crate::tree::share;
 use board_text::Board;
 use claim_round::{Closed, SharedRound};
 use gap_values::GapValues;
+use graphs::{ByClasses, Numbering};
 use index_lists::{ListStore, PlainLists};
 use positions::MAX_CONFIGURATIONS;
 use solver::{Progress, SolveFault, Solver, Values};
@@ -43,10 +44,10 @@ struct Sharing {
 
 /// Works a round of `solver` to its end by `workers` workers,
 /// each in a thread of its own. Worker 0 is this thread.
-fn work_round<S: ListStore + Sync, G: Gate, R: Threads + Wait + Sync>(
+fn work_round<S: ListStore + Sync, N: Numbering + Sync, G: Gate, R: Threads + Wait + Sync>(
     rt: &R,
     alloc: Global,
-    solver: &Solver<S>,
+    solver: &Solver<S, N>,
     workers: u32,
     gate: &G,
 ) -> Result<Closed, SolveFault>
@@ -120,7 +121,7 @@ pub fn solve_classes<G: Gate, R: Threads + Wait + Sync>(
     ensures worker { result ≡ Err SolveFault.Worker → 1 < workers }
     ensures enough { result ≡ Err SolveFault.Worker → MIN_SHARED ≤ class_count board.now }
 {
-    let solver = Solver::<PlainLists>::of_classes(alloc, board)?;
+    let solver = Solver::<PlainLists, ByClasses>::of(alloc, board)?;
     let many = Sharing {
         least: least_shared(workers, solver.graph().configurations()),
         needed: MIN_SHARED,
@@ -145,14 +146,14 @@ fn least_shared(workers: u32, classes: u32) -> u32
 }
 
 /// The solver after all rounds that its board takes, of which `workers` workers share some.
-fn run_rounds<G: Gate, R: Threads + Wait + Sync>(
+fn run_rounds<N: Numbering + Sync, G: Gate, R: Threads + Wait + Sync>(
     rt: &R,
     alloc: Global,
-    solver: Solver<PlainLists>,
+    solver: Solver<PlainLists, N>,
     workers: u32,
     gate: &G,
     sharing: Sharing,
-) -> Result<Solver<PlainLists>, SolveFault>
+) -> Result<Solver<PlainLists, N>, SolveFault>
     requires kept { IsSolving solver }
     requires workers { (1 ≤ workers) × (workers ≤ MAX_WORKERS) }
     ensures game { IfOk result (λ ended. ended.game ≡ solver.game) }
@@ -171,10 +172,10 @@ fn run_rounds<G: Gate, R: Threads + Wait + Sync>(
 
 /// Files all configurations of the next value, or finds that none has it: by `workers` workers if
 /// so many were filed last that the round is shared, and else alone, which needs no memory.
-fn file_next<S: ListStore + Sync, G: Gate, R: Threads + Wait + Sync>(
+fn file_next<S: ListStore + Sync, N: Numbering + Sync, G: Gate, R: Threads + Wait + Sync>(
     rt: &R,
     alloc: Global,
-    solver: &mut Solver<S>,
+    solver: &mut Solver<S, N>,
     workers: u32,
     gate: &G,
     sharing: Sharing,

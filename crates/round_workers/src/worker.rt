@@ -4,10 +4,11 @@ ghost use Rattle.claim_round.specs.Shared.{IsOf};
 ghost use Rattle.round_workers.specs.Work.{IsWorked};
 
 use claim_round::{RoundSeat, SharedRound};
+use graphs::Numbering;
 use index_lists::ListStore;
 
 /// Strikes and claims until `seat` has nothing left to strike and owes nothing.
-pub fn work<S: ListStore>(round: &SharedRound<'_, S>, seat: &mut RoundSeat)
+pub fn work<S: ListStore, N: Numbering>(round: &SharedRound<'_, S, N>, seat: &mut RoundSeat)
     requires { IsOf round.now seat.old }
     ensures { IsWorked seat.old seat.new }
 {

@@ -9,6 +9,7 @@ ghost use Rattle.solver.specs.Solving.{IsFresh};
 use board_text::{Board, Memory};
 use console::NoWatch;
 use gap_values::{GapValues, OnThisThread, has_few_gaps};
+use graphs::ByClasses;
 use index_lists::{ListStore, PlainLists};
 use positions::{MAX_CONFIGURATIONS, Value, is_small};
 use solver::{SolveFault, Solver, Values};
@@ -24,16 +25,19 @@ pub fn solver_of<S: ListStore + Drop>(alloc: Global, board: &Board) -> Result<So
     }
 }
 
-/// The solver of a board that isn't too large, by classes. `Solver::of_classes` is asked once more
-/// if it was refused memory.
-pub fn class_solver_of<S: ListStore + Drop>(alloc: Global, board: &Board) -> Option<Solver<S>>
+/// The solver of a board that isn't too large, by classes. `Solver::of` is asked once more if it
+/// was refused memory.
+pub fn class_solver_of<S: ListStore + Drop>(
+    alloc: Global,
+    board: &Board,
+) -> Option<Solver<S, ByClasses>>
     ensures { IfSome result (λ solver. IsFresh (numbered board.now Classes) solver) }
 {
     if !is_small(board) {
         return None;
     }
-    match Solver::of_classes(alloc, board) {
-        Err(Memory) => Solver::of_classes(alloc, board).ok(),
+    match Solver::of(alloc, board) {
+        Err(Memory) => Solver::of(alloc, board).ok(),
         Ok(solver) => Some(solver),
     }
 }

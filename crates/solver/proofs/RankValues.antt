@@ -18,8 +18,7 @@ use Rattle.gap_values.specs.RoundWords.{round_of_word}
 use Rattle.gap_values.proofs.Cited.{round-finite, round-none}
 use Rattle.graphs.specs.Answers.{AreAnswerBits}
 use Rattle.graphs.specs.Graph.{count_below}
-use Rattle.graphs.specs.Numbered.{Numbered, numbered, graph_by, graph_of, configuration_by, Ordered}
-use Rattle.graphs.specs.Ordered.{ordered}
+use Rattle.graphs.specs.Numbered.{numbered, graph_by, graph_of, configuration_by, Ordered}
 use Rattle.graphs.proofs.Cited.{answer-in, answer-of, same_is, same_or_not, true_not_false}
 use Rattle.solver.specs.Inside.Tables.{is_open}
 use Rattle.solver.specs.Inside.Values.{AreWordCounts, AreSizes, AreRankValues}
@@ -201,25 +200,9 @@ module _ (board : PlainBoard) (words : List ℕ) (are : AreValueWords (numbered 
     unending = subst (HasCount board Forever) (sym forever_is) count-forever;
   }
 
--- what is kept, of a numbered board whose numbers are ranks
-ordered_is : (n : Numbered) → n.numbering ≡ Ordered → n ≡ numbered n.board Ordered
-ordered_is n ordered = λ i. record { board = n.board; numbering = ordered i }
-
-pub sized-of : (n : Numbered) (words : List ℕ) → n.numbering ≡ Ordered → AreValueWords n words
-    → (bound : ℕ) (sizes : List ℕ) (forever : ℕ)
-    → ((x : ℕ) → x < length words → slice_index words x ≢ OPEN → slice_index words x < bound)
-    → bound ≤ OPEN → length sizes ≡ bound
-    → AreWordCounts words (length words) sizes → forever ≡ count_below (length words) (is_open words)
-    → AreSizes n.board sizes forever
-sized-of n words ordered are =
-    sized n.board words (subst (λ (m : Numbered). AreValueWords m words) (ordered_is n ordered) are)
-
--- so many words fit 32 bits
-pub words-fit : (n : Numbered) (words : List ℕ) → n.numbering ≡ Ordered → AreValueWords n words
-    → configurations n.board ≤ MAX_CONFIGURATIONS → length words < 4294967296
-words-fit n words ordered are small =
-    let many = size n.board words (subst (λ (m : Numbered). AreValueWords m words) (ordered_is n ordered) are) in
-    omega (arith, many, small)
+  -- so many words fit 32 bits
+  pub words-fit : configurations board ≤ MAX_CONFIGURATIONS → length words < 4294967296
+  words-fit small = omega (arith, size, small)
 
 -- a word that is a value is below the bound of all such words
 pub open-inside : (words : List ℕ) (bound : ℕ)
@@ -228,37 +211,34 @@ pub open-inside : (words : List ℕ) (bound : ℕ)
 open-inside words bound inside x low shut =
     inside x low (λ none. true_not_false (is_open words x) (same_is (slice_index words x) OPEN none) shut)
 
-module _ (n : Numbered) (words sizes : List ℕ) (forever : ℕ) (are : AreRankValues n words sizes forever) where
-  ranked : AreValueWords (numbered n.board Ordered) words
-  ranked = subst (λ (m : Numbered). AreValueWords m words) (ordered_is n are.ordered) are.valued
+module _ (board : PlainBoard) (words sizes : List ℕ) (forever : ℕ) (are : AreRankValues board words sizes forever) where
+  pub rank-inside : (rank : ℕ) → rank < configurations board → rank < length words
+  rank-inside rank low = omega (arith, size board words are.valued, low)
 
-  pub rank-inside : (rank : ℕ) → rank < configurations n.board → rank < length words
-  rank-inside rank low = omega (arith, size n.board words ranked, low)
+  pub rank-value : (rank : ℕ) → rank < configurations board
+      → HasValue board (configuration_at board rank) (round_of_word (slice_index words rank))
+  rank-value rank low = value board words are.valued rank low
 
-  pub rank-value : (rank : ℕ) → rank < configurations n.board
-      → HasValue n.board (configuration_at n.board rank) (round_of_word (slice_index words rank))
-  rank-value rank low = value n.board words ranked rank low
-
-  pub rank-few : (rank : ℕ) → rank < configurations n.board → slice_index words rank ≤ OPEN
-  rank-few rank low = few n.board words ranked rank low
+  pub rank-few : (rank : ℕ) → rank < configurations board → slice_index words rank ≤ OPEN
+  rank-few rank low = few board words are.valued rank low
 
   -- the rank of a configuration has the configuration's word
-  pub held-value : (c : List ℕ) → IsConfiguration n.board c
-      → HasValue n.board c (round_of_word (slice_index words (rank_of n.board c)))
+  pub held-value : (c : List ℕ) → IsConfiguration board c
+      → HasValue board c (round_of_word (slice_index words (rank_of board c)))
   held-value c is =
-      subst (λ (d : List ℕ). HasValue n.board d (round_of_word (slice_index words (rank_of n.board c))))
-      (configuration_at-rank_of n.board c is) (rank-value (rank_of n.board c) (rank_below n.board c is))
+      subst (λ (d : List ℕ). HasValue board d (round_of_word (slice_index words (rank_of board c))))
+      (configuration_at-rank_of board c is) (rank-value (rank_of board c) (rank_below board c is))
 
   -- a configuration has the word of no value exactly if it lasts forever
-  pub held-forever : (c : List ℕ) → IsConfiguration n.board c
-      → (slice_index words (rank_of n.board c) ≡ OPEN) ↔ HasValue n.board c Forever
+  pub held-forever : (c : List ℕ) → IsConfiguration board c
+      → (slice_index words (rank_of board c) ≡ OPEN) ↔ HasValue board c Forever
   held-forever c is = (
-    λ none. subst (HasValue n.board c) (round-none (slice_index words (rank_of n.board c)) (omega (arith, none)))
+    λ none. subst (HasValue board c) (round-none (slice_index words (rank_of board c)) (omega (arith, none)))
         (held-value c is),
     λ has.
-        let word : ℕ = slice_index words (rank_of n.board c) in
-        let same = same_value n.board c (round_of_word word) Forever (held-value c is) has in
-        let most = rank-few (rank_of n.board c) (rank_below n.board c is) in
+        let word : ℕ = slice_index words (rank_of board c) in
+        let same = same_value board c (round_of_word word) Forever (held-value c is) has in
+        let most = rank-few (rank_of board c) (rank_below board c is) in
         elim (cases_eq word 4294967295) [
           | inl none ↦ omega (arith, none)
           | inr other ↦ absurd (none_of_forever word same (omega (arith, other, most)))
@@ -266,28 +246,28 @@ module _ (n : Numbered) (words sizes : List ℕ) (forever : ℕ) (are : AreRankV
   )
 
   -- no configuration has a value beyond the sizes, and one that a size counts has its value
-  pub count-beyond : (v : ℕ) → length sizes ≤ v → HasCount n.board (Finite v) 0
+  pub count-beyond : (v : ℕ) → length sizes ≤ v → HasCount board (Finite v) 0
   count-beyond v high =
       (size_zero _).1 (λ rank has. are.sized.beyond v high (
-        configuration_at n.board rank,
-        configuration_at_is n.board rank has.0,
+        configuration_at board rank,
+        configuration_at_is board rank has.0,
         has.1,
       ))
 
-  pub none-occurs : (v : ℕ) → v < length sizes → slice_index sizes v ≡ 0 → Occurs n.board v → ⊥
+  pub none-occurs : (v : ℕ) → v < length sizes → slice_index sizes v ≡ 0 → Occurs board v → ⊥
   none-occurs v low none occurs =
       let c : List ℕ = occurs.0 in
-      (size_zero _).0 (subst (HasCount n.board (Finite v)) none (are.sized.finite v low)) (rank_of n.board c) (
-        rank_below n.board c occurs.1,
-        subst (λ (d : List ℕ). HasValue n.board d (Finite v))
-            (sym (configuration_at-rank_of n.board c occurs.1)) occurs.2,
+      (size_zero _).0 (subst (HasCount board (Finite v)) none (are.sized.finite v low)) (rank_of board c) (
+        rank_below board c occurs.1,
+        subst (λ (d : List ℕ). HasValue board d (Finite v))
+            (sym (configuration_at-rank_of board c occurs.1)) occurs.2,
       )
 
-  pub some-occurs : (v : ℕ) → v < length sizes → 0 < slice_index sizes v → Occurs n.board v
+  pub some-occurs : (v : ℕ) → v < length sizes → 0 < slice_index sizes v → Occurs board v
   some-occurs v low some =
       let one = some-counted _ _ (are.sized.finite v low) some in (
-        configuration_at n.board one.0,
-        configuration_at_is n.board one.0 one.1.0,
+        configuration_at board one.0,
+        configuration_at_is board one.0 one.1.0,
         one.1.1,
       )
     where
@@ -298,21 +278,15 @@ module _ (n : Numbered) (words sizes : List ℕ) (forever : ℕ) (are : AreRankV
           found [] e = absurd (let many = has.so_many in let none = ap length e in omega arith)
           found (k ∷ rest) e = (k, (has.each k).0 (subst (λ (l : List ℕ). Contains l k) e (0, omega arith, refl)))
 
-ranked_bits : (board : PlainBoard) (gap : ℕ) (labels : List ℕ)
-    → AreAnswerBits (graph_of (numbered board Ordered)) gap labels → AreAnswerBits (ordered board) gap labels
-unfolding graph_by
-ranked_bits board gap labels bits = bits
-
 -- the bits of a gap's answers are its answers
-pub answer-set : (n : Numbered) (gap : ℕ) (labels : List ℕ) → n.numbering ≡ Ordered → IsBoard n.board
-    → gap < gaps n.board → AreAnswerBits (graph_of n) gap labels
-    → (label : ℕ) → IsInSet labels label ↔ IsAnswer n.board gap label
-answer-set n gap labels ordered_so is low bits label =
-    let are = ranked_bits n.board gap labels
-    (subst (λ (m : Numbered). AreAnswerBits (graph_of m) gap labels) (ordered_is n ordered_so) bits) in (
-      λ set. answer-of n.board is gap low label ((are.each label set.0).0 set.1),
-      λ answer.
-          let is_in = answer-in n.board is gap low label answer in
-          let small = are.few label is_in in
-          (small, (are.each label small).1 is_in),
-    )
+pub answer-set : (board : PlainBoard) (gap : ℕ) (labels : List ℕ) → IsBoard board
+    → gap < gaps board → AreAnswerBits (graph_of (numbered board Ordered)) gap labels
+    → (label : ℕ) → IsInSet labels label ↔ IsAnswer board gap label
+unfolding graph_by
+answer-set board gap labels is low are label = (
+  λ set. answer-of board is gap low label ((are.each label set.0).0 set.1),
+  λ answer.
+      let is_in = answer-in board is gap low label answer in
+      let small = are.few label is_in in
+      (small, (are.each label small).1 is_in),
+)

@@ -8,6 +8,7 @@ ghost use Rattle.solver.specs.Inside.Stage.{IsStriking, IsUnstruck};
 
 use crate::end::RoundEnd;
 use crate::stage::Stage;
+use graphs::Numbering;
 use index_lists::ListStore;
 
 /// A way to find the configurations of the next value: by strikes, or by the end of a round of
@@ -20,7 +21,7 @@ pub(crate) trait NextValue {
     ghost files: { Self → List ℕ → Type 0 };
 
     /// Files the configurations of the next value: all is struck then.
-    fn file<S: ListStore>(&self, stage: &mut Stage<S>)
+    fn file<S: ListStore, N: Numbering>(&self, stage: &mut Stage<S, N>)
         requires round { 0 < stage.old.value }
         requires striking { IsStriking stage.old (due_strikes stage.old) }
         requires unstruck { IsUnstruck stage.old }
@@ -38,7 +39,7 @@ impl NextValue for ByStrikes {
 
     ghost files = { λ _ _. Unit {0} };
 
-    fn file<S: ListStore>(&self, stage: &mut Stage<S>) {
+    fn file<S: ListStore, N: Numbering>(&self, stage: &mut Stage<S, N>) {
         stage.strike_all();
     }
 }
@@ -53,7 +54,7 @@ impl<'a, E: RoundEnd> NextValue for FromEnd<'a, E> {
 
     ghost files = { λ from filed. filed ≡ E.won_list from.0.now };
 
-    fn file<S: ListStore>(&self, stage: &mut Stage<S>) {
+    fn file<S: ListStore, N: Numbering>(&self, stage: &mut Stage<S, N>) {
         stage.file_end(self.0);
     }
 }

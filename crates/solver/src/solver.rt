@@ -10,7 +10,7 @@ ghost use Rattle.positions.specs.declared.value.Value.TheVariants.{Finite};
 ghost use Rattle.positions.specs.Value.{HasValue};
 ghost use Rattle.positions.specs.Ranks.{configurations};
 ghost use Rattle.positions.specs.Gaps.{IsDominator};
-ghost use Rattle.graphs.specs.Numbered.{numbered, graph_of, configuration_of, Ordered, Classes};
+ghost use Rattle.graphs.specs.Numbered.{numbered, graph_of, configuration_of, Ordered};
 ghost use Rattle.positions.specs.Counts.{HasSize, IsSmallest};
 ghost use Rattle.solver.specs.Words.{value_of_word, AreFirstCounts, AreFirstValues, AreValueWords};
 ghost use Rattle.solver.specs.Ending.{IsRoundEnd};
@@ -26,24 +26,24 @@ use crate::stage::Stage;
 use crate::values::Values;
 use crate::word::value_of;
 use board_text::{Board, Memory};
-use graphs::Graph;
+use graphs::{ByRanks, Graph, Numbering};
 use index_lists::ListStore;
 use positions::{MAX_CONFIGURATIONS, Space, is_small};
 use std::alloc::Global;
 use std::marker::Model;
 
-/// A board whose values are found round by round.
+/// A board whose values are found round by round, by the numbers `N` of its configurations.
 ///
 /// It holds no board: contracts see it as the board that it was opened for and what the numbers of
 /// its configurations stand for, with the configurations that are filed and those that aren't. No
-/// call but `open`, `of_classes` and `to_strike` takes memory.
+/// call but `open`, `of` and `to_strike` takes memory.
 #[derive(Drop)]
-pub struct Solver<S: ListStore> {
-    stage: Stage<S>,
+pub struct Solver<S: ListStore, N: Numbering = ByRanks> {
+    stage: Stage<S, N>,
     done: bool,
 }
 
-impl<S: ListStore> Model for Solver<S> {
+impl<S: ListStore, N: Numbering> Model for Solver<S, N> {
     ghost use Rattle.std.specs.Prelude.{◌-◌};
     ghost use Rattle.solver.specs.Solving.{Solving};
     ghost use Rattle.solver.specs.Inside.Stage.{IsState, as_solving};
@@ -67,31 +67,49 @@ impl<S: ListStore + Drop> Solver<S> {
         if !is_small(board) {
             return Err(SolveFault::TooLarge);
         }
-        let graph = Graph::of_ranks(alloc, board)?;
-        Ok(Solver::start(alloc, graph)?)
+        Ok(Solver::<S>::of(alloc, board)?)
     }
+}
 
-    /// A solver of `board`, which has at most `MAX_CONFIGURATIONS` configurations. Its numbers are
-    /// those of classes of configurations, whichever pebble holds which label. It has filed the
-    /// classes of value 0, in ascending order.
-    pub fn of_classes(alloc: Global, board: &Board) -> Result<Solver<S>, Memory>
+impl<S: ListStore + Drop, N: Numbering> Solver<S, N> {
+    /// A solver of `board`, which has at most `MAX_CONFIGURATIONS` configurations, by the numbers
+    /// `N`. It has filed the configurations of value 0, in ascending order.
+    pub fn of(alloc: Global, board: &Board) -> Result<Solver<S, N>, Memory>
         requires few { configurations board.now ≤ MAX_CONFIGURATIONS }
-        ensures { IfOk result (λ solver. IsFresh (numbered board.now Classes) solver) }
+        ensures { IfOk result (λ solver. IsFresh (numbered board.now N.numbering) solver) }
     {
-        Solver::start(alloc, Graph::of_classes(alloc, board)?)
-    }
-
-    /// A solver of the board of `graph`, by its numbers.
-    fn start(alloc: Global, graph: Graph) -> Result<Solver<S>, Memory>
-        ensures { IfOk result (λ solver. IsFresh graph solver) }
-    {
-        let mut stage = Stage::<S>::open(alloc, graph)?;
+        let graph = Graph::<N>::of(alloc, board)?;
+        let mut stage = Stage::<S, N>::open(alloc, graph)?;
         stage.begin_next_value();
         Ok(Solver { stage, done: false })
     }
 }
 
 impl<S: ListStore> Solver<S> {
+    /// The space of the board.
+    pub fn space(&self) -> &Space
+        ensures value { result.now ≡ self.now.game.board }
+        ensures ordered { self.now.game.numbering ≡ Ordered }
+    {
+        self.stage.graph().numbers().space()
+    }
+
+    /// The smallest pebble that dominates all others at the configuration of `rank`, if one does. A
+    /// lone pebble does if it holds a label.
+    pub fn dominator(&self, rank: u32) -> Option<u8>
+        requires { rank < (graph_of self.now.game).configurations }
+        ensures { IsSmallest (IsDominator self.now.game.board
+            (configuration_of self.now.game rank)) result }
+    {
+        let space = self.space();
+        match self.stage.graph().answered_gap(rank) {
+            Some(gap) => Some(space.gap_pebble(gap)),
+            None => None,
+        }
+    }
+}
+
+impl<S: ListStore, N: Numbering> Solver<S, N> {
     /// Files all configurations of the next value, or finds that none has it.
     pub fn round(&mut self) -> Progress
         ensures game { self.new.game ≡ self.old.game }
@@ -125,8 +143,8 @@ impl<S: ListStore> Solver<S> {
     }
 
     /// Files all configurations of the next value in the way `by`, or finds that none has it.
-    fn file_next<N: NextValue>(&mut self, by: &N) -> Progress
-        requires { self.old.is_done ≡ false → N.serves by.now self.old }
+    fn file_next<B: NextValue>(&mut self, by: &B) -> Progress
+        requires { self.old.is_done ≡ false → B.serves by.now self.old }
         ensures game { self.new.game ≡ self.old.game }
         ensures after_done { self.old.is_done ≡ true
             → (result ≡ Progress.Done) × (self.new ≡ self.old) }
@@ -135,7 +153,7 @@ impl<S: ListStore> Solver<S> {
         ensures filed_before { (value : ℕ) → value ≤ self.old.rounds
             → bucket self.new value ≡ bucket self.old value }
         ensures order { (n : ℕ) → result ≡ Progress.Filed n
-            → N.files by.now (bucket self.new (suc self.old.rounds)) }
+            → B.files by.now (bucket self.new (suc self.old.rounds)) }
         ensures kept { IsSolving self.new }
     {
         if self.done {
@@ -168,32 +186,10 @@ impl<S: ListStore> Solver<S> {
     }
 
     /// The graph of the numbers of the board's configurations and gaps.
-    pub fn graph(&self) -> &Graph
+    pub fn graph(&self) -> &Graph<N>
         ensures { result.now ≡ self.now.game }
     {
         self.stage.graph()
-    }
-
-    /// The space of the board. The numbers of the solver are ranks.
-    pub fn space(&self) -> &Space
-        requires ordered { self.now.game.numbering ≡ Ordered }
-        ensures { result.now ≡ self.now.game.board }
-    {
-        self.stage.graph().space()
-    }
-
-    /// The smallest pebble that dominates all others at the configuration of `rank`, if one does. A
-    /// lone pebble does if it holds a label. The numbers of the solver are ranks.
-    pub fn dominator(&self, rank: u32) -> Option<u8>
-        requires ordered { self.now.game.numbering ≡ Ordered }
-        requires rank { rank < (graph_of self.now.game).configurations }
-        ensures { IsSmallest (IsDominator self.now.game.board
-            (configuration_of self.now.game rank)) result }
-    {
-        match self.stage.graph().answered_gap(rank) {
-            Some(gap) => Some(self.space().gap_pebble(gap)),
-            None => None,
-        }
     }
 
     /// The value of the configuration with the number `rank`,
@@ -277,7 +273,7 @@ impl<S: ListStore> Solver<S> {
 
     /// The members of `gap` that have no value of at most
     /// the number of rounds, one after the other.
-    pub fn sources(&self, gap: u32) -> SourceWalk<'_>
+    pub fn sources(&self, gap: u32) -> SourceWalk<'_, N>
         requires { gap < (graph_of self.now.game).gaps }
         ensures { result ≡ source self.now gap }
     {
@@ -315,16 +311,14 @@ impl<S: ListStore> Solver<S> {
 
 /// A solver that isn't done.
 #[derive(Drop)]
-pub struct Unfinished<S: ListStore> {
+pub struct Unfinished<S: ListStore, N: Numbering = ByRanks> {
     /// The solver, as it was.
-    pub solver: Solver<S>,
+    pub solver: Solver<S, N>,
 }
 
 impl<S: ListStore + Drop> Solver<S> {
-    /// The values of the board, once a round has found that no configuration has the next one. The
-    /// numbers of the solver are ranks.
+    /// The values of the board, once a round has found that no configuration has the next one.
     pub fn finish(self) -> Result<Values, Unfinished<S>>
-        requires ordered { self.game.numbering ≡ Ordered }
         ensures values { IfOk result (λ values. (self.is_done ≡ true)
             × (values ≡ self.game.board)) }
         ensures unfinished { IfErr result
@@ -336,9 +330,28 @@ impl<S: ListStore + Drop> Solver<S> {
         Ok(self.close())
     }
 
+    /// The values of a solver that is done.
+    fn close(self) -> Values
+        requires { self.is_done ≡ true }
+        ensures { result ≡ self.game.board }
+    {
+        let Solver { stage, .. } = self;
+        let (graph, value, words, room) = stage.into_parts();
+        Values::new(graph.into_numbers(), words, value, room)
+    }
+
+    /// The values of the board, after all rounds that it takes.
+    pub fn solve(self) -> Values
+        ensures { result ≡ self.game.board }
+    {
+        self.after_all_rounds().close()
+    }
+}
+
+impl<S: ListStore + Drop, N: Numbering> Solver<S, N> {
     /// The words of the values of the board by the solver's numbers, once a round has found that no
     /// configuration has the next one: for each number the value, or `OPEN` for Forever.
-    pub fn finish_words(self) -> Result<Vec<u32>, Unfinished<S>>
+    pub fn finish_words(self) -> Result<Vec<u32>, Unfinished<S, N>>
         ensures values { IfOk result (λ words. (self.is_done ≡ true)
             × AreValueWords self.game words.items) }
         ensures unfinished { IfErr result (λ unfinished.
@@ -352,28 +365,8 @@ impl<S: ListStore + Drop> Solver<S> {
         Ok(words)
     }
 
-    /// The values of a solver that is done. The numbers of the solver are ranks.
-    fn close(self) -> Values
-        requires done { self.is_done ≡ true }
-        requires ordered { self.game.numbering ≡ Ordered }
-        ensures { result ≡ self.game.board }
-    {
-        let Solver { stage, .. } = self;
-        let (graph, value, words, room) = stage.into_parts();
-        Values::new(graph, words, value, room)
-    }
-
-    /// The values of the board, after all rounds that it takes.
-    /// The numbers of the solver are ranks.
-    pub fn solve(self) -> Values
-        requires ordered { self.game.numbering ≡ Ordered }
-        ensures { result ≡ self.game.board }
-    {
-        self.after_all_rounds().close()
-    }
-
     /// The solver after all rounds that the board takes.
-    fn after_all_rounds(self) -> Solver<S>
+    fn after_all_rounds(self) -> Solver<S, N>
         ensures game { result.game ≡ self.game }
         ensures done { result.is_done ≡ true }
     {

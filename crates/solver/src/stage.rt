@@ -14,15 +14,15 @@ mod opening;
 mod reading;
 
 use gap_values::OPEN;
-use graphs::{Graph, MAX_PLACES};
+use graphs::{Graph, MAX_PLACES, Numbering};
 use index_lists::ListStore;
 use std::marker::Model;
 
 /// A word for each configuration and each gap, and the configurations that are filed at each value,
 /// while configurations are filed at one value after the other.
 #[derive(Drop)]
-pub(crate) struct Stage<S: ListStore> {
-    graph: Graph,
+pub(crate) struct Stage<S: ListStore, N: Numbering> {
+    graph: Graph<N>,
     /// The value that configurations are filed at now.
     value: u32,
     /// The value of each configuration that has one, else `OPEN`.
@@ -36,7 +36,7 @@ pub(crate) struct Stage<S: ListStore> {
     strikes: Vec<u32>,
 }
 
-impl<S: ListStore> Model for Stage<S> {
+impl<S: ListStore, N: Numbering> Model for Stage<S, N> {
     ghost use Rattle.std.specs.Prelude.{◌≡◌, ◌≤◌, vec_capacity};
     ghost use Rattle.graphs.specs.Numbered.{graph_of};
     ghost use Rattle.solver.specs.Inside.Stage.{PlainStage, stage_of, IsSmall, AreWide, AreStored};
@@ -52,7 +52,7 @@ impl<S: ListStore> Model for Stage<S> {
         × ((graph_of s.graph).configurations ≤ vec_capacity s.strikes) };
 }
 
-impl<S: ListStore> Stage<S> {
+impl<S: ListStore, N: Numbering> Stage<S, N> {
     /// Appends `rank`, which is in no list, to the list of the value.
     fn list(&mut self, rank: u32)
         requires rank_in { rank < (graph_of self.old.game).configurations }

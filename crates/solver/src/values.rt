@@ -3,7 +3,7 @@
 ghost use Rattle.std.specs.Prelude.{◌≡◌, ◌≢◌, ◌↔◌, ◌<◌, ◌≤◌, ℕ, IsTrue, length, slice_index};
 ghost use Rattle.std.specs.Prelude.{vec_capacity};
 ghost use Rattle.board_text.specs.PlainBoard.{IsBoard, places};
-ghost use Rattle.graphs.specs.Numbered.{Ordered};
+ghost use Rattle.graphs.specs.Numbered.{Ordered, numbered};
 ghost use Rattle.positions.specs.Counts.{IsSmallest};
 ghost use Rattle.positions.specs.Gaps.{gaps, member_of, IsAnswer};
 ghost use Rattle.positions.specs.Laws.{Occurs};
@@ -20,7 +20,7 @@ use crate::sizes::{count_words, zeros};
 use board_text::Board;
 use classes::Places;
 use gap_values::{OPEN, ValueTable, value_with};
-use graphs::Graph;
+use graphs::{ByRanks, Numbering};
 use positions::{LabelSet, Space, Value};
 use std::marker::Model;
 
@@ -29,7 +29,7 @@ use std::marker::Model;
 /// It holds no board: contracts see it as the board.
 #[derive(Drop)]
 pub struct Values {
-    graph: Graph,
+    numbers: ByRanks,
     /// The value of the configuration of each rank, or `OPEN` for Forever.
     words: Vec<u32>,
     /// How many configurations have each finite value. None has one beyond these.
@@ -44,28 +44,27 @@ impl Model for Values {
 
     ghost Value = { PlainBoard };
 
-    ghost view = { λ s. s.graph.board };
+    ghost view = { λ s. s.numbers };
 
-    ghost invariant = { λ s. AreRankValues s.graph s.words.items s.sizes.items s.forever };
+    ghost invariant = { λ s. AreRankValues s.numbers s.words.items s.sizes.items s.forever };
 }
 
 impl Values {
-    /// The values of the board of `graph`, whose numbers are ranks, in `words`: each below `bound`,
-    /// or `OPEN` for Forever. There is `room` for as many numbers.
-    pub(crate) fn new(graph: Graph, words: Vec<u32>, bound: u32, room: Vec<u32>) -> Values
-        requires is_board { IsBoard graph.board }
-        requires few { configurations graph.board ≤ MAX_CONFIGURATIONS }
-        requires ordered { graph.numbering ≡ Ordered }
-        requires words { AreValueWords graph words.items }
+    /// The values of the board of `numbers`, in `words`: each below `bound`, or `OPEN` for Forever.
+    /// There is `room` for as many numbers.
+    pub(crate) fn new(numbers: ByRanks, words: Vec<u32>, bound: u32, room: Vec<u32>) -> Values
+        requires is_board { IsBoard numbers }
+        requires few { configurations numbers ≤ MAX_CONFIGURATIONS }
+        requires words { AreValueWords (numbered numbers Ordered) words.items }
         requires inside { (x : ℕ) → x < length words.items → slice_index words.items x ≢ OPEN
             → slice_index words.items x < bound }
         requires room { bound ≤ vec_capacity room }
-        ensures { result ≡ graph.board }
+        ensures { result ≡ numbers }
     {
         let mut sizes = zeros(room, bound);
         let forever = count_words(&mut sizes, &words);
         Values {
-            graph,
+            numbers,
             words,
             sizes,
             forever,
@@ -132,7 +131,7 @@ impl Values {
         ensures answers { (label : ℕ) → IsInSet result label ↔ IsAnswer self.now gap label }
         ensures is_board { IsBoard self.now }
     {
-        self.graph.answers(gap)
+        self.numbers.answers(gap)
     }
 
     /// Whether a labeller lasts forever at the member of `gap` with `place`.
@@ -150,7 +149,7 @@ impl Values {
         ensures is_board { IsBoard self.now }
         ensures few { configurations self.now ≤ MAX_CONFIGURATIONS }
     {
-        self.graph.space()
+        self.numbers.space()
     }
 }
 
@@ -162,10 +161,10 @@ impl ValueTable for Values {
     }
 
     fn word_after(&self, _board: &Board, gap: &[u16], label: u16) -> u32 {
-        let Values { graph, words, .. } = self;
+        let Values { numbers, words, .. } = self;
         let mut class = Places::arranged(gap);
         class.arrange(label);
-        words[graph.space().rank(class.as_slice()) as usize]
+        words[numbers.space().rank(class.as_slice()) as usize]
     }
 
     /// Nothing is known of the results of a gap before each is looked up.

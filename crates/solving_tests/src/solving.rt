@@ -4,7 +4,6 @@
 //! made once more.
 
 ghost use Rattle.std.specs.Prelude.{◌≡◌, IfSome};
-ghost use Rattle.graphs.specs.Numbered.{numbered, Ordered, Classes};
 
 use crate::assertions::{assert_same, board_of};
 use board_text::Board;
@@ -13,6 +12,7 @@ use fakes::boards::{
     PAIR_WITHOUT_LABELS, SHARED_LABEL, THREE_CYCLE, THREE_PEBBLES,
 };
 use fakes::value_at;
+use graphs::{ByClasses, Numbering};
 use index_lists::{LinkLists, ListStore, PlainLists};
 use positions::{Space, Value};
 use solved_boards::{class_solver_of, solver_of, value};
@@ -21,9 +21,11 @@ use std::alloc::Global;
 use std::process::Abort;
 
 /// The solver of a board.
-pub(crate) fn open<S: ListStore + Drop>(rt: &impl Abort, alloc: Global, board: &Board) -> Solver<S>
-    ensures { result.game.numbering ≡ Ordered }
-{
+pub(crate) fn open<S: ListStore + Drop>(
+    rt: &impl Abort,
+    alloc: Global,
+    board: &Board,
+) -> Solver<S> {
     solver_of(alloc, board).expect(rt, "a solver")
 }
 
@@ -32,9 +34,7 @@ pub(crate) fn open_classes<S: ListStore + Drop>(
     rt: &impl Abort,
     alloc: Global,
     board: &Board,
-) -> Solver<S>
-    ensures { result.game ≡ numbered board.now Classes }
-{
+) -> Solver<S, ByClasses> {
     class_solver_of(alloc, board).expect(rt, "a solver by classes")
 }
 
@@ -44,7 +44,7 @@ pub(crate) fn solve<S: ListStore + Drop>(rt: &impl Abort, alloc: Global, board: 
 }
 
 /// The value that a solver has for a number, if it is that of a configuration.
-fn known<S: ListStore>(solver: &Solver<S>, rank: u32) -> Option<u32> {
+fn known<S: ListStore, N: Numbering>(solver: &Solver<S, N>, rank: u32) -> Option<u32> {
     if rank < solver.graph().configurations() {
         solver.value_at(rank)
     } else {
@@ -75,7 +75,11 @@ pub(crate) fn slow_value(board: &Board, space: &Space, rank: u32) -> Option<Valu
 }
 
 /// Asserts the values that a solver has for the numbers from 0 on.
-pub(crate) fn assert_known<S: ListStore>(rt: &impl Abort, solver: &Solver<S>, wanted: &[u32]) {
+pub(crate) fn assert_known<S: ListStore, N: Numbering>(
+    rt: &impl Abort,
+    solver: &Solver<S, N>,
+    wanted: &[u32],
+) {
     let mut number: u32 = 0;
     for value in wanted {
         assert_same(rt, number, known(solver, number), Some(*value));
@@ -114,10 +118,7 @@ fn chain_of_three(rt: HostRuntime) {
 }
 
 /// The solver that `finish` gives back if the rounds aren't done.
-fn given_back<S: ListStore + Drop>(solver: Solver<S>) -> Option<Solver<S>>
-    requires { solver.game.numbering ≡ Ordered }
-    ensures { IfSome result (λ again. again.game.numbering ≡ Ordered) }
-{
+fn given_back<S: ListStore + Drop>(solver: Solver<S>) -> Option<Solver<S>> {
     match solver.finish() {
         Ok(_) => None,
         Err(unfinished) => Some(unfinished.solver),

@@ -3,13 +3,13 @@
 //! A run of the tests may refuse one growth of memory, whichever.
 
 ghost use Rattle.std.specs.Prelude.{◌≡◌};
-ghost use Rattle.graphs.specs.Numbered.{Ordered};
 
 use crate::assertions::{assert_same, board_of};
 use crate::solving::{open, solve};
 use board_text::Board;
 use fakes::boards::{CHAIN_OF_THREE, CYCLE_WITH_A_WAY_IN, NO_PAIRS, THREE_PEBBLES};
 use fakes::make_nested;
+use graphs::{ByClasses, Numbering};
 use index_lists::{LinkLists, ListStore, PlainLists};
 use positions::{Value, is_small};
 use solver::{Progress, SolveFault, Solver, Values};
@@ -17,7 +17,7 @@ use std::alloc::Global;
 use std::process::Abort;
 
 /// The first configurations that are filed at a value.
-fn filed<S: ListStore>(solver: &Solver<S>, value: u32) -> [Option<u32>; 6] {
+fn filed<S: ListStore, N: Numbering>(solver: &Solver<S, N>, value: u32) -> [Option<u32>; 6] {
     let mut found = [None; 6];
     let mut at = solver.first_filed(value);
     for place in 0..6 {
@@ -68,9 +68,7 @@ fn count_of<S: ListStore>(solver: &Solver<S>, gap: u32) -> Option<u32> {
 }
 
 /// The dominator of a configuration, if it is one and has one.
-fn dominator<S: ListStore>(solver: &Solver<S>, rank: u32) -> Option<u8>
-    requires { solver.now.game.numbering ≡ Ordered }
-{
+fn dominator<S: ListStore>(solver: &Solver<S>, rank: u32) -> Option<u8> {
     if rank < solver.graph().configurations() {
         solver.dominator(rank)
     } else {
@@ -79,9 +77,9 @@ fn dominator<S: ListStore>(solver: &Solver<S>, rank: u32) -> Option<u8>
 }
 
 /// Asserts the first configurations that are filed at values.
-pub(crate) fn assert_filed<S: ListStore>(
+pub(crate) fn assert_filed<S: ListStore, N: Numbering>(
     rt: &impl Abort,
-    solver: &Solver<S>,
+    solver: &Solver<S, N>,
     wanted: &[(u32, [Option<u32>; 6])],
 ) {
     for (value, ranks) in wanted {
@@ -134,9 +132,7 @@ fn assert_counts_of_gaps<S: ListStore>(rt: &impl Abort, solver: &Solver<S>, want
 const STUCK: [Option<u32>; 6] = [Some(2), Some(5), Some(6), Some(7), Some(8), None];
 
 /// Asserts the lists of a chain of three labels before its first round.
-fn assert_lists_before<S: ListStore>(rt: &impl Abort, solver: &Solver<S>)
-    requires { solver.now.game.numbering ≡ Ordered }
-{
+fn assert_lists_before<S: ListStore>(rt: &impl Abort, solver: &Solver<S>) {
     assert_same(rt, ("dominator of", 5), dominator(solver, 5), Some(1));
     assert_same(rt, ("dominator of", 8), dominator(solver, 8), None);
     assert_filed(rt, solver, &[(0, STUCK), (1, [None; 6])]);
@@ -197,7 +193,7 @@ fn first_rounds_of_classes<S: ListStore + Drop>(
     if !is_small(board) {
         return Err(SolveFault::TooLarge);
     }
-    let mut solver: Solver<S> = Solver::of_classes(alloc, board)?;
+    let mut solver = Solver::<S, ByClasses>::of(alloc, board)?;
     Ok([solver.round(), solver.round(), solver.round()])
 }
 

@@ -8,7 +8,7 @@ use crate::solving::{assert_known, open_classes};
 use crate::solving_calls::assert_filed;
 use fakes::boards::CHAIN_OF_THREE;
 use index_lists::{LinkLists, ListStore, PlainLists};
-use solver::{Progress, Solver};
+use solver::Progress;
 use std::alloc::Global;
 use std::process::Abort;
 
@@ -19,7 +19,7 @@ const STUCK: [Option<u32>; 6] = [Some(3), Some(4), Some(5), None, None, None];
 /// A chain of three labels, round by round.
 fn chain<S: ListStore + Drop>(rt: &impl Abort, alloc: Global) {
     let board = board_of(rt, alloc, CHAIN_OF_THREE);
-    let mut solver: Solver<S> = open_classes(rt, alloc, &board);
+    let mut solver = open_classes::<S>(rt, alloc, &board);
     assert_same(rt, "classes", solver.graph().configurations(), 6);
     assert_filed(rt, &solver, &[(0, STUCK), (1, [None; 6])]);
     assert_same(rt, "value 1", solver.round(), Progress::Filed(2));

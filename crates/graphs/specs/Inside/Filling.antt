@@ -17,3 +17,10 @@ pub record AreStruck (a : PlainGraph) (gap : ℕ) (struck : List ℕ) : Type 0 w
   pub settled : (g v : ℕ) → g < gap → IsAnswerIn a g v → slice_index struck (a.member g v) ≡ g
   pub sound : (x : ℕ) → x < a.configurations
       → (slice_index struck x ≡ a.gaps) ⊎ (slice_index struck x ≡ a.struck x)
+
+-- the words of the gap's members at the first places are 0, and no other word is changed
+pub record IsGapZeroed (a : PlainGraph) (gap place : ℕ) (old new : List ℕ) : Type 0 where
+  pub same_length : length new ≡ length old
+  pub zeroed : (v : ℕ) → v < place → slice_index new (a.member gap v) ≡ 0
+  pub others : (x : ℕ) → (slice_index new x ≡ slice_index old x)
+      ⊎ ((slice_index new x ≡ 0) × ((v : ℕ) × (v < a.places) × (a.member gap v ≡ x)))

@@ -4,15 +4,8 @@ use Rattle.std.specs.Prelude.{slice_index}
 use Rattle.board_text.specs.PlainBoard.{IsBoard}
 use Rattle.positions.specs.Ranks.{configurations as board_configurations}
 use Rattle.positions.specs.declared.space.TheConstants.{MAX_CONFIGURATIONS}
-use Rattle.graphs.specs.declared.graph.Numbers.{Numbers}
-use Rattle.graphs.specs.declared.graph.Numbers.TheVariants.{Ranks, Classes as ByClasses}
 use Rattle.graphs.specs.Graph.{PlainGraph}
-use Rattle.graphs.specs.Numbered.{Numbered, Ordered, Classes, numbered, graph_of}
-
--- the board whose numbers are found, and what they stand for
-abbrev pub found_by : Numbers → Numbered
-found_by (Ranks board) = numbered board Ordered
-found_by (ByClasses board) = numbered board Classes
+use Rattle.graphs.specs.Numbered.{Numbered, graph_of}
 
 -- each configuration has the gap in which it is an answer, or the number of gaps
 pub record IsStruckTable (a : PlainGraph) (struck : List ℕ) : Type 0 where

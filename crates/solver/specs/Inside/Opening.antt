@@ -1,16 +1,9 @@
 -- Facts that hold while a machine is opened.
-use Rattle.std.specs.Prelude.{◌≡◌, ℕ, ◌+◌, ◌<◌, ◌⊎◌, true, List, [], length, AllPairs, slice_index}
-use Rattle.graphs.specs.Graph.{PlainGraph, is_member, lasts}
+use Rattle.std.specs.Prelude.{◌≡◌, ℕ, ◌+◌, ◌<◌, [], length, AllPairs}
+use Rattle.graphs.specs.Graph.{lasts}
 use Rattle.graphs.specs.Numbered.{graph_of}
 use Rattle.solver.specs.Inside.Stage.{PlainStage, filed_at, IsStage}
 use Rattle.solver.specs.Inside.Tables.{IsCounted, AreFirstWords}
-
--- the members of a gap at the first places have the word 0, and no other word is changed
-pub record AreZeroed (a : PlainGraph) (gap place : ℕ) (old new : List ℕ) : Type 0 where
-  pub same_length : length new ≡ length old
-  pub zeroed : (v : ℕ) → v < place → slice_index new (a.member gap v) ≡ 0
-  pub others : (x : ℕ) → (slice_index new x ≡ slice_index old x)
-      ⊎ ((slice_index new x ≡ 0) × (is_member a gap x ≡ true))
 
 -- each configuration has its first word, and none is filed
 pub record IsUnlisted (s : PlainStage) : Type 0 where

@@ -2,7 +2,7 @@
 use Rattle.std.specs.Prelude.{◌≡◌, ℕ, ◌<◌, ◌≤◌, ◌==◌, List, length, slice_index}
 use Rattle.board_text.specs.PlainBoard.{PlainBoard, IsBoard}
 use Rattle.graphs.specs.Graph.{count_below}
-use Rattle.graphs.specs.Numbered.{Numbered, Ordered}
+use Rattle.graphs.specs.Numbered.{Ordered, numbered}
 use Rattle.positions.specs.declared.value.Value.TheVariants.{Finite, Forever}
 use Rattle.positions.specs.Laws.{Occurs}
 use Rattle.solver.specs.Sizes.{HasCount}
@@ -25,9 +25,8 @@ pub record AreSizes (board : PlainBoard) (sizes : List ℕ) (forever : ℕ) : Ty
   pub beyond : (v : ℕ) → length sizes ≤ v → Occurs board v → ⊥
   pub unending : HasCount board Forever forever
 
--- numbers are ranks, each rank has its word, and each value its size
-pub record AreRankValues (n : Numbered) (words sizes : List ℕ) (forever : ℕ) : Type 0 where
-  pub is_board : IsBoard n.board
-  pub ordered : n.numbering ≡ Ordered
-  pub valued : AreValueWords n words
-  pub sized : AreSizes n.board sizes forever
+-- each rank has its word, and each value its size
+pub record AreRankValues (board : PlainBoard) (words sizes : List ℕ) (forever : ℕ) : Type 0 where
+  pub is_board : IsBoard board
+  pub valued : AreValueWords (numbered board Ordered) words
+  pub sized : AreSizes board sizes forever

@@ -11,9 +11,10 @@ ghost use Rattle.solver.specs.Inside.Stage.{TakesCounts};
 
 use crate::end::RoundEnd;
 use crate::stage::Stage;
+use graphs::Numbering;
 use index_lists::ListStore;
 
-impl<S: ListStore> Stage<S> {
+impl<S: ListStore, N: Numbering> Stage<S, N> {
     /// Files the configurations that the finished round `end` has won, in their order,
     /// and takes over its counts: all is struck then.
     pub(crate) fn file_end<E: RoundEnd>(&mut self, end: &E)

@@ -11,14 +11,14 @@ ghost use Rattle.solver.specs.Inside.Stage.{filed_at, due_strikes};
 use crate::source_walk::SourceWalk;
 use crate::stage::Stage;
 use board_text::Memory;
-use graphs::Graph;
+use graphs::{Graph, Numbering};
 use index_lists::ListStore;
 use std::alloc::Global;
 
-impl<S: ListStore + Drop> Stage<S> {
+impl<S: ListStore + Drop, N: Numbering> Stage<S, N> {
     /// The graph, the value that configurations are filed at, the words, and room for as many
     /// numbers as that value.
-    pub(crate) fn into_parts(self) -> (Graph, u32, Vec<u32>, Vec<u32>)
+    pub(crate) fn into_parts(self) -> (Graph<N>, u32, Vec<u32>, Vec<u32>)
         ensures graph { result.0 ≡ self.game }
         ensures value { result.1 ≡ self.value }
         ensures words { result.2.items ≡ self.values }
@@ -35,9 +35,9 @@ impl<S: ListStore + Drop> Stage<S> {
     }
 }
 
-impl<S: ListStore> Stage<S> {
+impl<S: ListStore, N: Numbering> Stage<S, N> {
     /// The graph.
-    pub(crate) fn graph(&self) -> &Graph
+    pub(crate) fn graph(&self) -> &Graph<N>
         ensures { result.now ≡ self.now.game }
     {
         &self.graph
@@ -141,7 +141,7 @@ impl<S: ListStore> Stage<S> {
     }
 
     /// A walk over the open members of `gap`.
-    pub(crate) fn sources(&self, gap: u32) -> SourceWalk<'_>
+    pub(crate) fn sources(&self, gap: u32) -> SourceWalk<'_, N>
         requires { gap < (graph_of self.now.game).gaps }
         ensures { result ≡ open_members (graph_of self.now.game) self.now.values gap }
     {

@@ -6,8 +6,8 @@ use Rattle.round_workers.proofs.ClassValues.{class-values, each-class}
 use Rattle.round_workers.specs.declared.solving.TheConstants.{MIN_SHARED}
 use Rattle.round_workers.proofs.solving.solve_classes.Goals as goal
 
-pub of_classes-requires-in-Ok : goal.of_classes-requires-in-Ok
-of_classes-requires-in-Ok g c =
+pub of_classes-requires : goal.of_classes-requires
+of_classes-requires g c =
     let board = c.args.board.now in
     let words = c.in-Ok.words.items in
     subst (AreClassValues board) (sym c.as_slice.ensures.value)

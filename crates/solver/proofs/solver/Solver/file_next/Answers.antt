@@ -107,4 +107,4 @@ pub returns-clause-order : goal.returns-clause-order
 returns-clause-order g c = λ n is.
     let at = (goal.at.returns-clause-order g c).Else-filed-eq0 in
     rw (c.begin_next_value.ensures, ← c.self.view_is)
-    (subst (λ v. g.N.NextValue.files c.args.by.now (filed_at c.file.new.stage v)) (to-value g at) c.file.ensures.order)
+    (subst (λ v. g.B.NextValue.files c.args.by.now (filed_at c.file.new.stage v)) (to-value g at) c.file.ensures.order)

@@ -3,5 +3,5 @@ use Rattle.solver.proofs.AnswerSizes.{live-all}
 use Rattle.solver.proofs.stage.opening.count_answers.Goals as goal
 
 pub returns : goal.returns
-returns c =
+returns g c =
     live-all (graph_of c.args.graph.now) c.args.gap c.answers.result c.len.result c.answers.ensures c.len.ensures

@@ -4,7 +4,7 @@ use Rattle.graphs.specs.Numbered.{graph_of}
 use Rattle.solver.proofs.stage.opening.first_counts.Given as goal
 
 abbrev pub invariant-loop-gap : goal.invariant-loop-gap
-invariant-loop-gap l = record {
+invariant-loop-gap g l = record {
   len : length l.counts.items ≡ l.gap;
   room : l.gaps ≤ vec_capacity l.counts;
   counted : (g : ℕ) → g < l.gap

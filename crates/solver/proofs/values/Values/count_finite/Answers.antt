@@ -17,5 +17,5 @@ returns c =
     let low : c.args.number < length c.self.inside.sizes.items = omega (arith, c.len.ensures, c.if-number-len.false) in
     let size = get_or_read c.self.inside.sizes.items c.args.number c.index.result.now low c.index.ensures 0 in
     subst (λ (b : PlainBoard). HasCount b (Finite c.args.number) c.index.result.now) c.self.view_is
-    (subst (HasCount c.self.inside.graph.board (Finite c.args.number)) (sym size)
+    (subst (HasCount c.self.inside.numbers (Finite c.args.number)) (sym size)
     (c.self.invariant.sized.finite c.args.number low))

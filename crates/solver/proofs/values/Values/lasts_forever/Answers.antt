@@ -11,10 +11,10 @@ use Rattle.solver.proofs.RankValues.{held-forever, rank-inside, told}
 use Rattle.solver.proofs.values.Values.lasts_forever.Goals as goal
 use Rattle.solver.proofs.values.Values.lasts_forever.Goals.{After-member}
 
-own : (c : After-member) → c.space.result.now ≡ c.self.inside.graph.board
+own : (c : After-member) → c.space.result.now ≡ c.self.inside.numbers
 own c = c.space.ensures.value ∙ sym c.self.view_is
 
-low : (c : After-member) → c.member.result < configurations c.self.inside.graph.board
+low : (c : After-member) → c.member.result < configurations c.self.inside.numbers
 low c = subst (λ (b : PlainBoard). c.member.result < configurations b) (own c) c.member.ensures.below
 
 pub member-requires-clause-gap : goal.member-requires-clause-gap
@@ -33,7 +33,7 @@ index-requires c =
 pub returns : goal.returns
 returns c =
     let at = (goal.at.returns c).After-member in
-    let board : PlainBoard = c.self.inside.graph.board in
+    let board : PlainBoard = c.self.inside.numbers in
     let held : List ℕ = member_of board c.args.gap c.args.place in
     let gap : c.args.gap < gaps board = rw (← c.self.view_is) at c.requires.gap in
     let place : c.args.place < places board = rw (← c.self.view_is) at c.requires.place in

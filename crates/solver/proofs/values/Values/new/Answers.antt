@@ -3,7 +3,7 @@ use Rattle.std.proofs.lemmas.List.{take_at}
 use Rattle.graphs.specs.Graph.{count_below}
 use Rattle.solver.specs.Inside.Tables.{is_open}
 use Rattle.solver.specs.Inside.Values.{AreSizes, AreWordCounts}
-use Rattle.solver.proofs.RankValues.{open-inside, sized-of, words-fit}
+use Rattle.solver.proofs.RankValues.{open-inside, sized, words-fit}
 use Rattle.solver.proofs.values.Values.new.Goals as goal
 
 pub count_words-forever-requires-clause-inside : goal.count_words-forever-requires-clause-inside
@@ -18,7 +18,7 @@ count_words-forever-requires-clause-inside c =
 
 pub count_words-forever-requires-clause-few : goal.count_words-forever-requires-clause-few
 count_words-forever-requires-clause-few c =
-    let fit = words-fit c.args.graph c.args.words.items c.requires.ordered c.requires.words c.requires.few in
+    let fit = words-fit c.args.numbers c.args.words.items c.requires.words c.requires.few in
     omega (arith, fit, ap length c.deref.ensures.value)
 
 pub invariant_of-result : goal.invariant_of-result
@@ -36,9 +36,8 @@ invariant_of-result c =
     (e.size ∙ c.deref_mut.ensures.len) in
     record {
       is_board = c.requires.is_board;
-      ordered = c.requires.ordered;
       valued = c.requires.words;
-      sized = subst (λ (l : List ℕ). AreSizes c.args.graph.board l c.count_words-forever.result) (sym items)
-          (sized-of c.args.graph words c.requires.ordered c.requires.words c.args.bound sums _ c.requires.inside
+      sized = subst (λ (l : List ℕ). AreSizes c.args.numbers l c.count_words-forever.result) (sym items)
+          (sized c.args.numbers words c.requires.words c.args.bound sums _ c.requires.inside
           (omega arith) wide counts forever);
     }

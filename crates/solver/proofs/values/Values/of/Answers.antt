@@ -9,15 +9,15 @@ use Rattle.solver.proofs.values.Values.of.Goals as goal
 
 pub index-requires : goal.index-requires
 index-requires c =
-    let low : c.args.rank < configurations c.self.inside.graph.board = rw (← c.self.view_is) at c.requires in
+    let low : c.args.rank < configurations c.self.inside.numbers = rw (← c.self.view_is) at c.requires in
     omega (arith, rank-inside _ _ _ _ c.self.invariant c.args.rank low, c.self.inside.words.ok.0)
 
 pub returns : goal.returns
 returns c =
-    let low : c.args.rank < configurations c.self.inside.graph.board = rw (← c.self.view_is) at c.requires in
+    let low : c.args.rank < configurations c.self.inside.numbers = rw (← c.self.view_is) at c.requires in
     let inside = rank-inside _ _ _ _ c.self.invariant c.args.rank low in
     let read = get_or_read c.self.inside.words.items c.args.rank c.index.result.now inside c.index.ensures 0 in
     subst (λ (b : PlainBoard). HasValue b (configuration_at b c.args.rank) c.value_with.result) c.self.view_is
-    (subst (HasValue c.self.inside.graph.board (configuration_at c.self.inside.graph.board c.args.rank))
+    (subst (HasValue c.self.inside.numbers (configuration_at c.self.inside.numbers c.args.rank))
     (ap round_of_word (sym read) ∙ sym c.value_with.ensures)
     (rank-value _ _ _ _ c.self.invariant c.args.rank low))

@@ -25,7 +25,7 @@ arrange-requires-clause-room c =
 
 module _ (c : After-as_slice) where
   abbrev b : PlainBoard
-  b = c.self.inside.graph.board
+  b = c.self.inside.numbers
 
   same : b ≡ c.args._board.now
   same = c.self.view_is ∙ c.requires.board
