@@ -39,7 +39,8 @@ module _ (b : PlainBoard) (sets : List (List ℕ)) (round : ℕ) (low : round < 
       many = is.tell.many;
       each = λ list list_is label label_low.
           let both = is.tell.each list list_is label label_low in
-          let more = round-append round 0 (length part) part back (omega arith) (number_by_greatest (member_with list label)) in (
+          let gap : ℕ = number_by_greatest (member_with list label) in
+          let more = round-append round 0 (length part) part back (omega arith) gap in (
             λ has. more.0 (inl (both.0 has)),
             λ of_round. elim (more.1 of_round) [
               | inl early ↦ both.1 early

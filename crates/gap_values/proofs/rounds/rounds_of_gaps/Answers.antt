@@ -141,7 +141,8 @@ close_open-some-requires g c =
 -- the tables that were told of the round
 told-is : (g : Over) (c : After-close_open-some g)
     → take c.loop-round.tables.len
-    (c.close_open-some.new.told ++ drop (length c.close_open-some.new.told) c.loop-round.tables.items) ≡ c.close_open-some.new.told
+    (c.close_open-some.new.told ++ drop (length c.close_open-some.new.told) c.loop-round.tables.items)
+    ≡ c.close_open-some.new.told
 told-is g c = take_at c.close_open-some.new.told (drop (length c.close_open-some.new.told) c.loop-round.tables.items)
     c.loop-round.tables.len (c.close_open-some.auto.told ∙ c.deref_mut-in-loop-round.ensures.len)
 
@@ -200,7 +201,8 @@ is-added g c told from added told_taken from_is size are =
     let told_all : told ≡ c.close_open-some.new.told = told_taken ∙ told-is g c in
     record {
       told = round-told b c.pebbles.ensures.is_board (some g c) c.loop-round.round (old g c) (new g c)
-          c.loop-round.closed.items (low g c) c.loop-round.invariant.at (passed g c) tables c.close_open-some.new.told added
+          c.loop-round.closed.items (low g c) c.loop-round.invariant.at (passed g c) tables
+          c.close_open-some.new.told added
           (subst (λ (l : List ℕ). AreTablesOf b tables (IsOfRound c.loop-round.round 0 l) c.close_open-some.new.told)
           (sym (new-is g c)) c.close_open-some.ensures.tell)
           (subst (λ (l : List (List ℕ)). AreGathered tables (length l) 0 c.close_open-some.new.told l added) from_is
@@ -338,5 +340,6 @@ pub end_of_open-end-requires : goal.end_of_open-end-requires
 end_of_open-end-requires g c =
     let at = (goal.at.end_of_open-end-requires g c).After-close_open-some in
     subst (λ (l : List ℕ). AreClosedFrom l c.loop-round.end) (sym c.deref-in-loop-round-2.ensures.value)
-    (closed-kept c.args.board.now c.loop-round.closed.items c.loop-round.round (gap_count c.args.board.now) c.loop-round.end
+    (closed-kept c.args.board.now c.loop-round.closed.items c.loop-round.round (gap_count c.args.board.now)
+    c.loop-round.end
     (old g at) (new g at) (passed g at) c.loop-round.invariant.shut)
