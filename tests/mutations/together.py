@@ -33,15 +33,20 @@ def blanked(text):
     return TOKEN.sub(lambda found: ' ' * len(found[0]) if found['comment'] else found[0], text)
 
 
-HEAD = re.compile(r'^\s*(?:<(?P<own>(?:[^<>]|<[^<>]*>)*)>)?\s*(?:(?P<trait>.*) for )?(?P<kind>\w+)', re.S)
+HEAD = re.compile(r'^\s*(?:<(?P<own>(?:[^<>]|<[^<>]*>)*)>)?\s*(?:(?P<trait>.*) for )?(?P<kind>\w+)(?:<(?P<given>[^<>]*)>)?', re.S)
+DEFAULTS = r'\bstruct {}<([^;{{]*?=[^;{{]*?)>\s*\{{'
 
 
-def type_of(head):
-    """The type of an impl with this head, and the trait as the kit puts it behind the type's name: with its arguments, but for those that
-    are the impl's own."""
+def type_of(head, text):
+    """The type of an impl with this head, and what the kit puts behind the type's name: the trait with its arguments, but for those that are
+    the impl's own; or the arguments that a type of this text has, if it takes more and the others are left to their defaults."""
     found = HEAD.match(head)
     own = NAME.findall(re.sub(r':[^,]*', '', found['own'] or ''))
-    return found['kind'], ''.join(name for name in re.findall(r"(?<!')\b\w+", found['trait'] or '') if name not in own)
+    behind = ''.join(name for name in re.findall(r"(?<!')\b\w+", found['trait'] or '') if name not in own)
+    taken, given = re.search(DEFAULTS.format(found['kind']), text), re.findall(r"(?<!')\b\w+", found['given'] or '')
+    all_of_it = [one for one in taken[1].split(',') if not one.strip().startswith("'")] if taken else []
+    is_short = not found['trait'] and len(given) < len(all_of_it)
+    return found['kind'], ''.join(f'+{name}' for name in given) if is_short else behind
 
 
 def owners(text):
@@ -49,7 +54,7 @@ def owners(text):
     tokens = marks(text)
     for found in [*IMPL.finditer(text), *re.finditer(r'\btrait(?P<head>\s+\w+[^{;]*)\{', text)]:
         at = next(index for index, (_, start, _) in enumerate(tokens) if start == found.end() - 1)
-        yield found.start(), tokens[closing(tokens, at)][2], type_of(found['head'])
+        yield found.start(), tokens[closing(tokens, at)][2], type_of(found['head'], text)
 
 
 def bodies(text):

@@ -3,7 +3,7 @@ use Rattle.runs.proofs.BoardLimits.{few_gaps}
 use Rattle.runs.proofs.solving.solve_text_alone.Goals as goal
 
 pub of-requires-clause-few : goal.of-requires-clause-few
-of-requires-clause-few c = λ κs lives.
+of-requires-clause-few c =
     few_gaps Small c.in_ok-board.board c.in_ok-board.ensures.found.is_board c.in_ok-board.ensures.found.few
 
 pub returns-clause-ok : goal.returns-clause-ok
