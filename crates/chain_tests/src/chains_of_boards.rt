@@ -3,7 +3,7 @@
 //! A run of the tests may refuse one growth of memory, whichever. So a call that was refused one is
 //! made once more.
 
-ghost use Rattle.std.specs.Prelude.{◌≤◌, IfOk};
+ghost use Rattle.std.specs.Prelude.{◌≤◌};
 ghost use Rattle.board_text.specs.Ranges.{InRange};
 ghost use Rattle.chains.specs.declared.counting.TheConstants.{MAX_LENGTH};
 

@@ -5,7 +5,7 @@ use Rattle.board_text.proofs.Cited.{few_places}
 use Rattle.graphs.specs.Answers.{IsAnswerIn}
 use Rattle.graphs.specs.Graph.{PlainGraph}
 use Rattle.graphs.specs.Numbered.{Numbered, graph_of, configuration_of}
-use Rattle.graphs.proofs.Cited.{places_are}
+use Rattle.graphs.proofs.Cited.{places_are, same_or_not}
 use Rattle.std.specs.Prelude.{slice_index}
 use Rattle.board_text.specs.declared.board.TheConstants.{MAX_LABELS}
 use Rattle.std.proofs.lemmas.Bool.{cases_lt}
@@ -25,13 +25,11 @@ use Rattle.positions.specs.Counts.{HasSize}
 use Rattle.positions.specs.declared.space.TheConstants.{MAX_CONFIGURATIONS}
 use Rattle.positions.proofs.Cited.{same_size, size_zero, size_at_most}
 use Rattle.solver.specs.Solving.{Solving, IsSolving, AnswerLasts}
-use Rattle.retro_core.specs.Round.{PlainSeat, Round, IsLawful, IsWorkedOff, spent_seat, seat_at, all_todo}
-use Rattle.retro_core.specs.Round.{all_won}
+use Rattle.retro_core.specs.Round.{PlainSeat, Round, IsLawful, IsWorkedOff, spent_seat, seat_at, all_todo, all_won}
 use Rattle.retro_core.specs.declared.step.Seen.{Seen as SeenData}
 use Rattle.retro_core.specs.declared.step.Seen.TheVariants as seen
 use Rattle.retro_core.specs.History.{answer_in_history}
 use Rattle.solver.specs.Ending.{IsRoundEnd}
-use Rattle.graphs.proofs.Cited.{same_or_not}
 use Rattle.retro_core.proofs.Cited.{closed-always, closed-gone, closed-once, lost-opened, won-told, times-together}
 use Rattle.retro_core.proofs.Cited.{worked-off}
 use Rattle.claim_round.specs.Shared.{Key, View, Ended, Finishes}

@@ -8,9 +8,8 @@ use Rattle.board_text.proofs.Cited.{some_places}
 use Rattle.index_lists.specs.Lists.{times, without_node}
 use Rattle.index_lists.proofs.Cited.{cond_same, cond_other, times-without_same, times-without_other, length-without}
 use Rattle.index_lists.proofs.Cited.{times-here}
-use Rattle.graphs.proofs.Cited.{numbers-fit}
+use Rattle.graphs.proofs.Cited.{numbers-fit, same_or_not, places_are}
 use Rattle.solver.specs.Solving.{Solving, IsSolving, source}
-use Rattle.graphs.proofs.Cited.{same_or_not, places_are}
 use Rattle.retro_core.proofs.Cited.{source-once}
 use Rattle.claim_round.specs.Shared.{Key, View, kept_part, new_part, view_joined}
 use Rattle.claim_round.specs.Rule.{most_members, size, entry_bound}

@@ -16,8 +16,7 @@ use Rattle.index_lists.specs.Lists.{times}
 use Rattle.index_lists.proofs.Cited.{distinct-length, same_is, differ_is}
 use Rattle.solver.specs.Solving.{Solving, source}
 use Rattle.retro_core.specs.Round.{PlainSeat, IsLawful, spent_seat, first_of, seat_struck, seat_tried, seat_kept}
-use Rattle.retro_core.specs.Round.{seat_new}
-use Rattle.retro_core.specs.Round.{seat_joined}
+use Rattle.retro_core.specs.Round.{seat_new, seat_joined}
 use Rattle.retro_core.specs.declared.step.Step.TheVariants as steps
 use Rattle.retro_core.specs.declared.step.Seen.TheVariants as seen
 use Rattle.retro_core.specs.Stepping.{Does}

@@ -1,13 +1,12 @@
 -- A shared round as clauses see it: its key, its seats, how these split and join, and how it ends.
 use Rattle.std.specs.Prelude.{◌≡◌, ℕ, suc, max, ◌<◌, ◌≤◌, ◌↔◌, List, [], ◌++◌, length}
-use Rattle.graphs.specs.Numbered.{graph_of, configuration_of}
 use Rattle.std.specs.Prelude.{slice_index_or, Option, Some, None}
+use Rattle.graphs.specs.Numbered.{graph_of, configuration_of}
 use Rattle.atomic_table.specs.Seated.{TableId}
 use Rattle.positions.specs.declared.value.Value.TheVariants.{Finite}
 use Rattle.positions.specs.Value.{HasValue}
 use Rattle.solver.specs.Solving.{Solving}
-use Rattle.retro_core.specs.Round.{PlainSeat}
-use Rattle.retro_core.specs.Round.{seat_kept, seat_new, seat_joined}
+use Rattle.retro_core.specs.Round.{PlainSeat, seat_kept, seat_new, seat_joined}
 use Rattle.retro_core.specs.declared.step.Seen.{Seen}
 use Rattle.solver.specs.Ending.{IsRoundEnd}
 

@@ -3,7 +3,7 @@
 //! A run of the tests may refuse one growth of memory, whichever. So a call that was refused one is
 //! made once more.
 
-ghost use Rattle.std.specs.Prelude.{◌≡◌, ℕ, ◌-◌, ◌<◌, ◌≤◌, IfSome, length};
+ghost use Rattle.std.specs.Prelude.{ℕ, ◌-◌, ◌<◌, ◌≤◌, IfSome, length};
 ghost use Rattle.board_text.specs.PlainBoard.{places};
 ghost use Rattle.classes.specs.Classes.{Falls};
 ghost use Rattle.classes.specs.Lists.{AreClassLists};

@@ -1,7 +1,6 @@
 -- A command finds no fault in words exactly if it takes them.
 use Rattle.std.proofs.Common.{◌≡◌, ◌∙◌, ◌+◌, ◌↔◌, ◌&&◌, ◌||◌, not, ℕ, Bool, true, false, true≢false, List, [], ◌∷◌}
-use Rattle.std.proofs.Common.{length, Option, Some, None}
-use Rattle.std.proofs.Common.{codes, is_some, refl, sym, ap, cond, arith, subst}
+use Rattle.std.proofs.Common.{length, Option, Some, None, codes, is_some, refl, sym, ap, cond, arith, subst}
 use Rattle.std.specs.Prelude.{zero, suc, slice_get, drop, encode_utf8, find, min, nat_le}
 use Rattle.std.specs.List.{list_all, list_any}
 use Rattle.std.specs.Option.{option_map_or}
@@ -10,31 +9,25 @@ use Rattle.std.proofs.lemmas.Bool.Decides.{nat_tests}
 use Rattle.std.proofs.lemmas.Slice.Eq.{bytes_eq-Decides}
 use Rattle.clap.specs.Facts.{explicit_source, parser_of_value, unwrap_or_range}
 use Rattle.clap.specs.Faults.{action_fault, bundle_fault, bundle_step_fault, check_fault, count_fault, default_fault}
-use Rattle.clap.specs.Faults.{defaults_fault, entered_fault}
-use Rattle.clap.specs.Faults.{fault_of, flag_word_fault, flags_fault, level_fault, long_fault, option_fault}
-use Rattle.clap.specs.Faults.{other_fault, positional_fault}
-use Rattle.clap.specs.Faults.{react_fault, set_fault, settle_fault, short_fault, step_fault, stray_fault, turn_fault}
-use Rattle.clap.specs.Faults.{use_fault, values_fault}
+use Rattle.clap.specs.Faults.{defaults_fault, entered_fault, fault_of, flag_word_fault, flags_fault, level_fault}
+use Rattle.clap.specs.Faults.{long_fault, option_fault, other_fault, positional_fault, react_fault, set_fault}
+use Rattle.clap.specs.Faults.{settle_fault, short_fault, step_fault, stray_fault, turn_fault, use_fault, values_fault}
 use Rattle.clap.specs.Faults.{walk_fault, word_fault}
 use Rattle.clap.specs.Kinds.{Kinds, check_kinds, or_else, range_kinds, request_kinds}
 use Rattle.clap.specs.Lexer.{long_of, short_of}
 use Rattle.clap.specs.Matches.{count_text}
 use Rattle.clap.specs.Simple.{Shape, built, entered, label_of, names_of}
 use Rattle.clap.specs.Takes.{action_passes, bundle_passes, bundle_step_passes, count_passes, default_passes}
-use Rattle.clap.specs.Takes.{entered_passes, flag_word_passes}
-use Rattle.clap.specs.Takes.{flags_pass, is_given, is_valid, level_passes, long_passes, option_passes, other_passes}
-use Rattle.clap.specs.Takes.{positional_passes}
-use Rattle.clap.specs.Takes.{react_passes, set_passes, settle_passes, short_passes, step_passes, takes, turn_passes}
-use Rattle.clap.specs.Takes.{use_passes, value_passes}
+use Rattle.clap.specs.Takes.{entered_passes, flag_word_passes, flags_pass, is_given, is_valid, level_passes}
+use Rattle.clap.specs.Takes.{long_passes, option_passes, other_passes, positional_passes, react_passes, set_passes}
+use Rattle.clap.specs.Takes.{settle_passes, short_passes, step_passes, takes, turn_passes, use_passes, value_passes}
 use Rattle.clap.specs.Takes.{values_pass, walk_passes, word_passes}
 use Rattle.clap.specs.Values.{is_request, refused_kind}
 use Rattle.clap.specs.Walk.{Held, Names, Row, Rule, Step, Text, Waiting, Walk, action_of, answers_to, arg_by_id}
-use Rattle.clap.specs.Walk.{arg_by_index, arg_by_long}
-use Rattle.clap.specs.Walk.{arg_by_short, attached_value, count_of, finished, has_row, is_empty, is_pending}
-use Rattle.clap.specs.Walk.{most_values, next, nothing_held}
-use Rattle.clap.specs.Walk.{reacted, settled, subcommand, subcommand_met, takes_several, takes_values, trailing, value}
-use Rattle.clap.specs.Walk.{values_or_missing}
-use Rattle.clap.specs.Walk.{walk, walk_from, walked, with_default, word_met}
+use Rattle.clap.specs.Walk.{arg_by_index, arg_by_long, arg_by_short, attached_value, count_of, finished, has_row}
+use Rattle.clap.specs.Walk.{is_empty, is_pending, most_values, next, nothing_held, reacted, settled, subcommand}
+use Rattle.clap.specs.Walk.{subcommand_met, takes_several, takes_values, trailing, value, values_or_missing, walk}
+use Rattle.clap.specs.Walk.{walk_from, walked, with_default, word_met}
 use Rattle.clap.specs.declared.builder.action.ArgAction.{ArgAction}
 use Rattle.clap.specs.declared.builder.action.ArgAction.TheVariants.{Set, Append, SetTrue, SetFalse, Count, Help}
 use Rattle.clap.specs.declared.builder.action.ArgAction.TheVariants.{HelpShort, HelpLong, Version}

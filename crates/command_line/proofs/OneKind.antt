@@ -7,35 +7,27 @@ use Rattle.std.specs.Option.{option_map_or}
 use Rattle.std.specs.Str.{bytes_eq, chars}
 use Rattle.std.proofs.lemmas.Slice.Eq.{bytes_eq-Decides}
 use Rattle.clap.specs.Facts.{parser_of_value, unwrap_or_range}
-use Rattle.clap.specs.Faults.{action_fault, bundle_fault, bundle_step_fault, count_fault, default_fault}
-use Rattle.clap.specs.Faults.{defaults_fault, entered_fault, fault_of, flag_word_fault, flags_fault, level_fault}
-use Rattle.clap.specs.Faults.{long_fault}
+use Rattle.clap.specs.Faults.{action_fault, bundle_fault, bundle_step_fault, count_fault, default_fault, defaults_fault}
+use Rattle.clap.specs.Faults.{entered_fault, fault_of, flag_word_fault, flags_fault, level_fault, long_fault}
 use Rattle.clap.specs.Faults.{option_fault, other_fault, positional_fault, react_fault, repeat_fault, set_fault}
-use Rattle.clap.specs.Faults.{settle_fault, short_fault}
-use Rattle.clap.specs.Faults.{step_fault, stray_fault, turn_fault, use_fault, values_fault, walk_fault, word_fault}
+use Rattle.clap.specs.Faults.{settle_fault, short_fault, step_fault, stray_fault, turn_fault, use_fault, values_fault}
+use Rattle.clap.specs.Faults.{walk_fault, word_fault}
 use Rattle.clap.specs.Kinds.{IsAmong, Kinds, check_kinds, or_else, range_kinds, request_kinds, value_kinds}
 use Rattle.clap.specs.Lexer.{long_of, short_of}
 use Rattle.clap.specs.Matches.{count_text}
 use Rattle.clap.specs.Simple.{Shape, built, entered, label_of, names_of}
 use Rattle.clap.specs.Takes.{bundle_passes, bundle_step_passes, flag_word_passes, flags_pass, long_passes}
-use Rattle.clap.specs.Takes.{positional_passes}
-use Rattle.clap.specs.Takes.{other_passes, react_passes, settle_passes, short_passes, step_passes, turn_passes}
-use Rattle.clap.specs.Takes.{use_passes}
+use Rattle.clap.specs.Takes.{positional_passes, other_passes, react_passes, settle_passes, short_passes, step_passes}
+use Rattle.clap.specs.Takes.{turn_passes, use_passes}
 use Rattle.clap.specs.Values.{refused_kind}
 use Rattle.clap.specs.ValueTests.{accepts}
 use Rattle.clap.specs.Walk.{Held, Names, Outcome, Row, Rule, Step, Text, Waiting, Walk, action_of, after_flag}
-use Rattle.clap.specs.Walk.{after_step}
-use Rattle.clap.specs.Walk.{answers_to, arg_by_id, arg_by_index, arg_by_long, arg_by_short, attached_value, bundle}
-use Rattle.clap.specs.Walk.{bundle_met}
-use Rattle.clap.specs.Walk.{bundle_step, count_of, has_long, has_row, has_short, idle, is_empty}
-use Rattle.clap.specs.Walk.{is_pending}
-use Rattle.clap.specs.Walk.{long_or_other, most_values, next, nothing_held, option, plain, positional}
-use Rattle.clap.specs.Walk.{reacted}
-use Rattle.clap.specs.Walk.{settled, short_or_plain, subcommand, subcommand_met, subcommand_or_other, takes_several}
-use Rattle.clap.specs.Walk.{takes_values}
-use Rattle.clap.specs.Walk.{to_positional, trailing, value, values_or_missing, walk, walk_from, walked, walked_from}
-use Rattle.clap.specs.Walk.{with_default}
-use Rattle.clap.specs.Walk.{word_met}
+use Rattle.clap.specs.Walk.{after_step, answers_to, arg_by_id, arg_by_index, arg_by_long, arg_by_short, attached_value}
+use Rattle.clap.specs.Walk.{bundle, bundle_met, bundle_step, count_of, has_long, has_row, has_short, idle, is_empty}
+use Rattle.clap.specs.Walk.{is_pending, long_or_other, most_values, next, nothing_held, option, plain, positional}
+use Rattle.clap.specs.Walk.{reacted, settled, short_or_plain, subcommand, subcommand_met, subcommand_or_other}
+use Rattle.clap.specs.Walk.{takes_several, takes_values, to_positional, trailing, value, values_or_missing, walk}
+use Rattle.clap.specs.Walk.{walk_from, walked, walked_from, with_default, word_met}
 use Rattle.clap.specs.declared.builder.action.ArgAction.{ArgAction}
 use Rattle.clap.specs.declared.builder.action.ArgAction.TheVariants.{Set, Append, SetTrue, SetFalse, Count, Help}
 use Rattle.clap.specs.declared.builder.action.ArgAction.TheVariants.{HelpShort, HelpLong, Version}

@@ -1,7 +1,6 @@
 -- If `clap` takes the words, the job can be read from its matches.
 use Rattle.std.proofs.Common.{◌≡◌, ◌∙◌, ◌<◌, ◌⊎◌, ◌++◌, ◌&&◌, ◌||◌, not, Bool, ℕ, List, [], ◌∷◌, length, Option, Some}
-use Rattle.std.proofs.Common.{None}
-use Rattle.std.proofs.Common.{is_some, true, false, true≢false, refl, sym, ap, subst, inl, inr, cond, codes, drop}
+use Rattle.std.proofs.Common.{None, is_some, true, false, true≢false, refl, sym, ap, subst, inl, inr, cond, codes, drop}
 use Rattle.std.proofs.Common.{arith}
 use Rattle.std.specs.Prelude.{⊤, find, fold, option_and_then, option_map, pos, slice_get, unwrap_or}
 use Rattle.std.specs.Borrow.{Bor}
@@ -13,19 +12,16 @@ use Rattle.clap.specs.Facts.{parser_of_value}
 use Rattle.clap.specs.Values.{reading_of}
 use Rattle.clap.specs.ValueTests.{accepts}
 use Rattle.clap.specs.Walk.{Held, Names, Row, Rule, Step, Text, Waiting, Walk, action_of, after_step, answers_to}
-use Rattle.clap.specs.Walk.{arg_by_id, first_of}
-use Rattle.clap.specs.Walk.{arg_by_index, finished, long_or_other, next, nothing_held, rows_after, settled, subcommand}
-use Rattle.clap.specs.Walk.{subcommand_met, subcommand_or_other, to_positional, trailing, value, walk, walk_from}
-use Rattle.clap.specs.Walk.{walked}
-use Rattle.clap.specs.Walk.{walked_from, with_default, word_met}
+use Rattle.clap.specs.Walk.{arg_by_id, first_of, arg_by_index, finished, long_or_other, next, nothing_held, rows_after}
+use Rattle.clap.specs.Walk.{settled, subcommand, subcommand_met, subcommand_or_other, to_positional, trailing, value}
+use Rattle.clap.specs.Walk.{walk, walk_from, walked, walked_from, with_default, word_met}
 use Rattle.clap.specs.Lexer.{long_of}
 use Rattle.clap.specs.Simple.{Shape, built, built_leaf, entered, filled, filled_from, help_rule, help_shape}
 use Rattle.clap.specs.Simple.{index_after, inherited, is_simple, label_of, names_of, parser_for, rows_at, subcommand_of}
 use Rattle.clap.specs.Simple.{with_action, with_index}
 use Rattle.clap.specs.Faults.{is_simple_and_free}
 use Rattle.clap.specs.Takes.{built_takes, default_passes, entered_passes, is_given, is_valid, level_passes}
-use Rattle.clap.specs.Takes.{other_passes}
-use Rattle.clap.specs.Takes.{settle_passes, step_passes, takes, turn_passes, walk_passes, word_passes}
+use Rattle.clap.specs.Takes.{other_passes, settle_passes, step_passes, takes, turn_passes, walk_passes, word_passes}
 use Rattle.clap.specs.declared.builder.action.ArgAction.TheVariants.{SetTrue}
 use Rattle.clap.specs.declared.builder.value_parser.ValueParser.{ValueParser}
 use Rattle.clap.specs.declared.builder.value_parser.ValueParser.TheVariants as vp
@@ -39,8 +35,7 @@ use Rattle.clap.proofs.WalkLemmas.{both}
 use Rattle.command_line.specs.Commands as rows
 use Rattle.command_line.specs.Commands.{command, commands, program, program_among, side_words, sides}
 use Rattle.command_line.specs.Inside.Reading.{has_flag, has_value, has_value_by, has_values, is_among, is_read}
-use Rattle.command_line.specs.Inside.Reading.{is_read_in}
-use Rattle.command_line.specs.Inside.Reading.{may_be_left_out}
+use Rattle.command_line.specs.Inside.Reading.{is_read_in, may_be_left_out}
 use Rattle.command_line.proofs.RowFacts.{Each, Fits, GoodRule, either}
 use Rattle.command_line.proofs.Defaults.{HasRow, default_row, given_row}
 use Rattle.command_line.proofs.SameProgram.{below}

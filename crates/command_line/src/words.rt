@@ -1,8 +1,7 @@
 //! The job that the words of the command line ask for.
 
 ghost use Rattle.std.specs.Prelude.{◌≡◌, ◌≤◌, ◌↔◌, ◌⊎◌, [], IfOk, OnOk, IfErr, IfSome, MatchOption};
-ghost use Rattle.std.specs.Prelude.{Ok, None, Some, true, false};
-ghost use Rattle.std.specs.Prelude.{length, codes, option_map};
+ghost use Rattle.std.specs.Prelude.{Ok, None, Some, true, false, length, codes, option_map};
 ghost use Rattle.clap.specs.Words.{fault_of, first_of, found_of, kind_of, rows_of, subcommand_of};
 ghost use Rattle.clap.specs.Words.{subcommand_rows_of, takes};
 ghost use Rattle.clap.specs.Walk.{texts};
@@ -11,9 +10,8 @@ ghost use Rattle.command_line.specs.Reading.{HasFlag, HasNumber, HasSide, IsInRa
 ghost use Rattle.command_line.specs.Reading.{ShowsKind, ShowsWords};
 ghost use Rattle.command_line.specs.Reading.{AsksForHelpBy, Names, NamesCommands};
 ghost use Rattle.command_line.specs.Reading.{asks_for_help, has_topic, is_large, is_topic};
-ghost use Rattle.command_line.specs.Inside.Reading.{MisusesBy, Reads, ShowsHelp};
-ghost use Rattle.command_line.specs.Inside.Reading.{has_flag, has_number, has_side, is_read};
-ghost use Rattle.command_line.specs.Inside.Reading.{is_read_in};
+ghost use Rattle.command_line.specs.Inside.Reading.{MisusesBy, Reads, ShowsHelp, has_flag};
+ghost use Rattle.command_line.specs.Inside.Reading.{has_number, has_side, is_read, is_read_in};
 
 use crate::asked::{BoardLimit, Job, JobFault, MAX_WORKERS};
 use crate::commands::{VERSION, program};

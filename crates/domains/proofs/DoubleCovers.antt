@@ -1,7 +1,6 @@
 -- Above each label of the double cover of a circle are the numbers of the circle, with other names.
 use Rattle.std.proofs.Common.{◌≡◌, ◌≢◌, ◌↔◌, ℕ, zero, suc, ◌+◌, ◌-◌, ◌*◌, ◌/◌, ◌%◌, ◌<◌, ◌⊎◌, Bool, true, false, List}
-use Rattle.std.proofs.Common.{[]}
-use Rattle.std.proofs.Common.{not, refl, sym, ◌∙◌, ap, subst, arith, inl, inr, mod-lt}
+use Rattle.std.proofs.Common.{[], not, refl, sym, ◌∙◌, ap, subst, arith, inl, inr, mod-lt}
 use Rattle.std.specs.Prelude.{cond, eqb}
 use Rattle.std.proofs.lemmas.Bool.{both_ways, cases_eq, cases_lt, eq-eqb, eqb-true, ne_eqb}
 use Rattle.board_text.specs.PlainBoard.{PlainBoard, ArePairs, Dominates}
@@ -59,10 +58,6 @@ agreed true false says = sym says
 agreed false true says = says
 agreed false false says = refl
 
-not_false : (b : Bool) → cond b false true ≡ true → b ≡ false
-not_false true says = sym says
-not_false false says = refl
-
 unless_true : (b more : Bool) → cond b false more ≡ true → (b ≡ false) × (more ≡ true)
 unless_true true more says = absurd (both_ways false refl says)
 unless_true false more says = (refl, says)
@@ -75,9 +70,6 @@ true_of_not false says = refl
 abbrev SideOf : Bool → ℕ → ℕ → Type 0
 SideOf true side of = side ≡ of
 SideOf false side of = side ≢ of
-
-abbrev IsBoth : Type 0 → Bool → Type 0
-IsBoth P b = P ↔ (b ≡ true)
 
 both_true : {P : Type 0} (b : Bool) → P → b ≡ true → P ↔ (b ≡ true)
 both_true b holds is = (λ p. is, λ q. holds)

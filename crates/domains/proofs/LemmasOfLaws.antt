@@ -15,8 +15,7 @@ use Rattle.domains.proofs.ResiduesModuloNineteen.{nineteen_dominated}
 use Rattle.domains.proofs.ShownDocuments.{documents_for, claims_of_documents}
 use Rattle.domains.proofs.SmallCovers.{sixteen_carry, forty_carry, ninety_six_carry, seven_on_few, eight_on_few}
 use Rattle.domains.proofs.SmallCovers.{sixteen_exactly, forty_exactly, ninety_six_exactly}
-use Rattle.domains.proofs.SmallDomains.{two_carried, three_carried, cycle_exactly, residues_exactly}
-use Rattle.domains.proofs.SmallDomains.{products_exactly}
+use Rattle.domains.proofs.SmallDomains.{two_carried, three_carried, cycle_exactly, residues_exactly, products_exactly}
 use Rattle.domains.proofs.Withdrawals.{freed_lasts}
 use Rattle.positions.proofs.Cited.{same_value}
 

@@ -1,7 +1,6 @@
 -- The nested board of a level is the product of the three-cycle and that of one level less.
-use Rattle.std.proofs.Common.{◌≡◌, ◌↔◌, ℕ, zero, suc, ◌+◌, ◌-◌, ◌*◌, ◌/◌, ◌%◌, ◌^◌, ◌<◌, ◌≤◌, ◌⊎◌, List, [], ◌∷◌}
-use Rattle.std.proofs.Common.{take, get_or, refl, sym, ◌∙◌, ap, subst, arith, inl, inr, div-lt_iff_lt-mul}
-use Rattle.std.proofs.Common.{mod-lt}
+use Rattle.std.proofs.Common.{◌≡◌, ◌↔◌, ℕ, zero, suc, ◌+◌, ◌-◌, ◌*◌, ◌/◌, ◌%◌, ◌^◌, ◌<◌, ◌≤◌, ◌⊎◌, List, [], ◌∷◌, take}
+use Rattle.std.proofs.Common.{get_or, refl, sym, ◌∙◌, ap, subst, arith, inl, inr, div-lt_iff_lt-mul, mod-lt}
 use Rattle.std.proofs.Math.Nat.{one-le-pow, pow-succ'}
 use Rattle.std.specs.Prelude.{Contains}
 use Rattle.std.proofs.lemmas.Bool.{cases_eq}

@@ -1,9 +1,8 @@
 -- A product carries no more pebbles for ever than its factors together, less one.
 -- Each outer pebble is represented by a pebble of the product, with a copy that is its label, and the other pebbles of
 -- the product are extras. The pebbles have numbers: first those that represent, and then the extras.
-use Rattle.std.proofs.Common.{◌≡◌, ◌≢◌, ℕ, zero, suc, ◌+◌, ◌-◌, ◌/◌, ◌%◌, ◌<◌, ◌≤◌, ◌⊎◌, List, length}
-use Rattle.std.proofs.Common.{replicate, get_or, map, refl, sym, ◌∙◌, ap, subst, arith, inl, inr, div-lt_iff_lt-mul}
-use Rattle.std.proofs.Common.{mod-lt}
+use Rattle.std.proofs.Common.{◌≡◌, ◌≢◌, ℕ, zero, suc, ◌+◌, ◌-◌, ◌/◌, ◌%◌, ◌<◌, ◌≤◌, ◌⊎◌, List, length, replicate}
+use Rattle.std.proofs.Common.{get_or, map, refl, sym, ◌∙◌, ap, subst, arith, inl, inr, div-lt_iff_lt-mul, mod-lt}
 use Rattle.std.specs.List.{range_with_len}
 use Rattle.std.proofs.lemmas.Bool.{cases_lt, cases_eq}
 use Rattle.std.proofs.lemmas.List.{get_or-set_other, length-set, length-replicate}

@@ -6,7 +6,7 @@ use Rattle.std.proofs.lemmas.Bool.{true≢false}
 use Rattle.std.proofs.lemmas.List.{get_or-map, length-map}
 use Rattle.std.proofs.lemmas.List.Elements.{All-contains, All-map, All-nil, All-weaker}
 use Rattle.board_text.specs.PlainBoard.{PlainBoard, IsConfiguration}
-use Rattle.positions.specs.Game.{Legal, moved}
+use Rattle.positions.specs.Game.{moved}
 use Rattle.positions.specs.Table.{AnswerRow}
 use Rattle.positions.specs.Claim.{Holds, claim_of}
 use Rattle.positions.specs.Ranks.{configurations}

@@ -1,8 +1,7 @@
 //! Laws of chains: the labels of a play, newest first, and from which of them a domain lasts for
 //! ever. Each is the contract of a function without a body.
 
-ghost use Rattle.std.specs.Prelude.{◌≡◌, ◌≢◌, ◌↔◌, ◌+◌, ◌^◌, ◌<◌, ◌≤◌, ℕ, suc, List};
-ghost use Rattle.std.specs.Prelude.{[], ◌∷◌, ◌++◌};
+ghost use Rattle.std.specs.Prelude.{◌≡◌, ◌≢◌, ◌↔◌, ◌+◌, ◌^◌, ◌<◌, ◌≤◌, ℕ, suc, List, [], ◌∷◌, ◌++◌};
 ghost use Rattle.std.specs.Prelude.{length, map, replicate, slice_index, All, AllPairs, Contains};
 ghost use Rattle.board_text.specs.PlainBoard.{PlainBoard, Dominates, DominatesPlace};
 ghost use Rattle.board_text.specs.PlainBoard.{IsAntisymmetric};

@@ -1,6 +1,6 @@
 -- The best answer of a gap, answer by answer.
 use Rattle.std.proofs.Common.{◌≡◌, ℕ, suc, ◌+◌, ◌-◌, ◌<◌, ◌≤◌, ◌↔◌, List, Option, None, Some, MatchOption}
-use Rattle.std.proofs.Common.{true, refl, sym, subst, inl, inr, arith}
+use Rattle.std.proofs.Common.{true, sym, subst, inl, inr, arith}
 use Rattle.std.proofs.lemmas.Bool.{cases_lt}
 use Rattle.board_text.specs.Domination.{has_bit}
 use Rattle.board_text.specs.declared.board.TheConstants.{MAX_LABELS}
@@ -75,13 +75,6 @@ module _ (board : PlainBoard) (gap : List ℕ) where
   word-most : (label word most : ℕ) → HasWordAfter board gap label word
       → HasValueAtMost board (member_with gap label) most ↔ IsClosedBefore (round_of_word word) (suc most)
   word-most label word most has = at-most-before board (member_with gap label) (round_of_word word) most has.value
-
-  pub best-begins : (label : ℕ) → label ≡ 0 → IsBestBefore board gap label None 0
-  best-begins label first = record {
-    all = λ other none. absurd (omega (arith, first, none));
-    few = omega arith;
-    found = refl;
-  }
 
   module _ (from label bound word : ℕ) (best : Option Best) (was : IsBestBefore board gap from best bound)
       (next : IsSmallest (λ l. (from ≤ l) × AnswersGap board gap l) (Some label))
@@ -243,7 +236,3 @@ module _ (board : PlainBoard) (closed : List ℕ → Value) (table : IsGapTable 
           round-later (closed (gap_at member found.0)) own (suc (own - 1)) (omega arith) found.2,
         )),
   )
-
--- nothing is known of the results of a gap that isn't closed
-pub most-open : (board : PlainBoard) (gap : List ℕ) → IsMostAfter board gap 4294967295
-most-open board gap = (omega arith, λ label answer low. absurd (omega (arith, low)))

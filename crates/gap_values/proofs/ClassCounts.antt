@@ -1,13 +1,11 @@
 -- Configurations are counted class by class.
-use Rattle.std.proofs.Common.{◌≡◌, ◌≢◌, ℕ, suc, ◌+◌, ◌-◌, ◌<◌, ◌≤◌, Bool, cond, nat_eq, List, length, get_or, set}
+use Rattle.std.proofs.Common.{◌≡◌, ◌≢◌, ℕ, suc, ◌+◌, ◌-◌, ◌<◌, ◌≤◌, Bool, cond, nat_eq, List, length, get_or}
 use Rattle.std.proofs.Common.{map, take, sym, ap, ◌∙◌, subst, inl, inr, arith, eq-eqb, ne_eqb, eqb-true}
-use Rattle.std.specs.List.{range_with_len}
-use Rattle.std.proofs.lemmas.Bool.{cases_lt, cases_eq}
-use Rattle.std.proofs.lemmas.List.{length-set, get_or-set_same, get_or-set_other, get_or-take, get_or_past}
-use Rattle.std.proofs.lemmas.List.{length-take-le}
+use Rattle.std.specs.List.{range_with_len, remove}
+use Rattle.std.proofs.lemmas.Bool.{cases_lt}
+use Rattle.std.proofs.lemmas.List.{get_or-take, get_or_past, length-take-le}
 use Rattle.std.proofs.lemmas.List.Elements.{Contains-get_or}
 use Rattle.std.proofs.lemmas.List.FromFn.{get_or-map-range_with_len, length-map-range_with_len}
-use Rattle.std.specs.List.{remove}
 use Rattle.board_text.specs.PlainBoard.{PlainBoard, IsBoard, IsConfiguration, places}
 use Rattle.positions.specs.Laws.{Occurs}
 use Rattle.positions.specs.Ranks.{configurations, configuration_at, rank_of}
@@ -18,22 +16,18 @@ use Rattle.positions.proofs.Cited.{configuration_at-rank_of, configuration_at_is
 use Rattle.classes.specs.Numbers.{ways, number_by_greatest, class_with}
 use Rattle.classes.specs.Sums.{sum_below}
 use Rattle.classes.specs.Weights.{AreWeights, HasWeight}
-use Rattle.classes.proofs.Cited.{counted-values}
-use Rattle.classes.proofs.Cited.{ways-fit, with-is}
-use Rattle.classes.proofs.Cited.{orders, orders-weigh, weight-orders}
-use Rattle.classes.proofs.Cited.{sum-zero, sum-suc, sum-same}
+use Rattle.classes.proofs.Cited.{counted-values, ways-fit, with-is, orders, orders-weigh, weight-orders, sum-zero}
+use Rattle.classes.proofs.Cited.{sum-suc, sum-same, edge-begins, edge-is, edge-within, member-class, member-with}
+use Rattle.classes.proofs.Cited.{some-lists, gap-below}
 use Rattle.classes.specs.declared.families.Family.{Family}
 use Rattle.gap_values.specs.declared.sizes.Sizes.{Sizes}
 use Rattle.gap_values.specs.Inside.Counts.{AreCounted, AreSizesBetween, IsAboveRounds, IsCountBetween, IsTrimmed}
-use Rattle.gap_values.specs.Inside.Counts.{counted}
-use Rattle.gap_values.specs.Inside.Counts.{word_at}
+use Rattle.gap_values.specs.Inside.Counts.{counted, word_at}
 use Rattle.classes.specs.FamilyWalks.{IsFamilyOf}
 use Rattle.gap_values.specs.Sizes.{HasValueCount, AreValueCounts}
-use Rattle.classes.proofs.Cited.{edge-begins, edge-is, edge-within, member-class, member-with, some-lists}
 use Rattle.gap_values.specs.Inside.Words.{gap_table, least_word, AreGapWords, AreRounds}
 use Rattle.gap_values.specs.RoundWords.{round_of_word}
 use Rattle.gap_values.proofs.ClosedGaps.{first-closed, class-configuration, class-is, value-of-class}
-use Rattle.classes.proofs.Cited.{gap-below}
 use Rattle.gap_values.specs.GapTables.{IsClosedBefore}
 use Rattle.gap_values.proofs.Words.{before-from, before-to, round-finite, round-none, least-is, least-few, leasts}
 
@@ -176,48 +170,6 @@ counted-all board words wanted count rounds few was =
     )))
 
 -- ---- all values at once
-
--- a class that lasts for ever
-pub forever-more : (board : PlainBoard) (words : List ℕ) (rounds from number weight : ℕ) (finite : List ℕ) (forever : ℕ)
-    → rounds ≤ 4294967295
-    → AreCounted board words rounds from number finite forever
-    → word_at board words number ≡ 4294967295
-    → HasWeight (places board) board.pebbles number weight → weight ≤ 720
-    → AreCounted board words rounds from (number + 1) finite (forever + weight)
-forever-more board words rounds from number weight finite forever top was same has few = record {
-  size = was.size;
-  each = λ value low. counting-same board words value from number (get_or finite value 0) (was.each value low)
-      (λ equal. omega (arith, same, equal));
-  unending = counting-more board words 4294967295 from number forever weight was.unending same has few;
-}
-
--- a class of a finite value
-pub finite-more : (board : PlainBoard) (words : List ℕ) (rounds from number word weight new : ℕ) (finite : List ℕ)
-    (forever : ℕ)
-    → word < rounds → rounds ≤ 4294967295
-    → AreCounted board words rounds from number finite forever
-    → word_at board words number ≡ word → new ≡ get_or finite word 0 + weight
-    → HasWeight (places board) board.pebbles number weight → weight ≤ 720
-    → AreCounted board words rounds from (number + 1) (set finite word new) forever
-finite-more board words rounds from number word weight new finite forever low top was same new_is has few =
-    let size : length finite ≡ rounds = was.size in
-    record {
-      size = length-set finite word new ∙ size;
-      each = λ value inside. elim (cases_eq value word) [
-        | inl equal ↦
-            subst (λ v. IsCountBetween board words v from (number + 1) (get_or (set finite word new) v 0)) (sym equal)
-            (subst (IsCountBetween board words word from (number + 1))
-            (sym (get_or-set_same finite word new 0 (omega arith) ∙ new_is))
-            (counting-more board words word from number (get_or finite word 0) weight (was.each word low) same has few))
-        | inr differ ↦
-            subst (IsCountBetween board words value from (number + 1))
-            (sym (get_or-set_other finite word value new 0 differ))
-            (counting-same board words value from number (get_or finite value 0) (was.each value inside)
-            (λ equal. differ (sym equal ∙ same)))
-      ];
-      unending = counting-same board words 4294967295 from number forever was.unending
-          (λ equal. omega (arith, same, equal));
-    }
 
 -- the families up to a number, and those from there on
 pub sizes-joined : (board : PlainBoard) (words : List ℕ) (rounds from middle to : ℕ) (one two sum : List ℕ)

@@ -1,6 +1,6 @@
 -- The rounds in which gaps close are found by the values of classes.
 use Rattle.std.proofs.Common.{◌≡◌, ℕ, zero, suc, ◌+◌, ◌-◌, ◌<◌, ◌≤◌, ◌⊎◌, List, Some, None, get_or}
-use Rattle.std.proofs.Common.{refl, sym, ap, ◌∙◌, subst, inl, inr, arith, ◌↔◌}
+use Rattle.std.proofs.Common.{sym, ap, ◌∙◌, subst, inl, inr, arith, ◌↔◌}
 use Rattle.std.proofs.lemmas.Bool.{cases_lt}
 use Rattle.board_text.specs.PlainBoard.{PlainBoard, IsBoard, places}
 use Rattle.board_text.proofs.Cited.{label_is_place}
@@ -59,13 +59,6 @@ pub record IsRoundSoFar (board : PlainBoard) (words gap : List ℕ) (from round 
   pub few : round < 4294967295
 
 module _ (board : PlainBoard) (words gap : List ℕ) where
-  pub round-begins : (from : ℕ) → from ≡ 0 → IsRoundSoFar board words gap from 0
-  round-begins from first = record {
-    below = λ label none. absurd (omega (arith, first, none));
-    met = inl refl;
-    few = omega arith;
-  }
-
   module _ (from label word : ℕ) (next : IsSmallest (λ l. (from ≤ l) × AnswersGap board gap l) (Some label))
       (is : word ≡ member_word words gap label) where
     below-next : (high : ℕ) → word < high → (other : ℕ) → other < label + 1 → AnswersGap board gap other

@@ -7,12 +7,11 @@ use Rattle.positions.specs.declared.value.Value.{Value}
 use Rattle.classes.specs.Classes.{IsClass, put, class_of}
 use Rattle.classes.specs.ClassGaps.{member_with, gap_at}
 use Rattle.classes.specs.Numbers.{number_by_greatest}
-use Rattle.classes.proofs.Cited.{class_of-class}
+use Rattle.classes.proofs.Cited.{class_of-class, falls-remove, remove-is}
 use Rattle.gap_values.specs.GapTables.{IsClosedBefore, HasClosedGap, ClosesBy}
 use Rattle.gap_values.specs.Inside.Words.{gap_table}
 use Rattle.gap_values.specs.Inside.Sets.{TellClosed, IsShut}
 use Rattle.gap_values.proofs.ClosedGaps.{like-closed}
-use Rattle.classes.proofs.Cited.{falls-remove, remove-is}
 use Rattle.gap_values.proofs.Words.{before-to, result-is}
 
 module _ (board : PlainBoard) (is_board : IsBoard board) (gap : List ℕ)

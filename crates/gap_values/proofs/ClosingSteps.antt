@@ -1,7 +1,6 @@
 -- The open gaps of a round that are shut are closed, family by family.
 use Rattle.std.proofs.Common.{◌≡◌, ◌≢◌, ℕ, zero, suc, ◌+◌, ◌-◌, ◌<◌, ◌≤◌, ◌⊎◌, ◌↔◌, Bool, true, cond, nat_eq, List, []}
-use Rattle.std.proofs.Common.{◌∷◌, ◌++◌}
-use Rattle.std.proofs.Common.{length}
+use Rattle.std.proofs.Common.{◌∷◌, ◌++◌, length}
 use Rattle.std.proofs.Common.{get_or, set, sym, ap, ◌∙◌, subst, inl, inr, arith, refl, eq-eqb, ne_eqb, below_more}
 use Rattle.std.specs.List.{remove}
 use Rattle.std.proofs.lemmas.Bool.{cases_lt, cases_eq, cases_Bool, both_ways}
@@ -14,11 +13,10 @@ use Rattle.board_text.specs.declared.board.TheConstants.{MAX_LABELS}
 use Rattle.positions.specs.Gaps.{AnswersGap}
 use Rattle.classes.specs.Classes.{put}
 use Rattle.classes.specs.Numbers.{number_by_greatest, class_with}
-use Rattle.classes.proofs.Cited.{all-put, of-all-put}
+use Rattle.classes.proofs.Cited.{all-put, of-all-put, member-long, others-number, number-last-others}
 use Rattle.classes.specs.declared.families.Family.{Family}
 use Rattle.classes.specs.FamilyWalks.{IsFamilyOf}
 use Rattle.gap_values.specs.Inside.Sets.{HasLabel, IsInOthers, AreLeft, IsShut, IsPassed, ArePassed, open_count}
-use Rattle.classes.proofs.Cited.{member-long, others-number, number-last-others}
 
 -- ---- the answers that are in no set yet
 
@@ -227,13 +225,6 @@ module _ (b : PlainBoard) (is : IsBoard b) (sets : List (List ℕ)) where
 abbrev pub AreAnswersTo : PlainBoard → List ℕ → ℕ → List ℕ → Type 0
 AreAnswersTo b held end found = (x : ℕ) → x < MAX_LABELS → (has_bit found x ≡ true)
     ↔ ((x < b.labels) × ((k : ℕ) → k < end → DominatesPlace b x (get_or held k 0)))
-
-pub answers-begin : (b : PlainBoard) (held found : List ℕ)
-    → ((x : ℕ) → x < MAX_LABELS → (has_bit found x ≡ true) ↔ (x < b.labels)) → AreAnswersTo b held 0 found
-answers-begin b held found are x low = (
-  λ has. ((are x low).0 has, λ k none. absurd (omega arith)),
-  λ is. (are x low).1 is.0,
-)
 
 pub answers-more : (b : PlainBoard) (held found new : List ℕ) (index place : ℕ) → place ≡ get_or held index 0
     → ((x : ℕ) → x < MAX_LABELS → (has_bit new x ≡ true) ↔ ((has_bit found x ≡ true) × DominatesPlace b x place))

@@ -19,9 +19,6 @@ use Rattle.gap_values.proofs.Words.{before-from, before-to, round-finite, round-
 
 -- ---- a walk over the pebbles
 
-pub first-begins : (words held : List ℕ) → IsFirstGap words held 0 4294967295 None
-first-begins words held = record { least = λ other low. absurd (omega arith); first = refl }
-
 at-most-open : (words held : List ℕ) (end word : ℕ) (pebble : Option ℕ) → IsFirstGap words held end word pebble
     → word ≤ 4294967295
 at-most-open words held end word None is = omega (arith, is.first)

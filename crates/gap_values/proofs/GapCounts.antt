@@ -1,11 +1,10 @@
 -- The classes that a gap makes with a place are counted, by rows of bits.
 use Rattle.std.proofs.Common.{◌≡◌, ◌≢◌, ℕ, zero, suc, ◌+◌, ◌-◌, ◌*◌, ◌<◌, ◌≤◌, ◌⊎◌, ◌↔◌, Bool, true, false, not, cond}
-use Rattle.std.proofs.Common.{nat_eq}
-use Rattle.std.proofs.Common.{List, length, get_or, set, refl, sym, ap, ◌∙◌, subst, inl, inr, arith, eq-eqb, ne_eqb}
+use Rattle.std.proofs.Common.{nat_eq, List, length, get_or, refl, sym, ap, ◌∙◌, subst, inl, inr, arith, eq-eqb, ne_eqb}
 use mir.Val.{bool_byte}
 use Rattle.std.proofs.Math.Nat.{mul-le-mul_left}
 use Rattle.std.proofs.lemmas.Bool.{cases_lt, cases_eq, cases_Bool, both_ways}
-use Rattle.std.proofs.lemmas.List.{length-set, get_or-set_same, get_or-set_other, get_or_past}
+use Rattle.std.proofs.lemmas.List.{get_or_past}
 use Rattle.board_text.specs.Domination.{has_bit}
 use Rattle.board_text.specs.PlainBoard.{IsBoard, PlainBoard, places}
 use Rattle.board_text.specs.declared.board.TheConstants.{MAX_LABELS}
@@ -80,11 +79,6 @@ once-few word more wanted = elim (cases_eq wanted word) [
   | inr differ ↦ (let none = once-other word more wanted differ in omega (arith, none))
 ]
 
--- nothing more
-pub once-nothing : (sizes : Sizes) (word more : ℕ) → more ≡ 0 → AreMore sizes sizes (once word more)
-once-nothing sizes word more none =
-    more-none sizes (once word more) (λ wanted. let few = once-few word more wanted in omega (arith, few, none))
-
 -- counts that grew a little leave room
 pub room-more : (old new : Sizes) (more : ℕ → ℕ) (most few : ℕ) → HaveRoom most old → AreMore old new more
     → ((word : ℕ) → more word ≤ few) → HaveRoom (most + few) new
@@ -117,41 +111,6 @@ pub room-between : (b : PlainBoard) (words : List ℕ) (rounds from to : ℕ) (s
 room-between b words rounds from to sizes is between =
     let few = sizes-few b words rounds from to sizes is between in
     record { each = few.each; unending = few.unending }
-
-pub more-forever : (old : Sizes) (new : Sizes) (more : ℕ) → new.finite.items ≡ old.finite.items
-    → length old.finite.items ≤ 4294967295 → new.forever ≡ old.forever + more → AreMore old new (once 4294967295 more)
-more-forever old new more same few forever = record {
-  size = ap length same;
-  each = λ word low.
-      let none = once-other 4294967295 more word (λ equal. omega (arith, equal)) in
-      let read : get_or new.finite.items word 0 ≡ get_or old.finite.items word 0 = ap (λ l. get_or l word 0) same in
-      omega (arith, none, read);
-  unending = (let here = once-here 4294967295 more 4294967295 refl in omega (arith, forever, here));
-}
-
-pub more-finite : (old : Sizes) (new : Sizes) (word more now : ℕ) → word < length old.finite.items
-    → length old.finite.items ≤ 4294967295 → new.finite.items ≡ set old.finite.items word now
-    → now ≡ get_or old.finite.items word 0 + more → new.forever ≡ old.forever → AreMore old new (once word more)
-more-finite old new word more now inside few items now_is forever = record {
-  size = ap length items ∙ length-set old.finite.items word now;
-  each = λ other low. elim (cases_eq other word) [
-    | inl same ↦
-        let here = once-here word more other same in
-        let read : get_or new.finite.items other 0 ≡ now =
-        ap (λ n. get_or new.finite.items n 0) same ∙ ap (λ l. get_or l word 0) items
-        ∙ get_or-set_same old.finite.items word now 0 inside in
-        let was : get_or old.finite.items word 0 ≡ get_or old.finite.items other 0 =
-        ap (λ n. get_or old.finite.items n 0) (sym same) in
-        omega (arith, here, read, was, now_is)
-    | inr differ ↦
-        let none = once-other word more other differ in
-        let read : get_or new.finite.items other 0 ≡ get_or old.finite.items other 0 =
-        ap (λ l. get_or l other 0) items ∙ get_or-set_other old.finite.items word other now 0 differ in
-        omega (arith, none, read)
-  ];
-  unending =
-      (let none = once-other word more 4294967295 (λ equal. omega (arith, equal)) in omega (arith, none, forever));
-}
 
 -- ---- sums of terms that are all small
 

@@ -1,6 +1,5 @@
 -- The gaps whose answers all lead below a number: by their best answers, and by their rounds.
-use Rattle.std.proofs.Common.{◌≡◌, ℕ, zero, suc, ◌-◌, ◌<◌, ◌≤◌, List, Some, inl, inr}
-use Rattle.std.proofs.Common.{arith, subst, sym}
+use Rattle.std.proofs.Common.{◌≡◌, ℕ, zero, suc, ◌-◌, ◌<◌, ◌≤◌, List, Some, inl, inr, arith, subst, sym}
 use Rattle.board_text.specs.PlainBoard.{PlainBoard, IsBoard, places}
 use Rattle.positions.specs.declared.value.Value.{Value}
 use Rattle.positions.specs.declared.value.Value.TheVariants.{Finite, Forever}

@@ -12,7 +12,7 @@ use Rattle.classes.specs.Classes.{IsClass}
 use Rattle.classes.specs.ClassGaps.{gap_at, member_with}
 use Rattle.classes.specs.Numbers.{ways, number_by_greatest, class_with}
 use Rattle.board_text.proofs.Cited.{label_is_place}
-use Rattle.classes.proofs.Cited.{is-below, put-is, put-none, ways-zero, with-is, with-number}
+use Rattle.classes.proofs.Cited.{is-below, put-is, put-none, ways-zero, with-is, with-number, gap-below}
 use Rattle.gap_values.specs.GapTables.{IsClosedBefore, ClosesBy}
 use Rattle.gap_values.specs.Inside.Sets.{TellClosed, IsShut, IsPassed, ArePassed, AreGathered, AreFresh, AreTablesOf}
 use Rattle.gap_values.specs.Inside.Sets.{IsInTables, IsOfRound, open_count}
@@ -20,7 +20,6 @@ use Rattle.gap_values.specs.Inside.Words.{gap_table, AreGapWords, AreRounds}
 use Rattle.gap_values.specs.RoundWords.{round_of_word}
 use Rattle.gap_values.proofs.ClosedParts.{shut-closes}
 use Rattle.gap_values.proofs.ClosingSteps.{open-falls, open-few}
-use Rattle.classes.proofs.Cited.{gap-below}
 use Rattle.gap_values.proofs.TellingSteps.{sets-none}
 use Rattle.gap_values.proofs.Words.{before-from, before-to, gap_at-index, result-is}
 

@@ -1,10 +1,9 @@
 -- Tables of sets: they are added to one, and put one after the other.
 use Rattle.std.proofs.Common.{◌≡◌, ℕ, ◌+◌, ◌-◌, ◌*◌, ◌<◌, ◌≤◌, ◌⊎◌, ◌↔◌, ◌++◌, true, List, [], length, get_or}
-use Rattle.std.proofs.Common.{set, sym, ap, ◌∙◌, subst, inl, inr, arith, refl}
+use Rattle.std.proofs.Common.{sym, ap, ◌∙◌, subst, inl, inr, arith}
 use Rattle.std.proofs.Math.Nat.{mul-le-mul_right}
 use Rattle.std.proofs.lemmas.Bool.{cases_lt, cases_eq}
-use Rattle.std.proofs.lemmas.List.{length-append, length-set, get_or_append_left, get_or-append-add}
-use Rattle.std.proofs.lemmas.List.{get_or-set_same, get_or-set_other}
+use Rattle.std.proofs.lemmas.List.{length-append, get_or_append_left, get_or-append-add}
 use Rattle.board_text.specs.Domination.{has_bit}
 use Rattle.board_text.specs.PlainBoard.{PlainBoard, places}
 use Rattle.board_text.specs.declared.board.TheConstants.{MAX_LABELS}
@@ -25,15 +24,6 @@ in-table tables lists table list size size_is low inside =
 abbrev pub HasTablesTo : ℕ → List (List ℕ) → ℕ → ℕ → List ℕ → List ℕ → Type 0
 HasTablesTo lists told list end old new = (x : ℕ) → x < MAX_LABELS
     → (has_bit new x ≡ true) ↔ ((has_bit old x ≡ true) ⊎ IsInTables end lists told list x)
-
-pub tables-none : (lists : ℕ) (told : List (List ℕ)) (list : ℕ) (set : List ℕ) → HasTablesTo lists told list 0 set set
-tables-none lists told list set x low = (
-  λ has. inl has,
-  λ either. elim either [
-    | inl has ↦ has
-    | inr some ↦ let none : some.0 < 0 = some.1 in absurd (omega arith)
-  ],
-)
 
 pub tables-more : (lists : ℕ) (told : List (List ℕ)) (list end : ℕ) (old now other new : List ℕ)
     → other ≡ get_or told (end * lists + list) []
@@ -66,42 +56,6 @@ pub record AreAddedTo (tables lists first end : ℕ) (told old new : List (List 
   pub same_length : length new ≡ length old
   pub before : (at : ℕ) → at < end → HasTablesTo lists told (first + at) tables (get_or old at []) (get_or new at [])
   pub behind : (at : ℕ) → end ≤ at → get_or new at [] ≡ get_or old at []
-
-pub added-none : (tables lists first : ℕ) (told old : List (List ℕ)) → AreAddedTo tables lists first 0 told old old
-added-none tables lists first told old = record {
-  same_length = refl;
-  before = λ at none. absurd (omega arith);
-  behind = λ at past. refl;
-}
-
-pub added-more : (tables lists first end : ℕ) (told old now : List (List ℕ)) (was new : List ℕ) → end < length old
-    → was ≡ get_or now end [] → AreAddedTo tables lists first end told old now
-    → HasTablesTo lists told (first + end) tables was new
-    → AreAddedTo tables lists first (end + 1) told old (set now end new)
-added-more tables lists first end told old now was new inside was_is are has = record {
-  same_length = length-set now end new ∙ are.same_length;
-  before = λ at under. elim (cases_eq at end) [
-    | inl same ↦
-        let here : get_or (set now end new) end [] ≡ new =
-        get_or-set_same now end new [] (omega (arith, inside, are.same_length)) in
-        subst (λ n. HasTablesTo lists told (first + n) tables (get_or old n []) (get_or (set now end new) n []))
-        (sym same)
-        (subst (HasTablesTo lists told (first + end) tables (get_or old end [])) (sym here)
-        (subst (λ (l : List ℕ). HasTablesTo lists told (first + end) tables l new)
-        (was_is ∙ are.behind end (omega arith)) has))
-    | inr differ ↦
-        subst (HasTablesTo lists told (first + at) tables (get_or old at []))
-        (sym (get_or-set_other now end at new [] differ)) (are.before at (omega (arith, differ)))
-  ];
-  behind = λ at past. get_or-set_other now end at new [] (λ same. omega (arith, same)) ∙ are.behind at (omega arith);
-}
-
-pub added-all : (tables lists first end : ℕ) (told old new : List (List ℕ)) → length old ≤ end
-    → AreAddedTo tables lists first end told old new → AreGathered tables lists first told old new
-added-all tables lists first end told old new all are = record {
-  same_length = are.same_length;
-  each = λ at label inside low. are.before at (omega arith) label low;
-}
 
 -- ---- the sets in parts
 

@@ -1,24 +1,20 @@
 -- Closed gaps are told to the sets of their lists.
-use Rattle.std.proofs.Common.{◌≡◌, ◌≢◌, ℕ, suc, ◌+◌, ◌-◌, ◌<◌, ◌≤◌, ◌⊎◌, ◌↔◌, true, List, [], length, get_or}
-use Rattle.std.proofs.Common.{set, sym, replicate}
-use Rattle.std.proofs.Common.{ap, ◌∙◌, subst, inl, inr, arith, refl}
+use Rattle.std.proofs.Common.{◌≡◌, ◌≢◌, ℕ, suc, ◌+◌, ◌-◌, ◌<◌, ◌≤◌, ◌⊎◌, ◌↔◌, true, List, [], length, get_or, set, sym}
+use Rattle.std.proofs.Common.{replicate, ap, ◌∙◌, subst, inl, inr, arith, refl}
 use Rattle.std.specs.List.{remove}
 use Rattle.std.proofs.lemmas.Bool.{cases_eq}
-use Rattle.std.proofs.lemmas.List.{length-set, get_or-set_same, get_or-set_other, length-replicate}
-use Rattle.std.proofs.lemmas.List.{get_or-replicate}
+use Rattle.std.proofs.lemmas.List.{length-set, get_or-set_same, get_or-set_other, length-replicate, get_or-replicate}
 use Rattle.board_text.specs.Domination.{has_bit}
 use Rattle.board_text.specs.PlainBoard.{PlainBoard, IsBoard, places}
 use Rattle.board_text.specs.declared.board.TheConstants.{MAX_LABELS}
 use Rattle.board_text.proofs.Cited.{label_is_place}
 use Rattle.classes.specs.Classes.{IsClass, put}
 use Rattle.classes.specs.Numbers.{ways, number_by_greatest, class_with}
-use Rattle.classes.proofs.Cited.{is-below, put-is, with-number}
+use Rattle.classes.proofs.Cited.{is-below, put-is, with-number, put-back, IsPart, part-of, remove-is}
 use Rattle.gap_values.specs.Inside.Sets.{HasLabel, AreSetsOf, IsTold, IsGapToldTo, IsOfRound}
 use Rattle.gap_values.specs.GapTables.{IsClosedBefore}
 use Rattle.gap_values.specs.RoundWords.{round_of_word}
 use Rattle.gap_values.specs.Inside.Words.{IsClosedUpTo}
-use Rattle.classes.proofs.Cited.{put-back, IsPart, part-of}
-use Rattle.classes.proofs.Cited.{remove-is}
 use Rattle.gap_values.proofs.Words.{before-from, before-to}
 
 -- ---- one gap

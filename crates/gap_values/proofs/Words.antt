@@ -9,11 +9,10 @@ use Rattle.positions.specs.declared.value.Value.TheVariants.{Finite, Forever}
 use Rattle.classes.specs.Classes.{IsClass, Falls, put, class_of}
 use Rattle.classes.specs.ClassGaps.{gap_at, member_with}
 use Rattle.classes.specs.Numbers.{number_by_greatest}
-use Rattle.classes.proofs.Cited.{class_of-class, put-is}
+use Rattle.classes.proofs.Cited.{class_of-class, put-is, falls-remove}
 use Rattle.gap_values.specs.GapTables.{IsClosedBefore, HasClosedGap}
 use Rattle.gap_values.specs.Inside.Words.{gap_table, word_without, least_word}
 use Rattle.gap_values.specs.RoundWords.{round_of_word}
-use Rattle.classes.proofs.Cited.{falls-remove}
 
 -- ---- the round of a word
 

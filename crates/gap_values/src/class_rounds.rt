@@ -1,6 +1,6 @@
 //! The rounds in which gaps close, by the values of classes.
 
-ghost use Rattle.std.specs.Prelude.{◌≡◌, ◌≤◌, ◌*◌, ◌-◌, ◌<◌, ℕ, IfOk, length, slice_index};
+ghost use Rattle.std.specs.Prelude.{◌≡◌, ◌≤◌, ◌*◌, ◌-◌, ◌<◌, IfOk};
 ghost use Rattle.board_text.specs.PlainBoard.{IsBoard, places};
 ghost use Rattle.classes.specs.Classes.{IsClass};
 ghost use Rattle.gap_values.specs.ClassValues.{AreClassValues};

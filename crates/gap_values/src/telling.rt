@@ -1,6 +1,6 @@
 //! Gaps that closed are told to the sets of closed gaps.
 
-ghost use Rattle.std.specs.Prelude.{◌≡◌, ◌*◌, ◌+◌, ◌-◌, ◌<◌, ◌≤◌, ℕ, IfOk, length};
+ghost use Rattle.std.specs.Prelude.{◌≡◌, ◌*◌, ◌+◌, ◌-◌, ◌<◌, ◌≤◌, IfOk, length};
 ghost use Rattle.board_text.specs.PlainBoard.{places};
 ghost use Rattle.classes.specs.ClassGaps.{member_with};
 ghost use Rattle.classes.specs.Numbers.{ways};

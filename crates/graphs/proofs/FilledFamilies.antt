@@ -1,10 +1,8 @@
 -- The entries of a gap's family in the table of the gaps in which classes are answers.
-use Rattle.std.proofs.Common.{◌≡◌, ◌≢◌, ℕ, suc, ◌+◌, ◌-◌, ◌<◌, ◌≤◌, ◌↔◌, inl, inr, refl, sym, ap, ◌∙◌, subst}
-use Rattle.std.proofs.Common.{arith}
-use Rattle.std.proofs.Common.{List, [], ◌∷◌, ◌++◌, length, get_or, take, true, MatchOption, Some, None, Option}
+use Rattle.std.proofs.Common.{◌≡◌, ◌≢◌, ℕ, suc, ◌+◌, ◌-◌, ◌<◌, ◌≤◌, ◌↔◌, inl, inr, refl, sym, ap, ◌∙◌, subst, arith}
+use Rattle.std.proofs.Common.{List, length, get_or, true, MatchOption, Some, None, Option}
 use Rattle.std.specs.List.{All, remove}
 use Rattle.std.proofs.lemmas.Bool.{cases_lt}
-use Rattle.std.proofs.lemmas.List.{take_more, take_all}
 use Rattle.std.proofs.lemmas.List.Edits.{length-remove, get_or-remove_below, get_or-remove_above}
 use Rattle.std.proofs.lemmas.List.Elements.{All-from_get_or, All-get_or}
 use Rattle.board_text.specs.PlainBoard.{PlainBoard, IsBoard, DominatesPlace, places}
@@ -83,18 +81,6 @@ label_in (Some d) = d.label
 pub one-label : (o : Option Dominator) (d e : Dominator) → o ≡ Some d → o ≡ Some e → d.label ≡ e.label
 unfolding label_in
 one-label o d e is also = ap label_in (sym is ∙ also)
-
--- a list copied before zeros, with one of them
-pub zero-behind : (class held : List ℕ) (index : ℕ) → index ≡ length held → length held < length class
-    → take index class ≡ take index held
-    → ((k : ℕ) → index ≤ k → get_or class k 0 ≡ 0) → take (suc (length held)) class ≡ held ++ (0 ∷ [])
-zero-behind class held index end room same zeros =
-    let one : suc (length held) ≡ length held + 1 = omega arith in
-    let front : take (length held) class ≡ held =
-    ap (λ n. take n class) (sym end) ∙ same ∙ take_all index held (omega arith) in
-    ap (λ n. take n class) one ∙ take_more class (length held) 0 room
-    ∙ ap (λ (l : List ℕ). l ++ (get_or class (length held) 0 ∷ [])) front
-    ∙ ap (λ n. held ++ (n ∷ [])) (zeros (length held) (omega arith))
 
 module _ (b : PlainBoard) (is : IsBoard b) where
   -- the bits of a gap's row are the labels that answer

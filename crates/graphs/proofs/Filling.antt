@@ -1,5 +1,5 @@
 -- The tables of a graph are filled.
-use Rattle.std.proofs.Common.{◌≡◌, ℕ, ◌+◌, ◌<◌, ◌≤◌, inl, inr, refl, arith, sym, ap, ◌∙◌, subst, List}
+use Rattle.std.proofs.Common.{◌≡◌, ℕ, ◌+◌, ◌<◌, ◌≤◌, inl, inr, arith, sym, ap, ◌∙◌, subst, List}
 use Rattle.std.proofs.Common.{length, slice_index, slice_set, get_or-set_other, get_or-set_same}
 use Rattle.std.proofs.Math.ListN.{length-set}
 use Rattle.std.proofs.lemmas.Bool.{cases_lt}
@@ -19,9 +19,6 @@ member-more a gap place member members low is before = λ v less. elim (cases_lt
       ap (slice_index (slice_set members place member)) here ∙ get_or-set_same members place member 0 low ∙ is
       ∙ ap (a.member gap) (sym here)
 ]
-
-pub noted-none : (a : PlainGraph) (gap : ℕ) (struck : List ℕ) → IsGapNoted a gap 0 struck struck
-noted-none a gap struck = record { same_length = refl; noted = λ v low. absurd (omega arith); others = λ x. inl refl }
 
 -- the places up to the next answer, and those after the last one, have nothing to note
 pub noted-to : (a : PlainGraph) (gap low high : ℕ) (old now : List ℕ) → IsGapNoted a gap low old now
@@ -57,14 +54,6 @@ noted-more a gap label rank old now is answer low n = record {
         let same = get_or-set_other now rank x gap 0 other in
         elim (n.others x) [ inl kept ↦ inl (same ∙ kept) | inr there ↦ inr (same ∙ there.0, there.1) ]
   ];
-}
-
-pub struck-none : (a : PlainGraph) (struck : List ℕ) → length struck ≡ a.configurations
-    → ((x : ℕ) → x < a.configurations → slice_index struck x ≡ a.gaps) → AreStruck a 0 struck
-struck-none a struck size all = record {
-  size = size;
-  settled = λ g v low. absurd (omega arith);
-  sound = λ x i. inl (all x i);
 }
 
 pub struck-more : (a : PlainGraph) → (gap : ℕ) (old now : List ℕ) → IsGapNoted a gap a.places old now

@@ -1,10 +1,9 @@
 -- Either graph of a board is a graph, and shows the board.
 use Rattle.std.proofs.Common.{◌≡◌, ◌-◌, ◌<◌, suc, subst, arith}
 use Rattle.std.proofs.Math.Nat.{one-le-pow}
-use Rattle.board_text.specs.PlainBoard.{places}
+use Rattle.board_text.specs.PlainBoard.{places, PlainBoard, IsBoard}
 use Rattle.board_text.proofs.Cited.{some_places}
 use Rattle.classes.specs.Numbers.{ways}
-use Rattle.board_text.specs.PlainBoard.{PlainBoard, IsBoard}
 use Rattle.graphs.specs.Graph.{IsGraph}
 use Rattle.graphs.specs.Numbered.{Numbered, GraphNumbering, Ordered, Classes}
 use Rattle.graphs.specs.Numbered.{graph_by, graph_of, configuration_by, configuration_of}

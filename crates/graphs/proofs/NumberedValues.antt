@@ -45,10 +45,6 @@ module _ (n : Numbered) (board : IsBoard n.board) where
       → HasValue n.board (configuration_of n x) Forever
   forever_of_lasts x i e = (forever-is n.board a (configuration_of n) is shows x i).0 e
 
-  pub lasts_of_forever : (x : ℕ) → x < a.configurations → HasValue n.board (configuration_of n x) Forever
-      → LastsForever a x
-  lasts_of_forever x i has = (forever-is n.board a (configuration_of n) is shows x i).1 has
-
 places-by : (k : GraphNumbering) (b : PlainBoard) → (graph_by k b).places ≡ places b
 unfolding graph_by
 places-by Ordered b = refl

@@ -14,8 +14,7 @@ use Rattle.classes.specs.ClassGaps.{gap_at, index_in}
 use Rattle.classes.proofs.PutPlaces.{falls-more, index-put, others-put}
 use Rattle.classes.proofs.Ways.{ways-one}
 use Rattle.classes.proofs.Cited.{is-below, with-is, with-number, class_of-class, class_of-own, one-gap, place-cancel}
-use Rattle.classes.proofs.Cited.{place-below}
-use Rattle.classes.proofs.Cited.{least-some, least-within, length-put, number-of-least, put-is, put-least}
+use Rattle.classes.proofs.Cited.{place-below, least-some, least-within, number-of-least, put-is, put-least}
 use Rattle.board_text.proofs.Cited.{label_is_place}
 use Rattle.graphs.specs.ClassGraph.{class_at, gap_class, gap_number, classes}
 use Rattle.graphs.specs.Struck.{struck_among}
@@ -88,14 +87,6 @@ some-place b is = label_is_place b 0 (let some = is.labels.0 in omega arith)
 pub put-zero : (b : PlainBoard) → IsBoard b → (list : List ℕ) → Falls (places b) list
     → put 0 list ≡ list ++ (0 ∷ [])
 put-zero b is list falls = put-least (places b) 0 list falls (least-some (places b) list (some-place b is))
-
-pub zero-class : (b : PlainBoard) → IsBoard b → (list class : List ℕ) → IsClass (places b) (length list) list
-    → class ≡ list ++ (0 ∷ []) → IsClass (places b) (length class) class
-zero-class b is list class own class_is =
-    let same : put 0 list ≡ class = put-zero b is list own.falls ∙ sym class_is in
-    subst (λ (l : List ℕ). IsClass (places b) (length l) l) same
-    (subst (λ n. IsClass (places b) n (put 0 list)) (sym (length-put 0 list))
-    (put-is (places b) (length list) 0 list own (some-place b is)))
 
 -- the gap of a place of the class with 0
 pub remove-zero : (b : PlainBoard) → IsBoard b → (list : List ℕ) (index : ℕ) → Falls (places b) list

@@ -1,19 +1,16 @@
 -- Words that become 0 where a configuration is stuck, part by part.
-use Rattle.std.proofs.Common.{◌≡◌, ◌≢◌, ◌⊎◌, ℕ, ◌+◌, ◌-◌, ◌<◌, ◌≤◌, inl, inr, refl, sym, ap, ◌∙◌, subst}
-use Rattle.std.proofs.Common.{arith}
-use Rattle.std.proofs.Common.{List, ◌++◌, length, get_or, set, take, drop}
+use Rattle.std.proofs.Common.{◌≡◌, ◌≢◌, ◌⊎◌, ℕ, ◌+◌, ◌-◌, ◌<◌, ◌≤◌, inl, inr, refl, sym, ap, ◌∙◌, subst, arith}
+use Rattle.std.proofs.Common.{List, ◌++◌, length, get_or, take, drop}
 use borrow.Rule.Slice.PartMut.{put_mid, post_of, same_len_mid}
 use Rattle.std.specs.List.{remove}
 use Rattle.std.proofs.lemmas.Bool.{cases_lt, cases_eq}
-use Rattle.std.proofs.lemmas.List.{length-set, get_or-set_same, get_or-set_other, get_or-append_right}
-use Rattle.std.proofs.lemmas.List.{get_or_append_left}
+use Rattle.std.proofs.lemmas.List.{get_or-append_right, get_or_append_left}
 use Rattle.std.proofs.lemmas.List.{length-take-le, length-drop, get_or-take, get_or-drop}
 use Rattle.std.proofs.lemmas.Slice.{drop-put_mid}
 use Rattle.board_text.specs.PlainBoard.{PlainBoard, IsBoard, places}
 use Rattle.classes.specs.Classes.{put}
 use Rattle.classes.specs.Numbers.{number_by_greatest, ways}
-use Rattle.classes.proofs.Cited.{least-some, least-within}
-use Rattle.classes.proofs.Cited.{place-below}
+use Rattle.classes.proofs.Cited.{least-some, least-within, place-below}
 use Rattle.graphs.specs.ClassGraph.{classes, gap_class}
 use Rattle.graphs.specs.Inside.Families.{family_start, family_size}
 use Rattle.graphs.specs.Stuck.{IsStuckBy, AreStuckZeroed, IsPartZeroed, AreZeroedWhere}
@@ -27,53 +24,6 @@ pub record AreZeroedTo (counts : List ℕ) (rest index : ℕ) (old new : List �
   pub same_length : length new ≡ length old
   pub zeroed : (v : ℕ) → v < index → get_or counts (rest + v) 0 ≡ 0 → get_or new v 0 ≡ 0
   pub others : (v : ℕ) → (get_or new v 0 ≡ get_or old v 0) ⊎ ((get_or new v 0 ≡ 0) × (get_or counts (rest + v) 0 ≡ 0))
-
-pub zeroed-none : (counts old : List ℕ) (rest : ℕ) → AreZeroedTo counts rest 0 old old
-zeroed-none counts old rest = record {
-  same_length = refl;
-  zeroed = λ v low none. absurd (omega arith);
-  others = λ v. inl refl;
-}
-
-pub zeroed-more : (counts old now : List ℕ) (rest index value : ℕ) → index < length now
-    → AreZeroedTo counts rest index old now
-    → ((get_or counts (rest + index) 0 ≡ 0) × (value ≡ 0)) ⊎ ((get_or counts (rest + index) 0 ≢ 0)
-    × (value ≡ get_or now index 0))
-    → AreZeroedTo counts rest (index + 1) old (set now index value)
-zeroed-more counts old now rest index value low z chosen = record {
-  same_length = length-set now index value ∙ z.same_length;
-  zeroed = λ v below none. elim (cases_eq v index) [
-    | inl here ↦ elim chosen [
-      | inl none_left ↦ ap (λ n. get_or (set now index value) n 0) here ∙ get_or-set_same now index value 0 low
-          ∙ none_left.1
-      | inr other ↦ absurd (other.0 (ap (λ n. get_or counts (rest + n) 0) (sym here) ∙ none))
-    ]
-    | inr differ ↦ get_or-set_other now index v value 0 differ ∙ z.zeroed v (omega (arith, differ)) none
-  ];
-  others = λ v. elim (cases_eq v index) [
-    | inl here ↦
-        let new : get_or (set now index value) v 0 ≡ value =
-        ap (λ n. get_or (set now index value) n 0) here ∙ get_or-set_same now index value 0 low in
-        elim chosen [
-          | inl none_left ↦ inr (new ∙ none_left.1, ap (λ n. get_or counts (rest + n) 0) here ∙ none_left.0)
-          | inr other ↦
-              let kept : get_or (set now index value) v 0 ≡ get_or now v 0 =
-              new ∙ other.1 ∙ ap (λ n. get_or now n 0) (sym here) in
-              elim (z.others v) [ inl same ↦ inl (kept ∙ same) | inr none_left ↦ inr (kept ∙ none_left.0, none_left.1) ]
-        ]
-    | inr differ ↦
-        let kept = get_or-set_other now index v value 0 differ in
-        elim (z.others v) [ inl same ↦ inl (kept ∙ same) | inr none_left ↦ inr (kept ∙ none_left.0, none_left.1) ]
-  ];
-}
-
-pub zeroed-all : (counts old new : List ℕ) (rest index : ℕ) → length old ≤ index
-    → AreZeroedTo counts rest index old new → AreZeroedWhere counts rest old new
-zeroed-all counts old new rest index all z = record {
-  same_length = z.same_length;
-  zeroed = λ v low none. z.zeroed v (omega arith) none;
-  others = λ v low. z.others v;
-}
 
 -- ---- a family
 
@@ -116,13 +66,6 @@ module _ (b : PlainBoard) (is : IsBoard b) (gap start : ℕ) (low : gap < ways (
         member = own-member b is gap v low (inside v below) ∙ ap (λ n. n + v) (sym start_is);
       },
     );
-  }
-
-  pub rests-none : (rests : List ℕ) → AreRestsZeroed b counts rests gap start 0 old old
-  rests-none rests = record {
-    same_length = refl;
-    zeroed = λ p v none below none_left. absurd (omega arith);
-    others = λ v below. inl refl;
   }
 
   module _ (rests : List ℕ) (are : (p : ℕ) → p < length h

@@ -1,7 +1,6 @@
 //! A game as numbers, and a table of the gaps in which they are answers.
 
-ghost use Rattle.std.specs.Prelude.{◌≡◌, ℕ, ◌<◌, ◌≤◌, drop, length, slice_index, MatchOption};
-ghost use Rattle.std.specs.Prelude.{IfOk};
+ghost use Rattle.std.specs.Prelude.{◌≡◌, ◌<◌, ◌≤◌, drop, length, MatchOption, IfOk};
 ghost use Rattle.board_text.specs.PlainBoard.{IsBoard};
 ghost use Rattle.positions.specs.Ranks.{configurations};
 ghost use Rattle.graphs.specs.Answers.{AreAnswerBits, AreMembers};

@@ -524,10 +524,6 @@ module _ (n l : ℕ) {room slots : ℕ} {lens nodes : List ℕ}
   size : len ≡ length (part (parts_of lens nodes) home)
   size = is_len ∙ cut-len c home len home-in
 
-  pub unlinked-some : 0 < len
-  unlinked-some =
-      (let e = size in let k = length-without node (part (parts_of lens nodes) home) in omega (arith, e, k, some))
-
   all-once : times node (concat (parts_of lens nodes)) ≤ 1
   all-once = s.once node
 

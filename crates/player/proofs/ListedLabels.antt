@@ -9,8 +9,7 @@ use Rattle.std.specs.Prelude.{All, AllPairs, Bool, Contains, Option, ifâ—Œthenâ—
 use Rattle.std.specs.Fmt.{decimal}
 use Rattle.board_text.specs.LineForms.{spaced_numbers}
 use Rattle.console.specs.Showing.{HasNoControl, IsMore, shown}
-use Rattle.console.proofs.Cited.{then_more}
-use Rattle.console.proofs.Cited.{plain_both}
+use Rattle.console.proofs.Cited.{then_more, plain_both}
 use Rattle.player.specs.Inside.Prompts.{listed_label_words}
 use Rattle.player.specs.declared.prompts.TheConstants.{MOST_LISTED}
 

@@ -1,12 +1,10 @@
 -- Words of nested boards as texts.
-use Rattle.std.proofs.Common.{◌≡◌, ℕ, suc, ◌/◌, ◌%◌, ◌^◌, List, [], ◌++◌, refl, ap, ◌∙◌, append_assoc, replicate}
+use Rattle.std.proofs.Common.{◌≡◌, ℕ, suc, ◌/◌, ◌%◌, ◌^◌, List, [], ◌++◌, refl, ap, ◌∙◌, append_assoc}
 use Rattle.std.specs.Prelude.{codes}
 use Rattle.std.specs.Fmt.{decimal}
 use Rattle.std.specs.List.{flat_map}
-use Rattle.board_text.specs.LineForms.{number_line}
-use Rattle.nested_cycles.specs.NestedGame.{PlainGame, plain_game}
 use Rattle.nested_cycles.specs.Words.{word_of}
-use Rattle.player.specs.Transcript.{digits_text, words_line, nested_opening_lines}
+use Rattle.player.specs.Transcript.{digits_text}
 
 -- the digits of a word, one after the other
 abbrev pub digits_of_word : ℕ → ℕ → List ℕ
@@ -32,9 +30,3 @@ pub some_text : (count rest number : ℕ) → count ≡ suc rest
     → digits_text (word_of count number) ≡ digits_of_word count number
 unfolding word_of
 some_text count rest number some = rw some refl
-
--- a text that began empty, with the words of a new game
-pub opening_text : (levels : ℕ) (game : PlainGame) (old words new : List ℕ) → old ≡ []
-    → game ≡ plain_game levels (replicate levels 0) → words ≡ game.words
-    → new ≡ old ++ (number_line (codes "levels") levels ++ words_line levels words) → new ≡ nested_opening_lines levels
-opening_text levels game old words new empty is of_game said = said ∙ rw (empty, of_game, is) refl

@@ -15,10 +15,9 @@ use Rattle.nested_cycles.specs.GoodWords.{NestedGood, label_words}
 use Rattle.nested_cycles.specs.Reply.{IsReply, NestedReply}
 use Rattle.nested_cycles.specs.NestedGame.{other_words}
 use Rattle.nested_cycles.proofs.Cited.{number_of_word, word_of-number_of, one_of_two_labels, each_other, pair_at}
-use Rattle.nested_cycles.proofs.Cited.{pairs_none, next_pair}
-use Rattle.nested_cycles.proofs.Cited.{no_pair, beats_exactly, good_have_reply, reply_beats, good_with, parts_after}
-use Rattle.nested_cycles.proofs.Cited.{fewer_others}
-use Rattle.nested_cycles.proofs.Cited.{others_are_good, others_are_labels, in_others, same_words_are_good}
+use Rattle.nested_cycles.proofs.Cited.{pairs_none, next_pair, no_pair, beats_exactly, good_have_reply, reply_beats}
+use Rattle.nested_cycles.proofs.Cited.{good_with, parts_after, fewer_others, others_are_good, others_are_labels}
+use Rattle.nested_cycles.proofs.Cited.{in_others, same_words_are_good}
 use Rattle.player.specs.NestedPlay.{IsNestedPlay, IsGoodConfiguration}
 use Rattle.player.specs.Transcript.{Standing, Going, Over, PersonClimbs, IsResponse, AreResponses, IsPlayed}
 

@@ -12,10 +12,9 @@ use Rattle.nested_cycles.proofs.Cited.{one_label}
 use Rattle.strategies.proofs.Cited.{same_answer, same_request}
 use Rattle.player.specs.Laws.{IsGame}
 use Rattle.player.specs.Transcript.{Game, PersonAsks, PersonAnswers, PersonClimbs, Standing, Going, Over, RepliesToLine}
-use Rattle.player.specs.Transcript.{Replies}
-use Rattle.player.specs.Transcript.{NestedReplies, Asks, BeginsPlay, IsResponse, AreResponses, IsPlayed, IsTranscript}
-use Rattle.player.specs.Transcript.{opening_lines, takes_line}
-use Rattle.player.specs.Transcript.{at_line, ask_line, stuck_line, stopped_line, word_text, words_line}
+use Rattle.player.specs.Transcript.{Replies, NestedReplies, Asks, BeginsPlay, IsResponse, AreResponses, IsPlayed}
+use Rattle.player.specs.Transcript.{IsTranscript, opening_lines, takes_line, at_line, ask_line, stuck_line}
+use Rattle.player.specs.Transcript.{stopped_line, word_text, words_line}
 use Rattle.player.specs.declared.end.PlayEnd.{PlayEnd}
 use Rattle.player.specs.declared.end.PlayEnd.TheVariants.{Stopped}
 use Rattle.player.proofs.RequestLines.{no_quit}

@@ -14,8 +14,7 @@ use Rattle.std.specs.Prelude.{Option}
 use Rattle.player.specs.Play.{Ends, HasEnded}
 use Rattle.player.specs.Laws.{KeepsToValue, HasReached, IsWithinValue, IsNoSooner, IsNoLater, IsStopped, EndsBestPlay}
 use Rattle.player.specs.Transcript.{Game, Standing, Going, Over, PersonAsks, PersonAnswers, PersonClimbs, BeginsPlay}
-use Rattle.player.specs.Transcript.{Asks, IsResponse, AreResponses}
-use Rattle.player.specs.Transcript.{IsPlayed, IsTranscript}
+use Rattle.player.specs.Transcript.{Asks, IsResponse, AreResponses, IsPlayed, IsTranscript}
 use Rattle.player.specs.declared.end.PlayEnd.{PlayEnd}
 use Rattle.player.specs.declared.end.PlayEnd.TheVariants.{Stuck, Stopped, NoStrategy}
 

@@ -1,7 +1,6 @@
 -- The reply to the line of a person who asks.
-use Rattle.std.proofs.Common.{◌≡◌, ◌≢◌, ℕ, ◌+◌, ◌≤◌, ◌<◌, ◌^◌, List, ◌++◌, inl, inr, refl, sym, ap, ◌∙◌, subst}
-use Rattle.std.proofs.Common.{Bool, arith}
-use Rattle.std.proofs.Common.{add-one}
+use Rattle.std.proofs.Common.{◌≡◌, ◌≢◌, ℕ, ◌+◌, ◌≤◌, ◌<◌, ◌^◌, List, ◌++◌, inl, inr, refl, sym, ap, ◌∙◌, subst, Bool}
+use Rattle.std.proofs.Common.{arith, add-one}
 use Rattle.std.specs.Prelude.{codes}
 use Rattle.std.specs.Fmt.{decimal}
 use Rattle.std.specs.Str.Parse.{AllDigits}
@@ -15,8 +14,7 @@ use Rattle.strategies.specs.Best.{IsBestAnswer}
 use Rattle.player.specs.Words.{quit_line}
 use Rattle.player.specs.Inside.Words.{Spells}
 use Rattle.player.specs.Transcript.{Standing, Going, Over, PersonAsks, BeginsPlay, RepliesToLine, Replies}
-use Rattle.player.specs.Transcript.{opening_lines, no_request_line}
-use Rattle.player.specs.Transcript.{stuck_line, takes_line, at_line}
+use Rattle.player.specs.Transcript.{opening_lines, no_request_line, stuck_line, takes_line, at_line}
 use Rattle.player.specs.Inside.PlayState.{PlayState}
 use Rattle.player.specs.Opened.{StandsAt}
 use Rattle.player.specs.declared.game.Opened.TheVariants.{Goes}

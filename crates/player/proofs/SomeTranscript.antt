@@ -16,12 +16,10 @@ use Rattle.player.specs.Words.{quit_line}
 use Rattle.player.specs.Laws.{IsGame}
 use Rattle.player.specs.NestedPlay.{IsNestedPlay, IsGoodConfiguration}
 use Rattle.player.specs.Transcript.{Game, PersonAsks, PersonAnswers, PersonClimbs, Standing, Going, Over, RepliesToLine}
-use Rattle.player.specs.Transcript.{Replies}
-use Rattle.player.specs.Transcript.{NestedReplies, Asks, BeginsPlay, IsResponse, AreResponses, IsPlayed, IsTranscript}
-use Rattle.player.specs.Transcript.{IsLegalLine}
-use Rattle.player.specs.Transcript.{opening_lines, takes_line, at_line, stuck_line, stopped_line, no_request_line}
-use Rattle.player.specs.Transcript.{no_answer_line}
-use Rattle.player.specs.Transcript.{word_text, words_line, nested_opening_lines}
+use Rattle.player.specs.Transcript.{Replies, NestedReplies, Asks, BeginsPlay, IsResponse, AreResponses, IsPlayed}
+use Rattle.player.specs.Transcript.{IsTranscript, IsLegalLine, opening_lines, takes_line, at_line, stuck_line}
+use Rattle.player.specs.Transcript.{stopped_line, no_request_line, no_answer_line, word_text, words_line}
+use Rattle.player.specs.Transcript.{nested_opening_lines}
 use Rattle.player.specs.declared.end.PlayEnd.{PlayEnd}
 use Rattle.player.specs.declared.end.PlayEnd.TheVariants.{Stuck, Stopped}
 use Rattle.player.proofs.AnswerLines.{some_legal_or_none, has_request, has_opening, finite_after}

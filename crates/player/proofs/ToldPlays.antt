@@ -1,7 +1,7 @@
 -- What a person is told in a play, line by line.
 use Rattle.std.proofs.Common.{◌≡◌, ℕ, ◌<◌, Bool, true, false, List, [], ◌∷◌, ◌++◌}
 use Rattle.std.proofs.Common.{inl, inr, refl, sym, ap, ◌∙◌, subst, append-nil, append_assoc, length}
-use Rattle.std.specs.Prelude.{Option, Result, Ok, Err, IfErr}
+use Rattle.std.specs.Prelude.{Option, Result, Ok, Err}
 use Rattle.std.specs.Io.KnownBytes.{Appends}
 use Rattle.board_text.specs.Streams.{AppendsAll, AppendsPrefix, AreAsBefore, Bytes}
 use Rattle.board_text.proofs.Cited.{between}
@@ -10,13 +10,10 @@ use Rattle.player.specs.Inside.Prompts.{IsToldHere, IsToldAtEnd, greeting_if, hi
 use Rattle.player.specs.Inside.LineInput.{GivesNoLine, Unread}
 use Rattle.player.specs.Inside.Steps.{FailsToWrite}
 use Rattle.player.specs.Play.{BreaksOff, Ends, GoesOnOrEnds, HasEnded}
-use Rattle.player.specs.Prompts.{ArePrompts, AreToldResponses, EndsAfter, EndsBefore, HasValueIn}
-use Rattle.player.specs.Prompts.{IsPlayedAndTold, hint_after}
-use Rattle.player.specs.Prompts.{IsToldAt}
-use Rattle.player.specs.Prompts.{IsToldIn, IsToldLast, NearlyTells, Telling, TellsBefore, greeting_of, shown_line}
-use Rattle.player.specs.Prompts.{start_of, told_from, told_play}
-use Rattle.player.specs.Transcript.{AreResponses, BeginsPlay, Game, Going, IsPlayed, IsResponse, Over}
-use Rattle.player.specs.Transcript.{Standing}
+use Rattle.player.specs.Prompts.{ArePrompts, AreToldResponses, EndsAfter, EndsBefore, HasValueIn, IsPlayedAndTold}
+use Rattle.player.specs.Prompts.{hint_after, IsToldAt, IsToldIn, IsToldLast, NearlyTells, Telling, TellsBefore}
+use Rattle.player.specs.Prompts.{greeting_of, shown_line, start_of, told_from, told_play}
+use Rattle.player.specs.Transcript.{AreResponses, BeginsPlay, Game, Going, IsPlayed, IsResponse, Over, Standing}
 use Rattle.player.specs.declared.end.PlayEnd.{PlayEnd}
 use Rattle.player.specs.declared.end.PlayFault.{PlayFault}
 use Rattle.player.specs.declared.end.PlayFault.TheVariants.{Read, Write, Memory, Limit}
@@ -29,12 +26,6 @@ use Rattle.player.proofs.WrittenPlay.{brings_more, no_line}
 
 -- the replies without what is told
 module _ (game : Game) where
-  pub responses : (from : Standing) (lines : List (List ℕ)) (text told : List ℕ) (to : Standing)
-      → AreToldResponses game from lines text told to → AreResponses game from lines text to
-  responses from [] text told to (none, here, same) = (none, same)
-  responses from (line ∷ lines) text told to (said, more, prompt, later, next, here, is, rest, text_is, told_is) =
-      (said, more, next, is, responses next lines more later to rest, text_is)
-
   pub told_more : (from : Standing) (lines : List (List ℕ)) (line text said told prompt : List ℕ) (to next : Standing)
       → AreToldResponses game from lines text told to → IsResponse game to line said next
       → IsToldAt game next prompt
@@ -148,13 +139,6 @@ module _ (telling : Telling) (left taken last : Bytes) (told : List ℕ) where
   near IsRight Memory fails breaks = breaks
   near IsRight Read fails breaks = absurd fails
   near IsRight Limit fails breaks = absurd fails
-
-  pub near_if : (IsRight : List ℕ → Type 0) (result : Result PlayEnd PlayFault)
-      → IfErr result (FailsToWrite last IsRight)
-      → IfErr result (BreaksOff (NearlyTells telling left told) left taken)
-      → IfErr result (λ fault. BreaksOff (TellsBefore fault telling left told) left taken fault)
-  near_if IsRight (Ok end) fails breaks = tt
-  near_if IsRight (Err fault) fails breaks = near IsRight fault fails breaks
 
 -- no line came
 pub unread_told : (telling : Telling) (left_old left_now left_new : Option (List ℕ)) (taken : Bytes)

@@ -16,9 +16,8 @@ use Rattle.positions.specs.declared.value.Value.TheVariants.{Finite, Forever}
 use Rattle.strategies.specs.Best.{IsBestRequest, IsLess}
 use Rattle.player.specs.Play.{BreaksOff, HasEnded}
 use Rattle.console.specs.Showing.{shown}
-use Rattle.player.specs.Transcript.{Game, PersonAsks, PersonAnswers, PersonClimbs}
-use Rattle.player.specs.Transcript.{Standing, Going, Over, BeginsPlay, AreResponses, IsPlayed}
-use Rattle.player.specs.Transcript.{IsResponse}
+use Rattle.player.specs.Transcript.{Game, PersonAsks, PersonAnswers, PersonClimbs, Standing, Going}
+use Rattle.player.specs.Transcript.{Over, BeginsPlay, AreResponses, IsPlayed, IsResponse}
 use Rattle.player.specs.declared.end.PlayEnd.{PlayEnd}
 use Rattle.player.specs.declared.end.PlayEnd.TheVariants.{Stuck, Stopped, NoStrategy}
 use Rattle.player.specs.declared.end.PlayFault.{PlayFault}

@@ -1,6 +1,6 @@
 //! Plays on nested boards that are never built, with a person who is the adversary.
 
-ghost use Rattle.std.specs.Prelude.{◌≡◌, ◌+◌, ◌<◌, ◌^◌, ℕ, List, replicate, false, IfOk, IfErr};
+ghost use Rattle.std.specs.Prelude.{◌≡◌, ◌+◌, ◌<◌, ◌^◌, ℕ, replicate, false, IfOk, IfErr};
 ghost use Rattle.std.specs.Prelude.{string_bytes};
 ghost use Rattle.board_text.specs.Ranges.{InRange};
 ghost use Rattle.nested_cycles.specs.NestedGame.{plain_game};

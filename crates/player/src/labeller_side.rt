@@ -1,7 +1,7 @@
 //! Plays in which the person is the labeller.
 
 ghost use Rattle.std.specs.Prelude.{◌≡◌, ◌↔◌, ◌+◌, ◌<◌, ◌≤◌, ◌^◌, ◌++◌, ℕ, List, false, None, IfOk};
-ghost use Rattle.std.specs.Prelude.{IfErr, OnOk, string_bytes, true};
+ghost use Rattle.std.specs.Prelude.{IfErr, string_bytes, true};
 ghost use Rattle.std.specs.Fmt.{decimal};
 ghost use Rattle.board_text.specs.Domination.{has_bit};
 ghost use Rattle.board_text.specs.PlainBoard.{IsBoard, IsConfiguration};

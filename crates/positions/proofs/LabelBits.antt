@@ -1,8 +1,7 @@
 -- Sets of labels as bits.
 use Rattle.std.proofs.Common.{◌≡◌, ◌≢◌, ℕ, ◌+◌, ◌-◌, ◌*◌, ◌/◌, ◌%◌, ◌^◌, ◌<◌, ◌≤◌, ◌↔◌, min, max, nat_eq, bit_and}
 use Rattle.std.proofs.Common.{bit_or, ◌⊎◌, true, List, length, get_or, set, replicate, Some, refl, sym, ap, ◌∙◌, subst}
-use Rattle.std.proofs.Common.{inl}
-use Rattle.std.proofs.Common.{inr, arith}
+use Rattle.std.proofs.Common.{inl, inr, arith}
 use Rattle.std.specs.Int.{bit_at, bit_not, w64, trailing_zeros}
 use Rattle.std.specs.Int.Count.{ones}
 use Rattle.std.proofs.lemmas.Bool.{cases_eq, cases_lt, eqb-true, eq-eqb}
@@ -10,9 +9,8 @@ use Rattle.std.proofs.lemmas.List.{get_or_past, get_or-replicate, get_or-set_sam
 use Rattle.std.proofs.lemmas.List.{length-replicate}
 use Rattle.std.proofs.lemmas.Nat.{one_shl}
 use Rattle.std.proofs.lemmas.Nat.Bits.{bit_at_set_same, bit_at_set_other, bit_at-zero, bit_at_and, bit_at_or, bit_at-lt}
-use Rattle.std.proofs.lemmas.Nat.Bits.{bit_at_not}
-use Rattle.std.proofs.lemmas.Nat.Bits.{bit_at_ones, bit_at_ones_above, bit_at_mask_inside, bit_at_mask_below}
-use Rattle.std.proofs.lemmas.Nat.Bits.{bit_at-trailing_zeros, ones_shl}
+use Rattle.std.proofs.lemmas.Nat.Bits.{bit_at_not, bit_at_ones, bit_at_ones_above, bit_at_mask_inside}
+use Rattle.std.proofs.lemmas.Nat.Bits.{bit_at_mask_below, bit_at-trailing_zeros, ones_shl}
 use Rattle.board_text.specs.Domination.{has_bit}
 use Rattle.board_text.specs.declared.board.TheConstants.{MAX_LABELS}
 use Rattle.positions.specs.Counts.{HasSize, IsSmallest}

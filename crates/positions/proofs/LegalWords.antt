@@ -1,7 +1,6 @@
 -- Words whose bits tell which labels dominate places.
 use Rattle.std.proofs.Common.{◌≡◌, ℕ, ◌+◌, ◌-◌, ◌*◌, ◌^◌, ◌<◌, ◌≤◌, ◌↔◌, true, min, nat_eq, bit_and, List}
-use Rattle.std.proofs.Common.{length, get_or, set}
-use Rattle.std.proofs.Common.{sym, ◌∙◌, subst, inl, inr, arith}
+use Rattle.std.proofs.Common.{length, get_or, set, sym, ◌∙◌, subst, inl, inr, arith}
 use Rattle.std.specs.Int.{bit_at}
 use Rattle.std.proofs.lemmas.Bool.{cases_eq, cases_lt, eqb-true, eq-eqb}
 use Rattle.std.proofs.lemmas.List.{length-set, get_or-set_same, get_or-set_other}
@@ -38,17 +37,17 @@ all_set board places place label low = (
   λ all. bit_at_ones 64 label low,
 )
 
--- the labels that dominate a place, from the row of those that dominate a label
-pub row_word : (board : PlainBoard) (row : List ℕ) (place : ℕ) → place < board.labels
-    → ((x : ℕ) → x < MAX_LABELS → (has_bit row x ≡ true) ↔ Dominates board x place)
-    → AreBitsOf (λ label. DominatesPlace board label place) (get_or row 0 0)
-row_word board row place is_label beaten label low =
+-- the labels that dominate a place, from the bits of those that dominate a label
+pub row_word : (board : PlainBoard) (bits : List ℕ) (place : ℕ) → place < board.labels
+    → ((x : ℕ) → x < MAX_LABELS → (has_bit bits x ≡ true) ↔ Dominates board x place)
+    → AreBitsOf (λ label. DominatesPlace board label place) (get_or bits 0 0)
+row_word board bits place is_label beaten label low =
     let same : 64 * 0 + label ≡ label = omega arith in
-    let bit = subst (λ x. has_bit row x ≡ nat_eq (bit_at (get_or row 0 0) label) 1) same
-    (bit_of_word row 0 label low) in
+    let bit = subst (λ x. has_bit bits x ≡ nat_eq (bit_at (get_or bits 0 0) label) 1) same
+    (bit_of_word bits 0 label low) in
     let small : label < MAX_LABELS = omega arith in (
-      λ set held. (beaten label small).0 (bit ∙ eq-eqb (bit_at (get_or row 0 0) label) 1 set),
-      λ dominates. eqb-true (bit_at (get_or row 0 0) label) 1 (sym bit ∙ (beaten label small).1 (dominates is_label)),
+      λ set held. (beaten label small).0 (bit ∙ eq-eqb (bit_at (get_or bits 0 0) label) 1 set),
+      λ dominates. eqb-true (bit_at (get_or bits 0 0) label) 1 (sym bit ∙ (beaten label small).1 (dominates is_label)),
     )
 
 pub blank_word : (board : PlainBoard) (place : ℕ) → board.labels ≤ place

@@ -6,8 +6,7 @@ use Rattle.positions.specs.Claim.{Holds, HoldsAt}
 use Rattle.proof_text.specs.Positions.{class_positions}
 use Rattle.proof_text.specs.Proof.{PlainProof}
 use Rattle.proof_text.specs.Rules.{BreaksNoRule}
-use Rattle.symmetries.proofs.Cited.{arranged_keeps_values, arranged_too}
-use Rattle.symmetries.proofs.Cited.{claim_holds as claim_holds_over}
+use Rattle.symmetries.proofs.Cited.{arranged_keeps_values, arranged_too, claim_holds as claim_holds_over}
 
 pub claim_holds : (board : PlainBoard) (proof : PlainProof) (configuration : List ℕ)
     → IsConfiguration board board.start

@@ -1,7 +1,6 @@
 -- If no two rows are for one configuration, the first row of a configuration is the row.
 use Rattle.std.proofs.Common.{◌≡◌, ◌≢◌, ℕ, ◌<◌, Bool, true, true≢false, nat_eq, List, length, get_or, Some, IsSome}
-use Rattle.std.proofs.Common.{is_some, slice_get, sym}
-use Rattle.std.proofs.Common.{ap, ◌∙◌, arith, inl, inr}
+use Rattle.std.proofs.Common.{is_some, slice_get, sym, ap, ◌∙◌, arith, inl, inr}
 use Rattle.std.specs.List.{AllPairs, Contains, find, position_or_len}
 use Rattle.std.proofs.lemmas.Bool.{false_from_ne_true}
 use Rattle.std.proofs.lemmas.List.Folds.{find_at}

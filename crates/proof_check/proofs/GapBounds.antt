@@ -1,15 +1,12 @@
 -- Numbers above those of the rows of all results of a request, by its gap.
-use Rattle.std.proofs.Common.{◌≡◌, ℕ, ◌<◌, ◌≤◌, List, length, slice_set, slice_index, subst, sym, ap, ◌∙◌, arith}
-use Rattle.std.proofs.Common.{get_or-set_other, get_or-set_same, inl, inr}
-use Rattle.std.proofs.lemmas.Bool.{cases_eq}
-use Rattle.std.proofs.lemmas.List.{length-set}
+use Rattle.std.proofs.Common.{ℕ, ◌<◌, ◌≤◌, List, arith}
 use Rattle.board_text.specs.PlainBoard.{PlainBoard, IsConfiguration}
 use Rattle.positions.specs.Game.{Legal, moved}
 use Rattle.positions.specs.Gaps.{gap_of}
 use Rattle.positions.specs.LabelWalk.{Walk}
 use Rattle.positions.specs.Table.{RequestRow}
 use Rattle.positions.proofs.Cited.{legal_is_answer, member_of-gap_of}
-use Rattle.proof_check.specs.Inside.GapBounds.{AreBounds, IsBound}
+use Rattle.proof_check.specs.Inside.GapBounds.{IsBound}
 use Rattle.proof_check.specs.declared.gap_bounds.TheConstants.{NO_BOUND}
 use Rattle.proof_check.proofs.AdversarySteps.{AreMetBefore}
 use Rattle.proof_text.specs.Rules.{IsListedBelow}
@@ -53,19 +50,3 @@ module _ (board : PlainBoard) (rows : List RequestRow) (configuration : List ℕ
   served_by_gap is_bound small label legal =
       rw (← member_of-gap_of board configuration pebble label is inside)
       (is_bound small label ((legal_is_answer board configuration pebble label is inside).0 legal))
-
--- the bound of a gap is known
-pub bounds_more : (board : PlainBoard) (rows : List RequestRow) (bounds : List ℕ) (gap bound : ℕ)
-    → AreBounds board rows bounds → IsBound board rows gap bound → AreBounds board rows (slice_set bounds gap bound)
-bounds_more board rows bounds gap bound are is at inside =
-    let size : length (slice_set bounds gap bound) ≡ length bounds = length-set bounds gap bound in
-    elim (cases_eq at gap) [
-      | inl same ↦
-          let within : gap < length bounds = omega (arith, inside, size, same) in
-          subst (IsBound board rows at)
-          (sym (ap (slice_index (slice_set bounds gap bound)) same ∙ get_or-set_same bounds gap bound 0 within))
-          (subst (λ g. IsBound board rows g bound) (sym same) is)
-      | inr differs ↦
-          subst (IsBound board rows at) (sym (get_or-set_other bounds gap at bound 0 differs))
-          (are at (omega (arith, inside, size)))
-    ]

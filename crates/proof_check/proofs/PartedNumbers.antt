@@ -1,7 +1,6 @@
 -- Numbers cut into parts by their values, and searched in one.
 use Rattle.std.proofs.Common.{◌≡◌, ℕ, ◌+◌, ◌*◌, ◌/◌, ◌^◌, ◌-◌, ◌<◌, ◌≤◌, List, [], ◌∷◌, ◌++◌, length, get_or, take}
-use Rattle.std.proofs.Common.{drop}
-use Rattle.std.proofs.Common.{zero, suc, sym, ap, ◌∙◌, subst, arith, inl, inr}
+use Rattle.std.proofs.Common.{drop, zero, suc, sym, ap, ◌∙◌, subst, arith, inl, inr}
 use Rattle.std.proofs.Math.Nat.{div-mul-le_self, div-le_of_le-mul, le_trans, pow-succ'}
 use Rattle.std.proofs.lemmas.Nat.{le-div, pow_pos}
 use Rattle.std.proofs.lemmas.Bool.{cases_lt}
@@ -16,32 +15,7 @@ parts_ascend : (shift a b : ℕ) → a ≤ b → a / 2 ^ shift ≤ b / 2 ^ shift
 parts_ascend shift a b le =
     le-div (a / 2 ^ shift) b (2 ^ shift) (pow_pos shift) (le_trans (div-mul-le_self a (2 ^ shift)) le)
 
--- ---- the start of a part
-
-pub start_here : (numbers : List ℕ) (shift part start : ℕ) → Ascends numbers → start < length numbers
-    → ((place : ℕ) → place < start → get_or numbers place 0 / 2 ^ shift < part)
-    → part ≤ get_or numbers start 0 / 2 ^ shift → IsPartStart numbers shift part start
-start_here numbers shift part start ascends low before here = record {
-  within = omega (arith, low);
-  before = before;
-  after = λ place past inside.
-      le_trans here
-      (parts_ascend shift (get_or numbers start 0) (get_or numbers place 0) (ascends start place past inside));
-}
-
-pub start_at_end : (numbers : List ℕ) (shift part start : ℕ) → start ≡ length numbers
-    → ((place : ℕ) → place < start → get_or numbers place 0 / 2 ^ shift < part)
-    → IsPartStart numbers shift part start
-start_at_end numbers shift part start end before = record {
-  within = omega (arith, end);
-  before = before;
-  after = λ place past inside. absurd (omega (arith, end, past, inside));
-}
-
 -- ---- the starts of all parts
-
-pub starts_none : (numbers : List ℕ) (shift : ℕ) → AreStarts numbers shift []
-starts_none numbers shift part low = absurd (omega (arith, low))
 
 pub starts_more : (numbers : List ℕ) (shift start : ℕ) (starts : List ℕ) → AreStarts numbers shift starts
     → IsPartStart numbers shift (length starts) start → AreStarts numbers shift (starts ++ start ∷ [])
@@ -137,13 +111,6 @@ pub none_after : (numbers : List ℕ) (shift number : ℕ) (starts : List ℕ) �
 none_after numbers shift number starts are past place low is =
     let below = are.all place low in
     omega (arith, below, past, ap (λ (n : ℕ). n / 2 ^ shift) is)
-
--- the last number is no smaller than any
-pub up_to_last : (numbers : List ℕ) (last : ℕ) → Ascends numbers → 0 < length numbers
-    → last ≡ get_or numbers (length numbers - 1) 0 → AreUpTo numbers last
-up_to_last numbers last ascends some is place low =
-    let up = ascends place (length numbers - 1) (omega (arith, low)) (omega (arith, some)) in
-    omega (arith, up, is)
 
 pub parts_below : (numbers : List ℕ) (shift last : ℕ) → AreUpTo numbers last
     → AreBelow numbers shift (last / 2 ^ shift + 1)

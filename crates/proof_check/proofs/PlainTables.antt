@@ -9,8 +9,7 @@ use Rattle.positions.specs.Claim.{Shows}
 use Rattle.positions.specs.Game.{moved}
 use Rattle.positions.specs.Table.{AnswerRow, RequestRow, Answers, AnswersAll, Leads, Requests, StopsAfter}
 use Rattle.proof_text.specs.Positions.{configuration_positions}
-use Rattle.proof_check.specs.PositionTables.{AnswersAllOver, AnswersOver, PlaysOver, RequestsOver, ShowsOver}
-use Rattle.proof_check.specs.PositionTables.{StopsOver}
+use Rattle.proof_check.specs.PositionTables.{AnswersAllOver, AnswersOver, PlaysOver, RequestsOver, ShowsOver, StopsOver}
 use lib.Pointwise.{pointwise}
 
 module _ (board : PlainBoard) where

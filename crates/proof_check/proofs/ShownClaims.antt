@@ -1,6 +1,5 @@
 -- A document that breaks no rule shows its claim.
-use Rattle.std.proofs.Common.{◌≡◌, ℕ, ◌<◌, ◌≤◌, List, suc, length, map, get_or, take, refl, ap, ◌∙◌}
-use Rattle.std.proofs.Common.{subst, arith}
+use Rattle.std.proofs.Common.{◌≡◌, ℕ, ◌<◌, ◌≤◌, List, suc, length, map, get_or, take, refl, ap, ◌∙◌, subst, arith}
 use Rattle.std.specs.List.{All, AllPairs}
 use Rattle.std.proofs.lemmas.List.{length-map, get_or-map, get_or-take}
 use Rattle.board_text.specs.PlainBoard.{PlainBoard, IsBoard, IsConfiguration}

@@ -1,7 +1,6 @@
 //! The rows of a document by the numbers of their arranged places.
 
 ghost use Rattle.std.specs.Prelude.{◌≡◌, ℕ, List, IfOk, MatchOption};
-ghost use Rattle.std.specs.List.{All};
 ghost use Rattle.board_text.specs.PlainBoard.{IsBoard, IsConfiguration};
 ghost use Rattle.proof_text.specs.Arranged.{document_number};
 ghost use Rattle.proof_text.specs.Documents.{IsClassDocument};

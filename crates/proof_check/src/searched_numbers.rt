@@ -2,9 +2,8 @@
 
 ghost use Rattle.std.specs.Prelude.{◌≡◌, ℕ, ◌+◌, ◌/◌, ◌^◌, ◌<◌, ◌≤◌, length, get_or, IfOk};
 ghost use Rattle.std.specs.Prelude.{MatchOption};
-ghost use Rattle.proof_check.specs.Inside.PartedNumbers.{Ascends, AreBelow, AreStarts};
-ghost use Rattle.proof_check.specs.Inside.PartedNumbers.{AreUpTo, IsPlace, IsPartStart};
-ghost use Rattle.proof_check.specs.Inside.PartedNumbers.{LacksNumber};
+ghost use Rattle.proof_check.specs.Inside.PartedNumbers.{Ascends, AreBelow, AreStarts, AreUpTo};
+ghost use Rattle.proof_check.specs.Inside.PartedNumbers.{IsPlace, IsPartStart, LacksNumber};
 
 use board_text::Memory;
 use std::alloc::Global;

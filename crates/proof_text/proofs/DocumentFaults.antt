@@ -8,8 +8,7 @@ use Rattle.proof_text.specs.declared.fault.ProofKind.TheVariants as kinds
 use Rattle.proof_text.specs.Documents.{IsDocumentIn, text_before_end, text_of}
 use Rattle.proof_text.specs.Proof.{Sections, IsClaim}
 use Rattle.proof_text.specs.ProofFaults.{Reading, answers_read, requests_read, LabellerFault, AdversaryFault}
-use Rattle.proof_text.specs.ProofFaults.{HasFaultOf}
-use Rattle.proof_text.specs.ProofFaults.{end_number}
+use Rattle.proof_text.specs.ProofFaults.{HasFaultOf, end_number}
 use Rattle.proof_text.specs.ProofText.{claim_words, claim_line, first_two_lines}
 use Rattle.proof_text.specs.RowForm.{text_of_section, lines_of_section}
 use Rattle.proof_text.specs.SectionFaults.{InSection}

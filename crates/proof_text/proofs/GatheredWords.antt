@@ -13,7 +13,7 @@ use Rattle.std.proofs.lemmas.List.{get_or_push}
 use Rattle.std.proofs.lemmas.Str.{IsUtf8-append}
 use Rattle.std.proofs.lemmas.Str.Ascii.{IsAscii-cons, IsAscii-nil}
 use Rattle.board_text.specs.PlaceForms.{place_word}
-use Rattle.board_text.proofs.PlaceLemmas.{blank_word, label_word}
+use Rattle.board_text.proofs.PlaceLemmas.{blank_word}
 use Rattle.board_text.proofs.WrittenNumbers.{decimal_one, decimal_more}
 use Rattle.proof_text.specs.declared.row_text.Word.{Word}
 use Rattle.proof_text.specs.Inside.RowText.{IsWordWith, ArePlaceWords, IsGathered}
@@ -67,32 +67,6 @@ word_three n many few =
 pub record AreLabelWords (labels count : ℕ) (words : List Word) : Type 0 where
   pub many : length words ≡ count
   pub each : (place : ℕ) (d : Word) → place < count → IsWordWith (32 ∷ place_word labels place) (get_or words place d)
-
-pub labels_begin : (labels : ℕ) (words : List Word) → words ≡ [] → AreLabelWords labels 0 words
-labels_begin labels words none = record {
-  many = ap length none;
-  each = λ place d low. absurd (omega arith);
-}
-
-pub labels_more : (labels count : ℕ) (words : List Word) (word : Word) → count < labels
-    → AreLabelWords labels count words → IsWordWith (32 ∷ decimal count) word
-    → AreLabelWords labels (count + 1) (words ++ word ∷ [])
-labels_more labels count words word low are is =
-    let many : length words ≡ count = are.many in
-    record {
-      many = length_push words word ∙ omega arith;
-      each = λ place d below. elim (cases_lt place count) [
-        | inl before ↦ subst (IsWordWith (32 ∷ place_word labels place))
-            (sym (get_or_append_left words (word ∷ []) d place (omega arith))) (are.each place d before)
-        | inr last ↦
-            let same : place ≡ count = omega arith in
-            let text : 32 ∷ decimal count ≡ 32 ∷ place_word labels place =
-            ap (λ (ds : List ℕ). 32 ∷ ds)
-            (sym (ap (place_word labels) same ∙ label_word labels count (λ e. omega (arith, e, low)))) in
-            subst (IsWordWith (32 ∷ place_word labels place)) (sym (get_or_push words word d place (omega arith)))
-            (subst (λ t. IsWordWith t word) text is)
-      ];
-    }
 
 abbrev blank : Word
 blank = record { bytes = 32 ∷ 45 ∷ 32 ∷ 32 ∷ []; size = 2 }

@@ -18,9 +18,8 @@ use Rattle.proof_text.specs.ProofFaults.{AdversaryFault, HasFaultOf, HasProofFau
 use Rattle.proof_text.specs.ProofFaults.{HasSymmetryTextFault, HasSymmetriesFault}
 use Rattle.proof_text.specs.ProofFaults.{Reading, answers_read, requests_read, read_by_configurations, read_by_classes}
 use Rattle.proof_text.specs.ProofFaults.{end_number, maps_read, read_by_symmetries}
-use Rattle.proof_text.specs.ProofText.{claim_line, first_two_lines, proof_text, class_text, symmetry_text}
-use Rattle.proof_text.specs.ProofText.{maps_text, symmetries_text, proof_version_line, class_version_line}
-use Rattle.proof_text.specs.ProofText.{symmetry_version_line}
+use Rattle.proof_text.specs.ProofText.{claim_line, first_two_lines, proof_text, class_text, symmetry_text, maps_text}
+use Rattle.proof_text.specs.ProofText.{symmetries_text, proof_version_line, class_version_line, symmetry_version_line}
 use Rattle.proof_text.specs.RowForm.{text_of_section, lines_of_section}
 use Rattle.proof_text.specs.SymmetryProof.{PlainSymmetryProof}
 use Rattle.proof_text.specs.Versions.{Version, with_head}

@@ -12,10 +12,9 @@ use Rattle.proof_text.specs.declared.proof.TheConstants.{MAX_TURNS}
 use Rattle.proof_text.specs.Proof.{AreTurns}
 use Rattle.proof_text.specs.ProofText.{turns_text}
 use Rattle.proof_text.specs.RowWords.{AnswerWords, RequestWords, AreAnswerWords, AreRequestWords}
-use Rattle.proof_text.specs.RowWords.{answer_words_line, request_words_line}
-use Rattle.proof_text.specs.RowWords.{ClassRequestWords, AreClassRequestWords}
-use Rattle.proof_text.specs.RowWords.{class_request_words_line}
-use Rattle.proof_text.specs.RowWords.{AreMapWords, map_words_line}
+use Rattle.proof_text.specs.RowWords.{answer_words_line, request_words_line, ClassRequestWords}
+use Rattle.proof_text.specs.RowWords.{AreClassRequestWords, class_request_words_line, AreMapWords}
+use Rattle.proof_text.specs.RowWords.{map_words_line}
 
 -- a labeller's row with these words stands here
 abbrev pub HasAnswerWords : PlainBoard → List ℕ → AnswerWords → Type 0

@@ -4,8 +4,7 @@ ghost use Rattle.std.specs.Prelude.{◌≡◌, ◌<◌, ◌≤◌, ◌++◌, OnO
 ghost use Rattle.board_text.specs.PlainBoard.{PlainBoard, IsBoard, places as places_of};
 ghost use Rattle.positions.specs.declared.claim.Claim.{Claim as ClaimData};
 ghost use Rattle.proof_text.specs.SectionFaults.{RowReading};
-ghost use Rattle.proof_text.specs.Inside.Rows.{NextRow, AreKindsOfRows, IsLeast};
-ghost use Rattle.proof_text.specs.Inside.Rows.{TakesAnswer};
+ghost use Rattle.proof_text.specs.Inside.Rows.{NextRow, AreKindsOfRows, IsLeast, TakesAnswer};
 
 use crate::class_proof::{LabellerClassRow, MAX_CLASS_ROWS};
 use crate::fault::ProofKind;

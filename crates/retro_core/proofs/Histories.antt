@@ -7,8 +7,7 @@ use Rattle.index_lists.specs.Lists.{times}
 use Rattle.index_lists.proofs.Cited.{cond_same, cond_other, times-append, times-here, times-later}
 use Rattle.solver.specs.Solving.{Solving, IsSolving}
 use Rattle.retro_core.specs.Round.{PlainSeat, Round, spent_seat, seat_at, all_won, IsLawful, IsOpening, first_of}
-use Rattle.retro_core.specs.Round.{seat_struck, seat_tried, first_is_open}
-use Rattle.retro_core.specs.Round.{seat_kept, seat_new, seat_joined}
+use Rattle.retro_core.specs.Round.{seat_struck, seat_tried, first_is_open, seat_kept, seat_new, seat_joined}
 use Rattle.retro_core.specs.declared.step.Step.{Step}
 use Rattle.retro_core.specs.declared.step.Step.TheVariants as steps
 use Rattle.retro_core.specs.declared.step.Seen.{Seen}

@@ -18,9 +18,8 @@ use Rattle.graphs.proofs.Cited.{next-fails, tree_of_lasts, lasts_of_value}
 use Rattle.solver.specs.Solving.{Solving, IsSolving, AnswerLasts, to_strike}
 use Rattle.solver.specs.Words.{value_of_word, AreFirstCounts, AreFirstValues}
 use Rattle.retro_core.specs.Round.{PlainSeat, Round, spent_seat, seat_at, all_todo, all_owed, all_won, IsDue, IsLawful}
-use Rattle.retro_core.specs.Round.{round_of}
-use Rattle.retro_core.specs.Round.{opening_round, IsOpening, IsWorkedOff, HasWonAll, first_of}
-use Rattle.retro_core.specs.Round.{seat_tried, round_struck, first_is_open, round_tried, round_split, round_joined}
+use Rattle.retro_core.specs.Round.{round_of, opening_round, IsOpening, IsWorkedOff, HasWonAll, first_of, seat_tried}
+use Rattle.retro_core.specs.Round.{round_struck, first_is_open, round_tried, round_split, round_joined}
 use Rattle.retro_core.specs.declared.step.Step.{Step}
 use Rattle.retro_core.specs.declared.step.Step.TheVariants as steps
 use Rattle.retro_core.specs.declared.step.Seen.{Seen}

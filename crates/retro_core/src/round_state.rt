@@ -4,11 +4,9 @@
 //! of this machine, and tests make its steps.
 
 ghost use Rattle.std.specs.Prelude.{◌≡◌, ◌+◌, ◌<◌, ◌↔◌, true, false, length, slice_index};
-ghost use Rattle.std.specs.Prelude.{slice_index_or};
-ghost use Rattle.std.specs.Prelude.{None, Some, IfOk, IfErr};
+ghost use Rattle.std.specs.Prelude.{slice_index_or, None, Some, IfOk, IfErr};
 ghost use Rattle.solver.specs.Solving.{IsSolving};
-ghost use Rattle.retro_core.specs.Round.{round_graph, seat_at, IsOpening, IsLawful};
-ghost use Rattle.retro_core.specs.Round.{round_of};
+ghost use Rattle.retro_core.specs.Round.{round_graph, seat_at, IsOpening, IsLawful, round_of};
 ghost use Rattle.retro_core.specs.Stepping.{Does, IsAllowed, LacksSeat, Refuses};
 
 use crate::seat::Seat;

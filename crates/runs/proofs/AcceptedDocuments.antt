@@ -23,11 +23,9 @@ use Rattle.runs.specs.BoardRun.{readers_by}
 use Rattle.runs.specs.Run.{Bytes, Ran}
 use Rattle.runs.specs.SolveRun.{IsSolution, IsSolved}
 use Rattle.runs.specs.Texts.{BeginsAs, HasFaultAs, HasNoBoard, HasNoProof, IsBoardAmong, IsBoardWithin, IsMemory}
-use Rattle.runs.specs.Texts.{IsSmallBoard}
-use Rattle.runs.specs.Texts.{IsWithinLimit}
+use Rattle.runs.specs.Texts.{IsSmallBoard, IsWithinLimit, IsWrongAmong, IsWrongWithin, OfAnySize}
 use Rattle.command_line.specs.declared.asked.BoardLimit.{BoardLimit}
 use Rattle.command_line.specs.declared.asked.BoardLimit.TheVariants.{Small}
-use Rattle.runs.specs.Texts.{IsWrongAmong, IsWrongWithin, OfAnySize}
 use Rattle.proof_text.specs.SymmetryProof.{PlainSymmetryProof}
 use Rattle.proof_text.specs.declared.fault.ProofFault.{ProofFault}
 use Rattle.proof_text.specs.declared.fault.ProofKind.TheVariants.{Memory as OutOfMemory}
@@ -37,8 +35,7 @@ use Rattle.runs.specs.declared.verdicts.DocumentVersion.TheVariants.{ByConfigura
 use Rattle.runs.specs.declared.fault.RunFault.{RunFault}
 use Rattle.runs.specs.declared.fault.RunFault.TheVariants.{Board, TooLarge, Proof, Memory}
 use Rattle.runs.specs.declared.verdicts.Verdict.{Verdict}
-use Rattle.runs.specs.declared.verdicts.Verdict.TheVariants.{Accepted, Refused, RefusedByClasses}
-use Rattle.runs.specs.declared.verdicts.Verdict.TheVariants.{RefusedUpToSymmetries}
+use Rattle.runs.specs.declared.verdicts.Verdict.TheVariants.{Accepted, Refused, RefusedByClasses, RefusedUpToSymmetries}
 
 -- the verdict on a document that breaks no rule
 verdict_of : (board : PlainBoard) (proof : PlainProof) (value : Value) (verdict : Verdict)

@@ -24,8 +24,7 @@ use Rattle.runs.specs.declared.verdicts.DocumentVersion.{DocumentVersion}
 use Rattle.runs.specs.declared.verdicts.DocumentVersion.TheVariants.{ByClasses, ByConfigurations, UpToSymmetries}
 use Rattle.runs.specs.Meaning.{AcceptsLeast, CanAnswer}
 use Rattle.runs.specs.declared.verdicts.Verdict.{Verdict}
-use Rattle.runs.specs.declared.verdicts.Verdict.TheVariants.{Accepted, Refused, RefusedByClasses}
-use Rattle.runs.specs.declared.verdicts.Verdict.TheVariants.{RefusedUpToSymmetries}
+use Rattle.runs.specs.declared.verdicts.Verdict.TheVariants.{Accepted, Refused, RefusedByClasses, RefusedUpToSymmetries}
 
 -- a line that says `least` is that of a claim `least`
 least_only : (claim : Claim) (number : ℕ) → IsClaim claim → number ≤ MAX_TURNS

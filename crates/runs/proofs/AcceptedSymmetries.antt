@@ -18,8 +18,7 @@ use Rattle.proof_text.specs.ProofText.{symmetry_text}
 use Rattle.proof_text.specs.SymmetryProof.{PlainSymmetryProof}
 use Rattle.proof_text.specs.declared.fault.ProofFault.{ProofFault}
 use Rattle.proof_text.specs.declared.fault.ProofKind.TheVariants.{Memory as OutOfMemory}
-use Rattle.proof_text.proofs.Cited.{no_symmetry_text_fault as faultless_document}
-use Rattle.proof_text.proofs.Cited.{one_symmetry_document as one_of_text}
+use Rattle.proof_text.proofs.Cited.{no_symmetry_text_fault as faultless_document, one_symmetry_document as one_of_text}
 use Rattle.strategies.specs.SymmetricDocument.{IsSymmetryDocumentOf}
 use Rattle.symmetries.specs.Symmetries.{IsSymmetry}
 use Rattle.strategies.proofs.Cited.{breaks_no_rule_up_to, has_symmetry_form, short_symmetry_text_fits}
@@ -32,8 +31,7 @@ use Rattle.runs.specs.declared.fault.RunFault.TheVariants.{TooLarge, Proof, Memo
 use Rattle.runs.specs.declared.verdicts.DocumentVersion.{DocumentVersion}
 use Rattle.runs.specs.declared.verdicts.DocumentVersion.TheVariants.{UpToSymmetries}
 use Rattle.runs.specs.declared.verdicts.Verdict.{Verdict}
-use Rattle.runs.specs.declared.verdicts.Verdict.TheVariants.{Accepted, Refused, RefusedByClasses}
-use Rattle.runs.specs.declared.verdicts.Verdict.TheVariants.{RefusedUpToSymmetries}
+use Rattle.runs.specs.declared.verdicts.Verdict.TheVariants.{Accepted, Refused, RefusedByClasses, RefusedUpToSymmetries}
 use Rattle.runs.proofs.DocumentKinds.{begins_as, one_version}
 
 -- a finite value is less than the number of orbits, so its claim fits

@@ -1,7 +1,6 @@
 -- The text of a board's chains, line by line, and that a board's text has one of them or one fault.
 use Rattle.std.proofs.Common.{◌≡◌, ℕ, suc, ◌+◌, ◌<◌, List, [], ◌∷◌, ◌++◌, ◌⊎◌, Option, length, slice_index, take}
-use Rattle.std.proofs.Common.{refl, sym}
-use Rattle.std.proofs.Common.{◌∙◌, ap, subst, arith, inl, inr, length-take-le, codes}
+use Rattle.std.proofs.Common.{refl, sym, ◌∙◌, ap, subst, arith, inl, inr, length-take-le, codes}
 use Rattle.std.proofs.lemmas.List.{append_assoc, append-nil}
 use Rattle.std.proofs.Math.Seq.{take-suc}
 use Rattle.board_text.specs.LineForms.{with_line_feed}
@@ -12,10 +11,9 @@ use Rattle.chains.proofs.Cited.{counts_or_many, one_answer}
 use Rattle.runs.specs.ChainText.{AreChainsOf, CannotCountChains, HasNoChains, SaysChains, chains_text, last_lines}
 use Rattle.runs.specs.ChainText.{length_line, length_lines}
 use Rattle.runs.specs.Report.{size_line}
-use Rattle.runs.specs.Texts.{HasNoneAmong, IsBoardAmong, IsWrongAmong, OfAnySize}
+use Rattle.runs.specs.Texts.{IsBoardAmong, IsWrongAmong, OfAnySize}
 use Rattle.runs.specs.declared.fault.RunFault.{RunFault}
-use Rattle.runs.specs.declared.fault.RunFault.TheVariants.{Board, TooLarge, Memory, Worker}
-use Rattle.runs.specs.declared.fault.RunFault.TheVariants.{TooManyChains}
+use Rattle.runs.specs.declared.fault.RunFault.TheVariants.{Memory, Worker, TooManyChains}
 use Rattle.runs.proofs.AcceptedDocuments.{not_wrong_among}
 use Rattle.runs.proofs.OneOutcome.{one_wrong_among}
 use Rattle.runs.proofs.ReportCounts.{four_parts}
@@ -67,13 +65,6 @@ whole_text board counts undominated empty head labels lines last whole none firs
     ++ length_lines 1 counts ++ last_lines board.labels (length counts) undominated)) none)
 
 -- ---- faults
-
-pub any_fault : (most : ℕ) (text : List ℕ) (fault : RunFault) → HasNoneAmong OfAnySize text fault
-    → CannotCountChains most text fault
-any_fault most text Memory h = tt
-any_fault most text (Board fault) h = h
-any_fault most text TooLarge h = h
-any_fault most text fault h = absurd h
 
 pub wrong_counting : (most : ℕ) (text : List ℕ) (fault : RunFault) → CannotCountChains most text fault
     → (fault ≡ Memory) ⊎ (fault ≡ Worker) ⊎ HasNoChains most text fault

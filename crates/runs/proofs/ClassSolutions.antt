@@ -29,11 +29,9 @@ use Rattle.runs.specs.Texts.{OfAnySize}
 use Rattle.runs.specs.declared.checking.TheConstants.{MAX_PROOF_BYTES}
 use Rattle.runs.specs.Verdicts.{IsAcceptance, IsChecked, IsClassVerdict, IsProofOf, IsVerdictOf, text_of_proof}
 use Rattle.runs.specs.declared.fault.RunFault.{RunFault}
-use Rattle.runs.specs.declared.fault.RunFault.TheVariants.{TooLarge, Proof, Memory}
-use Rattle.runs.specs.declared.fault.RunFault.TheVariants.{DocumentTooLarge}
+use Rattle.runs.specs.declared.fault.RunFault.TheVariants.{TooLarge, Proof, Memory, DocumentTooLarge}
 use Rattle.runs.specs.declared.verdicts.Verdict.{Verdict}
-use Rattle.runs.specs.declared.verdicts.Verdict.TheVariants.{Accepted, Refused, RefusedByClasses}
-use Rattle.runs.specs.declared.verdicts.Verdict.TheVariants.{RefusedUpToSymmetries}
+use Rattle.runs.specs.declared.verdicts.Verdict.TheVariants.{Accepted, Refused, RefusedByClasses, RefusedUpToSymmetries}
 use Rattle.runs.proofs.AcceptedDocuments.{not_wrong}
 use Rattle.runs.proofs.DocumentKinds.{begins_as, one_version, without_maps}
 use Rattle.runs.proofs.OneOutcome.{one_wrong}

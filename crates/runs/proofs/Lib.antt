@@ -1,6 +1,5 @@
 pub mod EndLines
 pub mod BoardLimits
-pub mod SolverFaults
 pub mod SidedRuns
 pub mod WrittenParts
 pub mod WrittenWords

@@ -25,8 +25,7 @@ use Rattle.runs.specs.declared.verdicts.DocumentVersion.TheVariants.{ByClasses, 
 use Rattle.runs.specs.declared.fault.RunFault.{RunFault}
 use Rattle.runs.specs.declared.fault.RunFault.TheVariants.{TooLarge, Proof}
 use Rattle.runs.specs.declared.verdicts.Verdict.{Verdict}
-use Rattle.runs.specs.declared.verdicts.Verdict.TheVariants.{Accepted, Refused, RefusedByClasses}
-use Rattle.runs.specs.declared.verdicts.Verdict.TheVariants.{RefusedUpToSymmetries}
+use Rattle.runs.specs.declared.verdicts.Verdict.TheVariants.{Accepted, Refused, RefusedByClasses, RefusedUpToSymmetries}
 use Rattle.runs.proofs.DocumentKinds.{begins_as, one_version}
 
 -- ---- verdicts

@@ -12,8 +12,7 @@ use Rattle.positions.proofs.Cited.{same_value, some_value}
 use Rattle.proof_text.specs.ProofText.{class_text}
 use Rattle.strategies.specs.Sides.{HasStrategy}
 use Rattle.runs.specs.declared.fault.RunFault.{RunFault}
-use Rattle.runs.specs.declared.fault.RunFault.TheVariants.{Memory, Worker}
-use Rattle.runs.specs.declared.fault.RunFault.TheVariants.{DocumentTooLarge, LastsForever}
+use Rattle.runs.specs.declared.fault.RunFault.TheVariants.{Memory, Worker, DocumentTooLarge, LastsForever}
 use Rattle.runs.specs.Inside.SolveRun.{IsSolvedByClassesFor, IsSolvedFor, IsUnmade, IsUnshown}
 use Rattle.runs.specs.LimitedSolveRun.{CannotSolveWithin, SolutionWithin}
 use Rattle.runs.specs.SideSolveRun.{IsLongFor}

@@ -1,18 +1,16 @@
 -- The text of a board's starts, line by line, and that a board's text has one of them.
-use Rattle.std.proofs.Common.{◌≡◌, ℕ, suc, ◌+◌, ◌<◌, ◌≤◌, List, [], ◌∷◌, ◌++◌, length, take, replicate}
-use Rattle.std.proofs.Common.{sym, ◌∙◌, ap, subst, arith, length-take-le, codes}
+use Rattle.std.proofs.Common.{◌≡◌, ℕ, suc, ◌+◌, ◌<◌, List, [], ◌∷◌, ◌++◌, length, take, replicate}
+use Rattle.std.proofs.Common.{sym, ◌∙◌, ap, arith, length-take-le, codes}
 use Rattle.std.specs.Prelude.{slice_index_or}
-use Rattle.std.proofs.lemmas.List.{append_assoc, append-nil, ext_get_or, length-replicate, take-replicate}
-use Rattle.std.proofs.lemmas.List.Elements.{All-replicate}
+use Rattle.std.proofs.lemmas.List.{append_assoc, append-nil, ext_get_or}
 use Rattle.std.proofs.Math.Seq.{take-suc}
 use Rattle.board_text.specs.LineForms.{with_line_feed}
-use Rattle.board_text.specs.PlainBoard.{IsConfiguration, PlainBoard, places}
+use Rattle.board_text.specs.PlainBoard.{PlainBoard}
 use Rattle.positions.specs.declared.value.Value.{Value}
 use Rattle.positions.specs.declared.value.Value.TheVariants.{Forever}
 use Rattle.positions.proofs.Cited.{same_value}
 use Rattle.runs.specs.Report.{size_line}
-use Rattle.runs.specs.StartText.{AreStartValues, AreStartsOf, place_value_line, place_value_lines}
-use Rattle.runs.specs.StartText.{starts_text}
+use Rattle.runs.specs.StartText.{AreStartValues, AreStartsOf, place_value_line, place_value_lines, starts_text}
 use Rattle.runs.proofs.ReportCounts.{four_parts}
 
 -- ---- lines
@@ -65,19 +63,6 @@ whole_starts board values empty head labels pebbles lines whole none first secon
     ++ size_line (codes "pebbles") board.pebbles ++ place_value_lines board.labels 0 values)) none)
 
 -- ---- values
-
--- all pebbles may be at one place
-pub all_at : (board : PlainBoard) (place most : ℕ) (held : List ℕ) → place < places board → board.pebbles ≤ most
-    → held ≡ take board.pebbles (replicate most place)
-    → (held ≡ replicate board.pebbles place) × IsConfiguration board held
-all_at board place most held inside few is =
-    let same : held ≡ replicate board.pebbles place = is ∙ take-replicate board.pebbles most place few in (
-      same,
-      subst (IsConfiguration board) (sym same) (record {
-        each_pebble = length-replicate board.pebbles place;
-        each_place = All-replicate (λ p. p < places board) board.pebbles place inside;
-      }),
-    )
 
 same_values : (board : PlainBoard) (first second : List Value) → AreStartValues board first
     → AreStartValues board second → first ≡ second

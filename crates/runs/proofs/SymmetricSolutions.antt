@@ -32,8 +32,7 @@ use Rattle.runs.specs.SymmetricRun.{GivesFewOrbits, LacksFewOrbits, SpellsFewOrb
 use Rattle.runs.specs.Symmetries.{AreWrongSymmetries, HasSymmetries, SpellsMaps, SpellsSymmetries}
 use Rattle.runs.specs.declared.checking.TheConstants.{MAX_PROOF_BYTES}
 use Rattle.runs.specs.declared.fault.RunFault.{RunFault}
-use Rattle.runs.specs.declared.fault.RunFault.TheVariants.{DocumentTooLarge, LastsForever, Symmetries}
-use Rattle.runs.specs.declared.fault.RunFault.TheVariants.{TooManyOrbits}
+use Rattle.runs.specs.declared.fault.RunFault.TheVariants.{DocumentTooLarge, LastsForever, Symmetries, TooManyOrbits}
 use Rattle.runs.specs.declared.fault.SymmetriesFault.{SymmetriesFault}
 use Rattle.runs.specs.declared.fault.SymmetriesFault.TheVariants.{Map, Text, TooMany}
 

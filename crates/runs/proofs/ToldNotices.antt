@@ -15,8 +15,7 @@ use Rattle.positions.specs.declared.space.TheConstants.{MAX_CONFIGURATIONS}
 use Rattle.runs.specs.BoardRun.{GaveBoard, GaveNoBoard}
 use Rattle.runs.specs.Inside.SolveRun.{IsToldOnText}
 use Rattle.runs.specs.Notices.{AreAllRounds, AreRoundsTold, IsToldInRun, IsToldOnBoard, is_told_of, notice_for}
-use Rattle.runs.specs.Notices.{nothing_after}
-use Rattle.runs.specs.Notices.{bytes_words, round_line, size_notice, tenths_of, tenths_words}
+use Rattle.runs.specs.Notices.{nothing_after, bytes_words, round_line, size_notice, tenths_of, tenths_words}
 use Rattle.runs.specs.Run.{Bytes, Gave}
 use Rattle.runs.specs.Texts.{HasNoneWithin, IsBoardWithin}
 use Rattle.command_line.specs.declared.asked.BoardLimit.{BoardLimit}

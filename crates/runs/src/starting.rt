@@ -2,7 +2,7 @@
 
 ghost use Rattle.std.specs.Prelude.{◌≡◌, ◌++◌, IfOk, OnOk, string_bytes};
 ghost use Rattle.runs.specs.StartText.{AreStartValues, AreStartsOf, place_name, place_value_line};
-ghost use Rattle.runs.specs.StartText.{place_value_lines, starts_text};
+ghost use Rattle.runs.specs.StartText.{place_value_lines};
 
 use crate::reporting::write_size;
 use board_text::{Board, MAX_PEBBLES, Memory};

@@ -1,8 +1,7 @@
 //! Reports and starts of a board, whose values are found by its gaps, or up to symmetries of its
 //! domain by orbits.
 
-ghost use Rattle.std.specs.Prelude.{◌≡◌, ◌≤◌, ◌⊎◌, ℕ, List, true, false, IfOk, IfErr};
-ghost use Rattle.std.specs.Prelude.{string_bytes};
+ghost use Rattle.std.specs.Prelude.{◌≡◌, ◌≤◌, ◌⊎◌, ℕ, List, true, false, IfOk, IfErr, string_bytes};
 ghost use Rattle.board_text.specs.PlainBoard.{IsBoard};
 ghost use Rattle.board_text.specs.Ranges.{InRange};
 ghost use Rattle.console.specs.Showing.{IsMore};

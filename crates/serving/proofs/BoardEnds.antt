@@ -1,8 +1,7 @@
 -- A board's text ends at its first line that is exactly `end`.
-use Rattle.std.proofs.Common.{◌≡◌, ◌≢◌, ◌∙◌, ◌^◌, ◌+◌, ◌-◌, ◌==◌, ℕ, zero, suc, ◌<◌, ◌≤◌, inl, inr, Bool, true}
-use Rattle.std.proofs.Common.{false, List, [], ◌∷◌, ◌++◌, length, take, drop}
-use Rattle.std.proofs.Common.{codes, cond, get_or, refl, sym, ap, subst, arith, append-nil, append_assoc}
-use Rattle.std.proofs.Common.{length-append}
+use Rattle.std.proofs.Common.{◌≡◌, ◌≢◌, ◌∙◌, ◌^◌, ◌+◌, ◌-◌, ◌==◌, ℕ, zero, suc, ◌<◌, ◌≤◌, inl, inr, Bool, true, false}
+use Rattle.std.proofs.Common.{List, [], ◌∷◌, ◌++◌, length, take, drop, codes, cond, get_or, refl, sym, ap, subst, arith}
+use Rattle.std.proofs.Common.{append-nil, append_assoc, length-append}
 use Rattle.std.specs.Fmt.{decimal}
 use Rattle.std.specs.List.{AllByRecursion, flat_map}
 use Rattle.std.proofs.lemmas.Bool.{cases_lt}

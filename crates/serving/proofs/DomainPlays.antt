@@ -1,6 +1,5 @@
 -- Plays with values up to symmetries, over known bytes, end with one outcome and one transcript.
-use Rattle.std.proofs.Common.{◌≡◌, ◌≢◌, ℕ, ◌⊎◌, inl, inr, List, [], Some}
-use Rattle.std.proofs.Common.{refl}
+use Rattle.std.proofs.Common.{◌≡◌, ◌≢◌, ℕ, ◌⊎◌, inl, inr, List, [], Some, refl}
 use Rattle.std.specs.Prelude.{Err, MatchResult, Ok, Result}
 use Rattle.board_text.specs.PlainBoard.{IsBoard, PlainBoard}
 use Rattle.command_line.specs.declared.asked.BoardLimit.{BoardLimit}

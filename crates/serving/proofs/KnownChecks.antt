@@ -12,14 +12,13 @@ use Rattle.runs.specs.Texts.{HasNoProof, IsWrongProof, OfAnySize}
 use Rattle.runs.specs.Verdicts.{BeginsWithBoard, CannotAnswer, IsAnswered, IsChecked, IsWrongText}
 use Rattle.runs.specs.declared.checking.TheConstants.{MAX_JOINED_BYTES, MAX_PROOF_BYTES}
 use Rattle.runs.specs.declared.fault.RunFault.{RunFault}
-use Rattle.runs.specs.declared.fault.RunFault.TheVariants.{Board}
+use Rattle.runs.specs.declared.fault.RunFault.TheVariants.{Board, Read}
 use Rattle.runs.specs.declared.verdicts.Verdict.{Verdict}
 use Rattle.serving.specs.Folders.{CanFail, File, Unknown}
 use Rattle.serving.specs.Jobs.{ChecksFor, ChecksJoined, WritesBoth}
 use Rattle.serving.specs.Outcomes.{outcome_of_check}
 use Rattle.serving.specs.declared.outcome.Outcome.{Outcome}
 use Rattle.serving.specs.declared.outcome.Outcome.TheVariants.{Broken}
-use Rattle.runs.specs.declared.fault.RunFault.TheVariants.{Read}
 use Rattle.serving.proofs.BoardEnds.{board_is_front, one_front}
 use Rattle.serving.proofs.KnownFiles.{IsFair, PairEnds, plain_of}
 use Rattle.serving.proofs.KnownRuns.{Ends, EndsBy, Had, IsOne, ends, one_end}

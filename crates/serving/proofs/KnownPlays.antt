@@ -14,8 +14,7 @@ use Rattle.board_text.specs.LineForms.{with_line_feed}
 use Rattle.player.specs.Laws.{IsGame}
 use Rattle.player.specs.Play.{FullLinesCame, LinesCame, LinesWereAll}
 use Rattle.player.specs.Transcript.{AreResponses, Game, Going, IsPlayed, IsResponse, IsTranscript, Over, PersonAnswers}
-use Rattle.player.specs.Transcript.{PersonAsks, PersonClimbs}
-use Rattle.player.specs.Transcript.{Standing, no_answer_line, no_request_line, stopped_line}
+use Rattle.player.specs.Transcript.{PersonAsks, PersonClimbs, Standing, no_answer_line, no_request_line, stopped_line}
 use Rattle.player.specs.Words.{BeginsTooLong, HasNoFeed, IsLine}
 use Rattle.player.specs.declared.end.PlayEnd.{PlayEnd}
 use Rattle.player.specs.declared.end.PlayEnd.TheVariants.{Stopped}

@@ -18,8 +18,7 @@ use Rattle.command_line.proofs.OneKind.{no_answer_and_misuse, no_help_and_versio
 use Rattle.console.specs.declared.streams.Terminals.{Terminals}
 use Rattle.serving.specs.Folders.{File}
 use Rattle.serving.specs.Outcomes.{status_of}
-use Rattle.serving.specs.Serving.{AnswersWords, ServesAnyWords, ServesWords, WordsAskFor, is_explained}
-use Rattle.serving.specs.Serving.{lacks_input}
+use Rattle.serving.specs.Serving.{AnswersWords, ServesAnyWords, ServesWords, WordsAskFor, is_explained, lacks_input}
 use Rattle.serving.specs.Servings.{AreKnown, AskForNoExplanation, BytesBefore, HaveOwnText}
 use Rattle.runs.specs.declared.fault.RunFault.TheVariants.{Read}
 use Rattle.serving.specs.declared.outcome.Outcome.{Outcome}

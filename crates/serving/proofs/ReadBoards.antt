@@ -1,6 +1,5 @@
 -- Runs that read the text of a board, and then do something with the board, have one outcome and one text.
-use Rattle.std.proofs.Common.{◌≡◌, ◌≢◌, ◌∙◌, ℕ, ◌⊎◌, inl, inr, List, [], ◌++◌, Some}
-use Rattle.std.proofs.Common.{ap, refl, subst, sym}
+use Rattle.std.proofs.Common.{◌≡◌, ◌≢◌, ◌∙◌, ℕ, ◌⊎◌, inl, inr, List, [], ◌++◌, Some, ap, refl, subst, sym}
 use Rattle.std.specs.Prelude.{Err, MatchResult, Ok, Result}
 use Rattle.board_text.specs.PlainBoard.{IsBoard, PlainBoard}
 use Rattle.board_text.proofs.Cited.{one_board}

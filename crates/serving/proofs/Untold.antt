@@ -17,8 +17,7 @@ use Rattle.positions.specs.declared.side.Side.{Side}
 use Rattle.runs.specs.BoardRun.{readers_by}
 use Rattle.runs.specs.CheckRun.{RanCheck}
 use Rattle.console.specs.Watching.{lines_of}
-use Rattle.runs.specs.Notices.{AfterRounds, IsToldInRun, IsToldOfChains, IsToldOnBoard, nothing_after}
-use Rattle.runs.specs.Notices.{notice_of_length}
+use Rattle.runs.specs.Notices.{AfterRounds, IsToldInRun, IsToldOfChains, IsToldOnBoard, nothing_after, notice_of_length}
 use Rattle.runs.specs.PlayRun.{ArePrompted, PlayStreams, game_played, prompts_after}
 use Rattle.runs.specs.Run.{Bytes, Ran}
 use Rattle.runs.specs.Verdicts.{IsAnswered}
@@ -26,8 +25,7 @@ use Rattle.runs.specs.declared.checking.TheConstants.{MAX_JOINED_BYTES, MAX_PROO
 use Rattle.runs.specs.declared.fault.RunFault.{RunFault}
 use Rattle.runs.specs.declared.reading.TheConstants.{MAX_BOARD_BYTES}
 use Rattle.runs.specs.declared.verdicts.Verdict.{Verdict}
-use Rattle.runs.specs.declared.verdicts.Verdict.TheVariants.{Accepted, Refused, RefusedByClasses}
-use Rattle.runs.specs.declared.verdicts.Verdict.TheVariants.{RefusedUpToSymmetries}
+use Rattle.runs.specs.declared.verdicts.Verdict.TheVariants.{Accepted, Refused, RefusedByClasses, RefusedUpToSymmetries}
 use Rattle.serving.specs.Folders.{File}
 use Rattle.runs.specs.declared.summaries.Summary.TheVariants as summaries
 use Rattle.serving.specs.Telling.{AnswerOf, IsToldAfterCheck, IsToldInJob, IsToldOfValues, OpensAndTells, rows_line}

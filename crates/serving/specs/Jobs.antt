@@ -4,8 +4,7 @@ use Rattle.std.specs.Borrow.{Bor}
 use Rattle.clap.specs.Walk.{Text}
 use Rattle.command_line.specs.declared.asked.Job.{Job}
 use Rattle.command_line.specs.declared.asked.Job.TheVariants.{Joined, Check, Nested, Solve, Report}
-use Rattle.command_line.specs.declared.asked.Job.TheVariants.{Starts, Chains}
-use Rattle.command_line.specs.declared.asked.Job.TheVariants.{Play, Climb}
+use Rattle.command_line.specs.declared.asked.Job.TheVariants.{Starts, Chains, Play, Climb}
 use Rattle.player.specs.Transcript.{PersonClimbs}
 use Rattle.positions.specs.declared.side.Side.{Side}
 use Rattle.runs.specs.CheckRun.{RanCheck, CheckFails}

@@ -4,8 +4,7 @@ use Rattle.runs.specs.declared.fault.RunFault.{RunFault}
 use Rattle.runs.specs.declared.fault.RunFault.TheVariants.{Board, TooLarge, Proof, Memory, Worker}
 use Rattle.runs.specs.declared.fault.RunFault.TheVariants.{DocumentTooLarge, LastsForever}
 use Rattle.runs.specs.declared.fault.RunFault.TheVariants.{Symmetries, TooManyChains, Read}
-use Rattle.runs.specs.declared.fault.RunFault.TheVariants.{TooManyOrbits}
-use Rattle.runs.specs.declared.fault.RunFault.TheVariants.{Write, Limit}
+use Rattle.runs.specs.declared.fault.RunFault.TheVariants.{TooManyOrbits, Write, Limit}
 use Rattle.serving.specs.declared.outcome.Outcome.{Outcome}
 use Rattle.serving.specs.declared.outcome.Outcome.TheVariants.{Done, Refused, Broken}
 use Rattle.runs.specs.declared.verdicts.Verdict.{Verdict}

@@ -8,8 +8,7 @@ use Rattle.board_text.specs.LineForms.{with_line_feed}
 use Rattle.command_line.specs.declared.asked.BoardLimit.{BoardLimit}
 use Rattle.command_line.specs.declared.asked.Job.{Job}
 use Rattle.command_line.specs.declared.asked.Job.TheVariants.{Joined, Check, Nested, Solve, Report}
-use Rattle.command_line.specs.declared.asked.Job.TheVariants.{Starts, Chains}
-use Rattle.command_line.specs.declared.asked.Job.TheVariants.{Play, Climb}
+use Rattle.command_line.specs.declared.asked.Job.TheVariants.{Starts, Chains, Play, Climb}
 use Rattle.console.specs.declared.streams.Terminals.{Terminals}
 use Rattle.player.specs.Prompts.{ArePrompts, shown_line}
 use Rattle.player.specs.Transcript.{PersonClimbs}

@@ -8,8 +8,7 @@ use Rattle.board_text.specs.declared.board.TheConstants.{MAX_LABELS}
 use Rattle.positions.specs.Game.{LabellerTree}
 use Rattle.positions.specs.Counts.{HasSize}
 use Rattle.positions.proofs.Cited.{size_of, count_below as count_to, count_below-zero as count_to-zero}
-use Rattle.positions.proofs.Cited.{count_below-add as count_to-add}
-use Rattle.positions.proofs.Cited.{same_size, same_fact_size, size_zero}
+use Rattle.positions.proofs.Cited.{count_below-add as count_to-add, same_size, same_fact_size, size_zero}
 use Rattle.graphs.specs.Answers.{IsAnswerIn, AreAnswerBits}
 use Rattle.graphs.specs.Graph.{PlainGraph, count_below, live_answers, lasts}
 use Rattle.graphs.specs.Numbered.{Numbered, graph_of, configuration_of}

@@ -12,8 +12,7 @@ use Rattle.positions.proofs.Cited.{same_size}
 use Rattle.graphs.specs.Graph.{PlainGraph, IsGraph, live_answers, lasts}
 use Rattle.graphs.specs.Numbered.{Numbered, graph_of}
 use Rattle.solver.specs.Ending.{IsRoundEnd}
-use Rattle.solver.specs.Solving.{IsWorth}
-use Rattle.solver.specs.Solving.{AnswerLasts}
+use Rattle.solver.specs.Solving.{IsWorth, AnswerLasts}
 use Rattle.solver.specs.Inside.Stage.{PlainStage, filed_at, rank_filed, as_solving, IsStriking, IsUnstruck, FilesAll}
 use Rattle.solver.specs.Inside.Stage.{TakesCounts}
 use Rattle.solver.specs.Inside.Tables.{is_open, is_unstruck, IsCounted, AreWords}

@@ -1,6 +1,5 @@
 -- The words before the first round.
-use Rattle.std.proofs.Common.{◌≡◌, ℕ, ◌<◌, inl, inr, Bool, cond, replicate, sym, ap, ◌∙◌, List, length}
-use Rattle.std.proofs.Common.{slice_index}
+use Rattle.std.proofs.Common.{◌≡◌, ℕ, ◌<◌, inl, inr, Bool, cond, replicate, sym, ap, ◌∙◌, List, length, slice_index}
 use Rattle.std.proofs.lemmas.List.{get_or-replicate, length-replicate}
 use Rattle.graphs.specs.Graph.{PlainGraph, IsGraph, is_answered, lasts}
 use Rattle.graphs.specs.Stuck.{AreStuckZeroed}

@@ -6,8 +6,6 @@ use Rattle.std.proofs.Crossing.{crosses}
 use Rattle.index_lists.specs.declared.store.ListStore.{Ghosts as Lists}
 use Rattle.graphs.specs.declared.numbering.Numbering.{Ghosts as Numbers}
 use Rattle.positions.specs.contracts.space.Space as space
-use Rattle.classes.specs.contracts.member_tables.MemberTables as tables
-use Rattle.graphs.specs.contracts.by_classes.ByClasses as by_classes
 use Rattle.graphs.specs.contracts.by_ranks.ByRanks as by_ranks
 use Rattle.graphs.specs.contracts.graph.Graph as graph
 use Rattle.graphs.specs.contracts.graph.Graph.TheInside as kept
@@ -19,14 +17,8 @@ use Rattle.solver.specs.contracts.stage.Stage.TheInside as parts
 space_sync : IsSync space.the_row
 space_sync = search (sendable, crosses) depth 30
 
-pub tables_sync : IsSync tables.the_row
-tables_sync = search (sendable, crosses) depth 30
-
 pub by_ranks_sync : IsSync by_ranks.the_row
 by_ranks_sync = search (sendable, crosses, space_sync) depth 60
-
-pub by_classes_sync : IsSync by_classes.the_row
-by_classes_sync = search (sendable, crosses, tables_sync) depth 60
 
 graph_sync : (N : RattleType) (h : Numbers N.Denot) → IsSync N → IsSync (graph.the_row N h)
 graph_sync N h lent = view_sync (kept.the_row N h) _ _ _ _

@@ -8,8 +8,7 @@ use Rattle.index_lists.proofs.Cited.{same_is, differ_is, times-later}
 use Rattle.graphs.specs.Graph.{PlainGraph, is_member}
 use Rattle.solver.specs.Inside.Tables.{is_open, GapIsClosed}
 use Rattle.gap_values.specs.declared.closing.TheConstants.{OPEN}
-use Rattle.graphs.proofs.Cited.{member-at}
-use Rattle.graphs.proofs.Cited.{true_or_false, true_not_false, same_or_not}
+use Rattle.graphs.proofs.Cited.{member-at, true_or_false, true_not_false, same_or_not}
 
 -- some open members of a gap are filed at a value, and nothing else changes
 pub record IsClosing (a : PlainGraph) (g value : ℕ) (values values' : List ℕ) : Type 0 where

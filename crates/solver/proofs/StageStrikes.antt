@@ -10,10 +10,9 @@ use Rattle.graphs.specs.Graph.{PlainGraph, IsGraph, live_answers, lasts}
 use Rattle.solver.specs.Inside.Stage.{PlainStage, with_counts, strikes_copied, IsFiled, IsKeptStage, Closes, IsStruckAt}
 use Rattle.solver.specs.Inside.Stage.{IsStriking}
 use Rattle.solver.specs.Inside.Tables.{is_unstruck, IsCounted, AreWords}
-use Rattle.graphs.proofs.Cited.{without, IsBetween}
+use Rattle.graphs.proofs.Cited.{without, IsBetween, true_or_false, same_or_not, same_is, lasts-less}
 use Rattle.solver.proofs.StruckTables.{IsCounted-same, AreWords-same, IsLiveAnswer, counted-struck, home-now}
 use Rattle.solver.proofs.StruckTables.{words-some, words-closed}
-use Rattle.graphs.proofs.Cited.{true_or_false, same_or_not, same_is, lasts-less}
 use Rattle.solver.proofs.Strikes.{strike-home}
 
 -- ---- the configurations that are not struck

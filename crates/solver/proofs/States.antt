@@ -10,31 +10,26 @@ use Rattle.std.proofs.lemmas.List.Kept.{AllPairs-filter}
 use Rattle.index_lists.specs.Lists.{times}
 use Rattle.index_lists.proofs.Cited.{cond_same, cond_other, times-here}
 use Rattle.board_text.specs.PlainBoard.{IsBoard}
-use Rattle.positions.specs.declared.value.Value.TheVariants.{Finite}
+use Rattle.positions.specs.declared.value.Value.TheVariants.{Finite, Forever}
 use Rattle.positions.specs.Ranks.{configurations}
 use Rattle.positions.specs.Value.{HasValue}
 use Rattle.graphs.specs.Numbered.{Numbered, graph_of, configuration_of}
-use Rattle.solver.specs.Words.{value_of_word}
-use Rattle.graphs.proofs.Cited.{numbered-is, numbered-shows, some-configurations}
+use Rattle.solver.specs.Words.{value_of_word, AreFirstCounts, AreFirstValues}
+use Rattle.graphs.proofs.Cited.{numbered-is, numbered-shows, some-configurations, number-below, number-value, worth-is}
+use Rattle.graphs.proofs.Cited.{tree_of_lasts, lasts_of_tree, forever_of_lasts, member-is, count_below-some}
+use Rattle.graphs.proofs.Cited.{count_below-less, count_below-bound, both_true, none_some, some_same, true_or_false}
+use Rattle.graphs.proofs.Cited.{true_not_false, same_or_not, lasts-less, lasts-at-most}
 use Rattle.solver.specs.Inside.Opening.{IsOpened}
-use Rattle.graphs.proofs.Cited.{number-below, number-value, worth-is, tree_of_lasts, lasts_of_tree, forever_of_lasts}
 use Rattle.solver.proofs.AnswerSizes.{live-size, above-size}
 use Rattle.positions.specs.declared.space.TheConstants.{MAX_CONFIGURATIONS}
-use Rattle.graphs.specs.Graph.{PlainGraph, IsGraph, count_below, is_member, lasts, is_struck}
-use Rattle.positions.specs.declared.value.Value.TheVariants.{Forever}
+use Rattle.graphs.specs.Graph.{PlainGraph, IsGraph, count_below, is_member, lasts, is_struck, live_answers}
 use Rattle.positions.specs.Counts.{HasSize}
-use Rattle.graphs.specs.Graph.{live_answers}
 use Rattle.graphs.specs.NumberedRanks.{number_in}
 use Rattle.graphs.specs.Lasting.{LastsExactly, LastsForever}
 use Rattle.solver.specs.Solving.{Solving, AreOpenMembers, IsSolving, NoneHas, AnswerLasts, AnswerForever}
-use Rattle.solver.specs.Words.{AreFirstCounts, AreFirstValues}
 use Rattle.solver.specs.Inside.Stage.{first_lists, PlainStage, filed_at, due_strikes, at_next_value, IsFiled, IsStage}
 use Rattle.solver.specs.Inside.Stage.{IsKeptStage, IsStriking, IsUnstruck, IsState}
 use Rattle.solver.specs.Inside.Tables.{IsLast, is_open, open_members, is_unstruck, struck_rounds, AreWords}
-use Rattle.graphs.proofs.Cited.{member-is}
-use Rattle.graphs.proofs.Cited.{count_below-some, count_below-less, count_below-bound}
-use Rattle.graphs.proofs.Cited.{both_true, none_some, some_same, true_or_false, true_not_false, same_or_not, lasts-less}
-use Rattle.graphs.proofs.Cited.{lasts-at-most}
 use Rattle.solver.proofs.Strikes.{lasts-forever}
 use Rattle.solver.proofs.StruckRanks.{counted-alike, words-alike, filtered-times, is-struck}
 use Rattle.solver.proofs.FiledRanks.{past}

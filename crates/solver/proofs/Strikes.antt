@@ -3,10 +3,9 @@ use Rattle.std.proofs.Common.{◌≡◌, ℕ, ◌+◌, ◌<◌, ◌≢◌, ◌&&
 use Rattle.std.proofs.Common.{sym, ap, ◌∙◌}
 use Rattle.std.proofs.lemmas.Bool.Decides.{nat_tests}
 use Rattle.graphs.specs.Graph.{PlainGraph, IsGraph, is_member, live_answers, is_answered, lasts}
-use Rattle.graphs.proofs.Cited.{without, member-is, member-at, one-place}
-use Rattle.graphs.proofs.Cited.{count_below-same, count_below-without}
-use Rattle.graphs.proofs.Cited.{and_true, and_second, same_is, same_test, true_or_false, true_not_false}
-use Rattle.graphs.proofs.Cited.{next-gives, next-from, next-closed, next-le}
+use Rattle.graphs.proofs.Cited.{without, member-is, member-at, one-place, count_below-same, count_below-without}
+use Rattle.graphs.proofs.Cited.{and_true, and_second, same_is, same_test, true_or_false, true_not_false, next-gives}
+use Rattle.graphs.proofs.Cited.{next-from, next-closed, next-le}
 
 -- the test without c fails at c
 without-here : (above : ℕ → Bool) (c x : ℕ) → x ≡ c → without above c x ≡ false

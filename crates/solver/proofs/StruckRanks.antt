@@ -8,8 +8,7 @@ use Rattle.index_lists.specs.Lists.{times}
 use Rattle.index_lists.proofs.Cited.{times-here, times-more, times-later}
 use Rattle.graphs.specs.Graph.{PlainGraph, IsGraph, is_struck, live_answers, is_answered}
 use Rattle.solver.specs.Inside.Tables.{IsCounted, AreWords}
-use Rattle.graphs.proofs.Cited.{count_below-same}
-use Rattle.graphs.proofs.Cited.{same_test, true_or_false, true_not_false, next-gives, next-from}
+use Rattle.graphs.proofs.Cited.{count_below-same, same_test, true_or_false, true_not_false, next-gives, next-from}
 
 pub struck-is : (a : PlainGraph) (c : ℕ) → a.struck c < a.gaps → is_struck a c ≡ true
 struck-is a c low = lt-ltb (a.struck c) a.gaps low
@@ -19,14 +18,6 @@ is-struck a c e = ltb-true (a.struck c) a.gaps e
 
 test_same : (m n : ℕ) → (m == n) ≡ true → m ≡ n
 test_same m n e = grind (arith, nat_tests)
-
--- tests that agree on the members of a list filter it alike
-pub same-filter : (f g : ℕ → Bool) (xs : List ℕ) → ((x : ℕ) → 0 < times x xs → f x ≡ g x) → filter f xs ≡ filter g xs
-same-filter f g [] same = refl
-same-filter f g (x ∷ xs) same =
-    let rest : filter f xs ≡ filter g xs = same-filter f g xs (λ y h. same y (times-more x y xs h)) in
-    ap (λ t. cond t (x ∷ filter f xs) (filter f xs)) (same x (times-here x x xs refl))
-    ∙ ap (λ (ys : List ℕ). cond (g x) (x ∷ ys) ys) rest
 
 pub in_list : (xs : List ℕ) (k d : ℕ) → k < length xs → 0 < times (get_or xs k d) xs
 in_list [] k d h = absurd (omega arith)

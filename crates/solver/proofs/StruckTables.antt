@@ -6,9 +6,8 @@ use Rattle.std.proofs.lemmas.Bool.Decides.{nat_tests}
 use Rattle.graphs.specs.Graph.{PlainGraph, IsGraph, is_member, live_answers, is_answered, lasts}
 use Rattle.solver.specs.Inside.Tables.{is_open, IsCounted, AreWords, GapIsClosed}
 use Rattle.gap_values.specs.declared.closing.TheConstants.{OPEN}
-use Rattle.graphs.proofs.Cited.{without, IsBetween, member-at}
-use Rattle.graphs.proofs.Cited.{both_true, and_true, true_or_false, true_not_false, same_or_not, live-le, live-same}
-use Rattle.graphs.proofs.Cited.{next-closed, next-le, next-same}
+use Rattle.graphs.proofs.Cited.{without, IsBetween, member-at, both_true, and_true, true_or_false, true_not_false}
+use Rattle.graphs.proofs.Cited.{same_or_not, live-le, live-same, next-closed, next-le, next-same}
 use Rattle.solver.proofs.Strikes.{strike-home, strike-other, open-same, open-outside, open-member}
 
 -- the tables speak of the test only below the number of configurations

@@ -7,8 +7,7 @@ use Rattle.graphs.specs.Graph.{PlainGraph, IsGraph, live_answers, lasts}
 use Rattle.graphs.specs.Lasting.{LastsExactly}
 use Rattle.solver.specs.Striking.{stands, tally, IsToWin}
 use Rattle.solver.proofs.ListedRanks.{stands-true, stands-false}
-use Rattle.graphs.proofs.Cited.{count_below-none, without}
-use Rattle.graphs.proofs.Cited.{and_second, same_or_not, live-same, next-fails, next-closed}
+use Rattle.graphs.proofs.Cited.{count_below-none, without, and_second, same_or_not, live-same, next-fails, next-closed}
 use Rattle.solver.proofs.Strikes.{strike-home, strike-other}
 
 and_true_right : (b : Bool) → b && true ≡ b

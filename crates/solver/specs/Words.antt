@@ -1,8 +1,7 @@
 -- The meaning of a solver's words and counts: the values of configurations, and the numbers of
 -- lasting answers of gaps.
 use Rattle.std.specs.Prelude.{◌≡◌, ◌≢◌, ℕ, ◌<◌, ◌≤◌, ◌==◌, ◌↔◌, cond, List, length, slice_index}
-use Rattle.std.specs.Prelude.{slice_index_or}
-use Rattle.std.specs.Prelude.{Option, Some, None}
+use Rattle.std.specs.Prelude.{slice_index_or, Option, Some, None}
 use Rattle.positions.specs.declared.value.Value.TheVariants.{Finite}
 use Rattle.positions.specs.Value.{HasValue}
 use Rattle.positions.specs.Counts.{HasSize}

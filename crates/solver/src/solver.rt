@@ -5,7 +5,6 @@
 
 ghost use Rattle.std.specs.Prelude.{◌≡◌, ℕ, suc, ◌+◌, ◌<◌, ◌≤◌, ◌↔◌, true, false, length, map};
 ghost use Rattle.std.specs.Prelude.{slice_get, IfOk, IfErr, Err, Some, None};
-ghost use Rattle.board_text.specs.PlainBoard.{IsBoard};
 ghost use Rattle.positions.specs.declared.value.Value.TheVariants.{Finite};
 ghost use Rattle.positions.specs.Value.{HasValue};
 ghost use Rattle.positions.specs.Ranks.{configurations};

@@ -3,8 +3,6 @@
 //! A run of the tests may refuse one growth of memory, whichever. So a call that was refused one is
 //! made once more.
 
-ghost use Rattle.std.specs.Prelude.{◌≡◌, IfSome};
-
 use crate::assertions::{assert_same, board_of};
 use board_text::Board;
 use fakes::boards::{

@@ -2,8 +2,6 @@
 //!
 //! A run of the tests may refuse one growth of memory, whichever.
 
-ghost use Rattle.std.specs.Prelude.{◌≡◌};
-
 use crate::assertions::{assert_same, board_of};
 use crate::solving::{open, solve};
 use board_text::Board;

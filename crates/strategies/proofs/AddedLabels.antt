@@ -1,5 +1,5 @@
 -- The positions after all legal answers to a request, added by a walk over the legal labels.
-use Rattle.std.proofs.Common.{◌≡◌, ℕ, ◌<◌, ◌≤◌, ◌↔◌, inl, inr, true, List, Some, sym, ◌∙◌, subst, arith}
+use Rattle.std.proofs.Common.{◌≡◌, ℕ, ◌<◌, ◌≤◌, inl, inr, true, List, Some, sym, ◌∙◌, subst, arith}
 use Rattle.std.proofs.lemmas.Bool.{cases_lt}
 use Rattle.board_text.specs.Domination.{has_bit}
 use Rattle.board_text.specs.PlainBoard.{IsBoard}
@@ -7,12 +7,11 @@ use Rattle.board_text.specs.declared.board.TheConstants.{MAX_LABELS}
 use Rattle.positions.specs.Counts.{IsSmallest}
 use Rattle.positions.specs.Game.{Legal, moved}
 use Rattle.positions.specs.LabelWalk.{Walk, TakesSmallest}
-use Rattle.positions.proofs.Cited.{AreFrom, after_step, from_zero, next_of, none_left, walk_begins}
+use Rattle.positions.proofs.Cited.{AreFrom, after_step, next_of, none_left}
 use Rattle.strategies.specs.Inside.NumberedPositions.{LegalLeads, NumberedPositions, position_number}
 use Rattle.strategies.specs.Inside.Reached.{AreReachedWith, ReachedBy}
 use Rattle.strategies.specs.Inside.ReachedOver.{IsLegalStepOver}
 use Rattle.strategies.proofs.AddedNumbers.{Below, below_all, below_same, reached_more, reached_one, reached_same}
-use Rattle.strategies.proofs.AddedNumbers.{reached_start}
 
 abbrev pub LegalStep : NumberedPositions → List ℕ → ℕ → ℕ → ℕ → Type 0
 LegalStep over = IsLegalStepOver over.positions over.numbering over.board
@@ -58,15 +57,3 @@ module _ (over : NumberedPositions) (is_board : IsBoard over.board) (from : List
         | inl early ↦ early
         | inr late ↦ absurd (none_left (Legal over.board from pebble) few walk so.left ended number (late, at.legal))
       ])) so.added
-
--- a walk over the legal labels begins
-pub labels_begin : (over : NumberedPositions) (from : List ℕ) (pebble : ℕ) (labels : List ℕ) (numbers : ReachedBy)
-    → ((label : ℕ) → label < MAX_LABELS → (has_bit labels label ≡ true) ↔ Legal over.board from pebble label)
-    → (walk : Walk) → walk ≡ record { left = labels; from = 0 }
-    → AreAddedBefore over from pebble walk numbers numbers
-labels_begin over from pebble labels numbers each walk begins = record {
-  most = let zero_is = from_zero labels walk begins in omega (arith, zero_is);
-  left = walk_begins (Legal over.board from pebble) labels walk begins each;
-  added = subst (λ bound. AreReachedWith numbers (Below (LegalStep over from pebble) bound) numbers)
-      (sym (from_zero labels walk begins)) (reached_start numbers (LegalStep over from pebble));
-}

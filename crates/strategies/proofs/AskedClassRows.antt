@@ -73,14 +73,6 @@ filled_if board side P true rows filled are k d inside = filled (get_or rows k d
 filled_if {R} board side P false rows filled are k d inside =
     subst (λ (rs : List R). All P rs) (sym are) (All-nil P) k d inside
 
--- a strategy on the start's value is one on that of its document
-pub strategy_is : (board : PlainBoard) (normal : List ℕ → List ℕ) (side : Option DocumentSide) (value : Value)
-    (document : PlainProof) (is : IsDocumentOver (normal_positions normal) (document_number board.labels) board
-    document)
-    → HasValue board board.start value → HasStrategy side value → HasStrategy side is.value
-strategy_is board normal side value document is has strategy =
-    subst (HasStrategy side) (same_value board board.start value is.value has is.has_value) strategy
-
 module _ (board : PlainBoard) (normal : List ℕ → List ℕ) (form : IsNormalForm board normal)
     (is_start : IsConfiguration board board.start) (side : Option DocumentSide) (value : Value)
     (has : HasValue board board.start value) (strategy : HasStrategy side value) where

@@ -9,8 +9,8 @@ use Rattle.gap_values.specs.declared.value_table.Best.{Best}
 use Rattle.strategies.specs.Best.{IsBestFor, IsBestRequestIfAny, IsLess, LowersValue}
 use Rattle.strategies.specs.Inside.Answers.{value_with}
 use Rattle.strategies.specs.Inside.RankMoves.{answered_with, one_more}
-use Rattle.strategies.proofs.Answers.{high-value, less-with, low-value, not-less-with}
-use Rattle.strategies.proofs.LeastValues.{IsLeastBelow, least-begins, least-kept, least-less, least-value}
+use Rattle.strategies.proofs.Answers.{less-with, low-value, not-less-with}
+use Rattle.strategies.proofs.LeastValues.{IsLeastBelow, least-kept, least-less, least-value}
 use Rattle.strategies.proofs.LoweringRequests.{LeadsBelow, forever_lowers_none, leads_from, lowers_first, lowers_from}
 use Rattle.strategies.proofs.LoweringRequests.{request_none}
 use Rattle.strategies.proofs.ValueOrder.{IsLess-trans, cases_value}
@@ -39,13 +39,6 @@ pub record IsAskedBelow (board : PlainBoard) (held : List ℕ) (bound least : �
   pub is_asked : IsAsked board held bound least asked
 
 module _ (board : PlainBoard) (held : List ℕ) where
-  pub asked-begins : IsAskedBelow board held 0 4294967295 None
-  asked-begins = record {
-    few = omega arith;
-    is_least = subst (IsLeastBelow board held 0) (sym (high-value 4294967295 (omega arith))) (least-begins board held);
-    is_asked = high-value 4294967295 (omega arith);
-  }
-
   module _ (pebble least : ℕ) (asked : Option ℕ) (was : IsAskedBelow board held pebble least asked) (best : Option Best)
       (is : IsBestFor board held pebble best) (requests : ℕ) (requests_is : value_with requests ≡ answered_with best)
     where

@@ -8,8 +8,7 @@ use Rattle.positions.specs.Game.{Legal, DominatesOthers, LabellerTree, Adversary
 use Rattle.positions.specs.Ranks.{configurations}
 use Rattle.positions.specs.Value.{HasValue}
 use Rattle.positions.proofs.Cited.{each_or_some, dominates_or_not, some_tree, moved_is_configuration, some_value}
-use Rattle.positions.proofs.Cited.{forever_from_count}
-use Rattle.positions.proofs.Cited.{same_value}
+use Rattle.positions.proofs.Cited.{forever_from_count, same_value}
 use Rattle.strategies.specs.Best.{IsLess, HasNoGreaterValue, LowersValue, IsBestRequest}
 use Rattle.strategies.proofs.ValueOrder.{at_least, less_from_tree, not_less, one_smallest}
 

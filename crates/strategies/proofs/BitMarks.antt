@@ -1,7 +1,6 @@
 -- Bits as marks.
 use Rattle.std.proofs.Common.{◌≡◌, ◌≢◌, ℕ, ◌*◌, ◌/◌, ◌%◌, ◌^◌, ◌<◌, bit_and, nat_eq, Bool, true, false, List, length}
-use Rattle.std.proofs.Common.{get_or, set, replicate}
-use Rattle.std.proofs.Common.{sym, ap, ◌∙◌, inl, inr, arith}
+use Rattle.std.proofs.Common.{get_or, set, replicate, sym, ap, ◌∙◌, inl, inr, arith}
 use Rattle.std.specs.Int.{bit_at, bit_not, w64}
 use Rattle.std.proofs.lemmas.Bool.{cases_eq, cases_lt}
 use Rattle.std.proofs.lemmas.List.{ext_get_or, length-set, length-replicate, get_or-replicate, get_or-set_same}

@@ -10,7 +10,7 @@ pub use Rattle.strategies.proofs.DocumentRows.{each_number}
 pub use Rattle.strategies.proofs.Meanings.{means_value}
 pub use Rattle.strategies.proofs.ShownClaims.{shows_claim}
 pub use Rattle.strategies.proofs.StartRanks.{start_value}
-pub use Rattle.strategies.proofs.ClassDocumentForm.{few_classes_fit, few_gaps_claim, has_class_form}
+pub use Rattle.strategies.proofs.ClassDocumentForm.{few_gaps_claim, has_class_form}
 pub use Rattle.strategies.proofs.LongTexts.{short_text_fits}
 pub use Rattle.strategies.proofs.ShownClassClaims.{claims_shown}
 pub use Rattle.strategies.proofs.SymmetricDocuments.{breaks_no_rule_up_to, has_symmetry_form, one_symmetry_document}

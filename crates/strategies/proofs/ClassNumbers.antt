@@ -6,8 +6,7 @@ use Rattle.board_text.specs.PlainBoard.{PlainBoard, IsConfiguration}
 use Rattle.positions.specs.Ranks.{digits_of}
 use Rattle.positions.proofs.Digits.{digits_of-number_of, number_below}
 use Rattle.proof_text.specs.Arranged.{order_of, document_number}
-use Rattle.proof_text.proofs.Cited.{order-none, order-label, orders-below}
-use Rattle.proof_text.proofs.Cited.{places-few}
+use Rattle.proof_text.proofs.Cited.{order-none, order-label, orders-below, places-few}
 use Rattle.strategies.specs.Inside.Numbering.{place_of, class_numbered, IsClassNumber}
 
 place_of-order : (labels place : ℕ) → place_of labels (order_of labels place) ≡ place

@@ -1,13 +1,11 @@
 -- The positions after the answers to the requests of one gap are added once.
-use Rattle.std.proofs.Common.{◌≡◌, ℕ, ◌<◌, ◌↔◌, inl, inr, List, Result, Ok, Err, IfOk, ap, sym, ◌∙◌, subst}
+use Rattle.std.proofs.Common.{◌≡◌, ℕ, ◌<◌, ◌↔◌, inl, inr, List, Result, Ok, Err, IfOk, ap, sym, ◌∙◌, subst, None}
 use Rattle.board_text.specs.PlainBoard.{IsConfiguration}
 use Rattle.positions.specs.Counts.{IsSmallest}
 use Rattle.positions.specs.Game.{Legal, moved}
-use Rattle.std.proofs.Common.{None}
 use Rattle.strategies.specs.Best.{IsBestRequest, LowersValue}
-use Rattle.strategies.specs.Inside.NumberedPositions.{AreExpanded, IsOfGaps, LegalLeads}
-use Rattle.strategies.specs.Inside.NumberedPositions.{NumberedPositions, StepSets, TakesSteps, position_number}
-use Rattle.strategies.specs.Inside.NumberedPositions.{request_moves}
+use Rattle.strategies.specs.Inside.NumberedPositions.{AreExpanded, IsOfGaps, LegalLeads, NumberedPositions, StepSets}
+use Rattle.strategies.specs.Inside.NumberedPositions.{TakesSteps, position_number, request_moves}
 use Rattle.strategies.specs.Inside.Reached.{AreReachedWith, NothingIsReached, ReachedBy}
 use Rattle.strategies.proofs.AddedNumbers.{reached_known, reached_same}
 use Rattle.strategies.proofs.BestRequests.{same_request}

@@ -1,6 +1,5 @@
 -- The best request and the labels of the best answers, as the pebbles are gone through.
-use Rattle.std.proofs.Common.{◌≡◌, ℕ, ◌+◌, ◌<◌, ◌≤◌, List, length, slice_index, slice_set, Option, None, Some, sym}
-use Rattle.std.proofs.Common.{subst, arith}
+use Rattle.std.proofs.Common.{◌≡◌, ℕ, ◌+◌, ◌<◌, ◌≤◌, List, slice_set, Option, None, Some, sym, subst, arith}
 use Rattle.board_text.specs.PlainBoard.{PlainBoard}
 use Rattle.board_text.specs.declared.board.TheConstants.{MAX_PEBBLES}
 use Rattle.gap_values.specs.declared.value_table.Best.{Best}
@@ -8,7 +7,7 @@ use Rattle.strategies.specs.Best.{IsBestAnswer, IsBestFor}
 use Rattle.strategies.specs.DocumentMoves.{IsAnswerable}
 use Rattle.strategies.specs.Inside.Answers.{label_of, value_with}
 use Rattle.strategies.specs.Inside.RankMoves.{answered_with}
-use Rattle.strategies.proofs.AskedRequests.{IsAskedBelow, asked-begins, asked-kept, asked-less}
+use Rattle.strategies.proofs.AskedRequests.{IsAskedBelow, asked-kept, asked-less}
 use Rattle.strategies.proofs.MadeRows.{AreTakenBelow, has_answer, taken_more}
 
 -- the best request below a bound, and the labels of the best answers, if the places have a value of 1 or more
@@ -18,17 +17,6 @@ pub record AreFound (board : PlainBoard) (held : List ℕ) (bound least : ℕ) (
   pub taken : IsAnswerable board held → AreTakenBelow board held bound labels
 
 module _ (board : PlainBoard) (held : List ℕ) where
-  pub found-begins : (labels : List ℕ) → length labels ≡ 6 → ((index : ℕ) → slice_index labels index ≡ 0)
-      → AreFound board held 0 4294967295 None labels
-  found-begins labels six none = record {
-    request = asked-begins board held;
-    taken = λ _. record {
-      six = six;
-      best = λ pebble below. absurd (omega arith);
-      rest = λ pebble above. none pebble;
-    };
-  }
-
   -- places of value 1 or more have a best answer
   answer-label : IsAnswerable board held → (pebble : ℕ) → pebble < board.pebbles → (best : Option Best)
       → IsBestFor board held pebble best → IsBestAnswer board held pebble (label_of best)

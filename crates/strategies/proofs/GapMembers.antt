@@ -1,8 +1,8 @@
 -- The best answer of a gap of places is the best answer to each request in it.
-use Rattle.std.proofs.Common.{◌≡◌, ℕ, suc, ◌+◌, ◌-◌, ◌<◌, ◌≤◌, ◌↔◌, ◌∙◌, List, [], ◌∷◌, length, drop, get_or}
-use Rattle.std.proofs.Common.{Option, None, Some, inl, inr, refl, sym, ap, subst, arith}
+use Rattle.std.proofs.Common.{◌≡◌, ℕ, suc, ◌+◌, ◌-◌, ◌<◌, ◌≤◌, ◌↔◌, ◌∙◌, List, ◌∷◌, length, drop, get_or}
+use Rattle.std.proofs.Common.{Option, None, Some, inl, inr, sym, ap, subst, arith}
 use Rattle.std.proofs.lemmas.Bool.{cases_lt}
-use Rattle.std.proofs.Math.Seq.{drop-cons, drop-length}
+use Rattle.std.proofs.Math.Seq.{drop-cons}
 use Rattle.board_text.specs.PlainBoard.{PlainBoard, IsConfiguration, places}
 use Rattle.board_text.proofs.Cited.{label_is_place}
 use Rattle.positions.specs.declared.value.Value.{Value}
@@ -165,16 +165,6 @@ pub record AreGathered (held : List ℕ) (pebble from : ℕ) (gap : List ℕ) : 
   pub class : IsClass bound count gap
   pub past : pebble < from → gap ≡ class_of (drop from held)
   pub before : from ≤ pebble → gap ≡ gap_at (drop from held) (pebble - from)
-
-pub gathered-begins : (held : List ℕ) (pebble : ℕ) → pebble < length held → AreGathered held pebble (length held) []
-gathered-begins held pebble inside = record {
-  bound = 0;
-  count = 0;
-  few = omega arith;
-  class = record { size = refl; falls = tt };
-  past = λ late. ap class_of (sym (drop-length held));
-  before = λ early. absurd (omega arith);
-}
 
 module _ (held : List ℕ) (pebble from : ℕ) (gap : List ℕ) (is : AreGathered held pebble (suc from) gap)
     (inside : from < length held) where

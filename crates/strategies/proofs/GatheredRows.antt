@@ -8,11 +8,10 @@ use Rattle.positions.specs.Value.{HasValue}
 use Rattle.positions.proofs.Cited.{same_value}
 use Rattle.proof_text.specs.Positions.{Positions}
 use Rattle.strategies.specs.DocumentMoves.{IsAnswerable, IsAnswerMove, IsRequestMove, LeadsOver}
-use Rattle.strategies.specs.Inside.Numbering.{Numbering}
+use Rattle.strategies.specs.Inside.Numbering.{Numbering, IsNumbering}
 use Rattle.strategies.specs.Inside.Side.{Side, labeller_side_over, adversary_side_over, AreOfReached}
 use Rattle.strategies.specs.PositionDocument.{IsLabellerRowOver, IsAdversaryRowOver}
 use Rattle.strategies.proofs.RowLists.{AreExactlyBelow, pass_numbers, push_row}
-use Rattle.strategies.specs.Inside.Numbering.{IsNumbering}
 use Rattle.strategies.proofs.OneList.{one_answer_row, one_request_row}
 use Rattle.strategies.specs.Inside.NumberedPositions.{ArePositions}
 use Rattle.strategies.proofs.ReachedByMoves.{answers_lead_to, lead_normal, requests_lead_to}

@@ -1,7 +1,6 @@
 -- Pebbles on one place are alike, and so are arranged configurations and others of their class.
 use Rattle.std.proofs.Common.{◌≡◌, ℕ, ◌<◌, ◌≤◌, ◌==◌, Bool, false, true≢false, List, length, get_or, sym, ap, ◌∙◌}
-use Rattle.std.proofs.Common.{subst}
-use Rattle.std.proofs.Common.{arith, inl, inr, eq-eqb, eqb-true}
+use Rattle.std.proofs.Common.{subst, arith, inl, inr, eq-eqb, eqb-true}
 use Rattle.std.specs.List.{Contains}
 use Rattle.std.proofs.lemmas.Bool.{cases_lt}
 use Rattle.std.proofs.lemmas.List.{get_or_default}
@@ -20,8 +19,7 @@ use Rattle.classes.specs.ClassGaps.{gap_at}
 use Rattle.classes.proofs.Cited.{class_of-own, class_of-set, put-cancel, legal-answers, value-of-class, with-number}
 use Rattle.proof_text.specs.Arranged.{arranged}
 use Rattle.proof_text.specs.Positions.{asked_pebble}
-use Rattle.proof_text.proofs.Cited.{class-arranged, arranged_is}
-use Rattle.proof_text.proofs.Cited.{asked_below}
+use Rattle.proof_text.proofs.Cited.{class-arranged, arranged_is, asked_below}
 
 -- configurations of one class have one value
 pub same-value : (board : PlainBoard) (one other : List ℕ) → IsConfiguration board one → IsConfiguration board other

@@ -8,18 +8,10 @@ use Rattle.std.proofs.lemmas.List.Elements.{Contains-append_left, Contains-get_o
 use Rattle.std.proofs.lemmas.Option.{slice_get_within, get_or_from_slice_get, slice_get-get_or}
 use Rattle.std.proofs.Math.Seq.{get_or-append_seam}
 use Rattle.strategies.specs.Inside.Reached.{AreReachedWith, HasLessRoom, HasTooMany, IsTakenFrom, NoneIsLeft}
-use Rattle.strategies.specs.Inside.Reached.{NothingIsReached}
-use Rattle.strategies.specs.Inside.ReachedLists.{ReachedList, none_listed, reached_by_list, room_of_list}
-use Rattle.strategies.proofs.AddedRanks.{IsWith}
+use Rattle.strategies.specs.Inside.ReachedLists.{ReachedList, reached_by_list, room_of_list}
+use Rattle.strategies.proofs.AddedRanks.{IsWith, contains_or_not}
 use Rattle.strategies.specs.declared.unmade.Unmade.TheVariants.{TooLong}
 use Rattle.strategies.proofs.AddedNumbers.{reached_known}
-use Rattle.strategies.proofs.AddedRanks.{contains_or_not}
-
-pub nothing_listed : (most : ℕ) → NothingIsReached (reached_by_list (none_listed most))
-nothing_listed most number = (
-  λ among. let inside : among.0 < 0 = among.1 in omega arith,
-  λ after. let inside : after.0 < 0 = after.2 in omega arith,
-)
 
 -- ---- a number is added
 
@@ -87,15 +79,6 @@ number_listed list number numbers are with = elim (contains_or_not list.numbers 
       (reached_by_list (with_numbers list l))) (sym (with.other new)) (new_added list number are new)
 ]
 
-pub still_taken : (numbers : List ℕ) (number taken : ℕ) (more : List ℕ) → taken ≤ length numbers
-    → IsWith numbers number more → taken ≤ length more
-still_taken numbers number taken more are with = elim (contains_or_not numbers number) [
-  | inl among ↦ subst (λ (l : List ℕ). taken ≤ length l) (sym (with.known among)) are
-  | inr new ↦
-      let longer : length (numbers ++ number ∷ []) ≡ length numbers + 1 = length-append numbers (number ∷ []) in
-      subst (λ (l : List ℕ). taken ≤ length l) (sym (with.other new)) (omega (arith, are, longer))
-]
-
 -- ---- a number is taken
 
 module _ (list : ReachedList) where
@@ -129,9 +112,6 @@ module _ (list : ReachedList) where
 
       here : slice_index list.numbers list.taken ≡ number
       here = get_or_from_slice_get list.numbers list.taken number 0 there
-
-      pub next_taken : list.taken + 1 ≤ length list.numbers
-      next_taken = omega (arith, inside)
 
       pub number_taken : IsTakenFrom (reached_by_list list) number (reached_by_list next)
       number_taken = record {

@@ -1,18 +1,12 @@
 -- Marks that are set and cleared.
-use Rattle.std.proofs.Common.{◌≡◌, ◌≢◌, ℕ, ◌<◌, ◌⊎◌, inl, inr, sym, ◌∙◌, arith}
+use Rattle.std.proofs.Common.{◌≡◌, ◌≢◌, ℕ, ◌<◌, inl, inr, sym, ◌∙◌, arith}
 use Rattle.std.proofs.Common.{Bool, true, false, List, length, slice_index_or, slice_set}
 use Rattle.std.proofs.Math.ListN.{replicate, length-replicate}
-use Rattle.std.proofs.lemmas.Bool.{both_ways, cases_Bool, cases_lt}
+use Rattle.std.proofs.lemmas.Bool.{both_ways, cases_lt}
 use Rattle.std.proofs.lemmas.List.{get_or-replicate, get_or-set_other, get_or-set_same, get_or_past}
 use Rattle.strategies.specs.Inside.Marks.{IsMarked}
 
 -- ---- marks
-
-pub marked_or_not : (marks : List Bool) (rank : ℕ) → IsMarked marks rank ⊎ ¬ IsMarked marks rank
-marked_or_not marks rank = elim (cases_Bool (slice_index_or marks rank false)) [
-  | inl is ↦ inl is
-  | inr not ↦ inr (λ is. both_ways (slice_index_or marks rank false) not is)
-]
 
 pub none_is_marked : (size rank : ℕ) → IsMarked (replicate size false) rank → ⊥
 none_is_marked size rank is = both_ways (slice_index_or (replicate size false) rank false) (no_mark_at size rank) is

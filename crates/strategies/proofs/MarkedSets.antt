@@ -1,16 +1,12 @@
 -- Sets of reached numbers, as marks.
-use Rattle.std.proofs.Common.{◌≡◌, ◌≢◌, ℕ, zero, suc, ◌^◌, ◌<◌, ◌≤◌, inl, inr, refl, sym, ap, ◌∙◌, subst, arith}
+use Rattle.std.proofs.Common.{◌≡◌, ◌≢◌, ℕ, zero, suc, ◌<◌, ◌≤◌, inl, inr, refl, sym, ap, ◌∙◌, subst, arith}
 use Rattle.std.proofs.Common.{Bool, true, false, List, length, slice_index_or, slice_set}
-use Rattle.std.proofs.Math.ListN.{length-replicate, length-set, replicate}
-use Rattle.std.proofs.lemmas.Bool.{both_ways, cases_eq, cases_lt}
+use Rattle.std.proofs.lemmas.Bool.{cases_eq, cases_lt}
 use Rattle.std.proofs.lemmas.List.{get_or-set_other, get_or-set_same}
-use Rattle.strategies.specs.Inside.Marks.{IsMarked}
-use Rattle.strategies.specs.Inside.Marks.{AreListed}
-use Rattle.strategies.specs.Inside.Reached.{AreInOrder, AreReachedWith, HasLessRoom, IsTakenFrom}
-use Rattle.strategies.specs.Inside.Reached.{NothingIsReached, Room}
+use Rattle.strategies.specs.Inside.Marks.{IsMarked, AreListed}
+use Rattle.strategies.specs.Inside.Reached.{AreInOrder, HasLessRoom, IsTakenFrom, NothingIsReached}
 use Rattle.strategies.specs.Inside.ReachedMarks.{ReachedMarks, AreLeftOfReached, none_reached, one_if_undone}
 use Rattle.strategies.specs.Inside.ReachedMarks.{reached_by_marks, room_of_marks, undone}
-use Rattle.strategies.proofs.AddedNumbers.{reached_known}
 use Rattle.strategies.proofs.MarkedRanks.{is_cleared, is_set, marked_inside, none_is_marked, still_set, was_set}
 
 abbrev at : ReachedMarks → ℕ → ℕ
@@ -19,11 +15,6 @@ at marks number = one_if_undone (slice_index_or marks.reached number false) (sli
 -- ---- how many steps are still to be taken
 
 module _ (marks after : ReachedMarks) where
-  same_undone : ((number : ℕ) → at after number ≡ at marks number) → (bound : ℕ)
-      → undone after bound ≡ undone marks bound
-  same_undone same zero = refl
-  same_undone same (suc bound) = omega (arith, same_undone same bound, same bound)
-
   fewer_undone : ((number : ℕ) → at after number ≤ at marks number) → (bound : ℕ)
       → undone after bound ≤ undone marks bound
   fewer_undone few zero = omega arith
@@ -40,13 +31,6 @@ module _ (marks after : ReachedMarks) where
         omega (arith, fewer_undone few bound, here)
   ]
 
-pub none_are : (size : ℕ) → size < 2 ^ 32 → AreLeftOfReached (replicate size false) (replicate size false)
-none_are size few = record {
-  size = refl;
-  few = let long : length (replicate size false) ≡ size = length-replicate size false in omega (arith, few);
-  known = λ number is. is;
-}
-
 pub none_marked : (size : ℕ) → NothingIsReached (reached_by_marks (none_reached size))
 none_marked size number = (none_is_marked size number, none_is_marked size number)
 
@@ -54,11 +38,6 @@ none_marked size number = (none_is_marked size number, none_is_marked size numbe
 
 module _ (marks : ReachedMarks) (number : ℕ) (are : AreLeftOfReached marks.reached marks.left)
     (inside : number < length marks.reached) where
-  pub number_known : slice_index_or marks.reached number false ≡ true
-      → AreReachedWith (reached_by_marks marks) (λ other. other ≡ number) (reached_by_marks marks)
-  number_known known = reached_known (reached_by_marks marks) (λ other. other ≡ number)
-      (λ other same. subst (IsMarked marks.reached) (sym same) known)
-
   abbrev added : ReachedMarks
   added = record { reached = slice_set marks.reached number true; left = slice_set marks.left number true }
 
@@ -68,51 +47,7 @@ module _ (marks : ReachedMarks) (number : ℕ) (are : AreLeftOfReached marks.rea
   set_left : (other : ℕ) → other ≡ number → IsMarked added.left other
   set_left other same = subst (IsMarked added.left) (sym same) (is_set marks.left number left_inside)
 
-  set_reached : (other : ℕ) → other ≡ number → IsMarked added.reached other
-  set_reached other same = subst (IsMarked added.reached) (sym same) (is_set marks.reached number inside)
-
-  pub added_are : AreLeftOfReached added.reached added.left
-  added_are = record {
-    size = length-set marks.left number true ∙ are.size ∙ sym (length-set marks.reached number true);
-    few = let same = length-set marks.reached number true in omega (arith, same, are.few);
-    known = λ other is. elim (cases_eq other number) [
-      | inl same ↦ set_reached other same
-      | inr differ ↦ still_set marks.reached number other true differ
-          (are.known other (was_set marks.left number other true differ is))
-    ];
-  }
-
   module _ (new : slice_index_or marks.reached number false ≡ false) where
-    pub number_added : AreReachedWith (reached_by_marks marks) (λ other. other ≡ number) (reached_by_marks added)
-    number_added = record {
-      each = λ other. elim (cases_eq other number) [
-        | inl same ↦ (λ is. inr same, λ either. set_reached other same)
-        | inr differ ↦ (
-          λ is. inl (was_set marks.reached number other true differ is),
-          λ either. elim either [
-            | inl old ↦ still_set marks.reached number other true differ old
-            | inr same ↦ absurd (differ same)
-          ],
-        )
-      ];
-      kept = λ other is. elim (cases_eq other number) [
-        | inl same ↦ set_left other same
-        | inr differ ↦ still_set marks.left number other true differ is
-      ];
-      fresh = λ other is. elim (cases_eq other number) [
-        | inl same ↦ inr (set_left other same)
-        | inr differ ↦ inl (was_set marks.reached number other true differ is)
-      ];
-      only = λ other is. elim (cases_eq other number) [
-        | inl same ↦ inr (
-          λ old. both_ways (slice_index_or marks.reached number false) new
-              (subst (IsMarked marks.reached) same old),
-          set_reached other same,
-        )
-        | inr differ ↦ inl (was_set marks.left number other true differ is)
-      ];
-    }
-
     same_at : (other : ℕ) → at added other ≡ at marks other
     same_at other = elim (cases_eq other number) [
       | inl same ↦
@@ -133,16 +68,6 @@ module _ (marks : ReachedMarks) (number : ℕ) (are : AreLeftOfReached marks.rea
         not_reached true = refl
         not_reached false = refl
 
-    pub room_same : room_of_marks added ≡ room_of_marks marks
-    room_same =
-        let size : length added.reached ≡ length marks.reached = length-set marks.reached number true in
-        let steps : undone added (length added.reached) ≡ undone marks (length marks.reached) =
-        ap (undone added) size ∙ same_undone marks added same_at (length marks.reached) in
-        ap (λ (b : ℕ). room b (undone added (length added.reached))) size ∙ ap (room (length marks.reached)) steps
-      where
-        room : ℕ → ℕ → Room
-        room bound steps = record { bound = bound; most = bound; steps = steps }
-
 -- ---- a number is taken
 
 module _ (marks : ReachedMarks) (number : ℕ) (are : AreLeftOfReached marks.reached marks.left)
@@ -155,13 +80,6 @@ module _ (marks : ReachedMarks) (number : ℕ) (are : AreLeftOfReached marks.rea
 
   cleared : (other : ℕ) → IsMarked taken.left other → other ≢ number
   cleared other is same = is_cleared marks.left number inside (subst (IsMarked taken.left) same is)
-
-  pub taken_are : AreLeftOfReached taken.reached taken.left
-  taken_are = record {
-    size = length-set marks.left number false ∙ are.size;
-    few = are.few;
-    known = λ other is. are.known other (was_set marks.left number other false (cleared other is) is);
-  }
 
   pub number_taken : IsTakenFrom (reached_by_marks marks) number (reached_by_marks taken)
   number_taken = record {

@@ -14,17 +14,15 @@ use Rattle.positions.proofs.Cited.{dominates_or_not, moved_is_configuration, som
 use Rattle.proof_text.specs.Positions.{Positions}
 use Rattle.strategies.specs.Best.{IsBestAnswer, IsBestRequest}
 use Rattle.strategies.specs.DocumentMoves.{IsAnswerable}
-use Rattle.strategies.specs.Inside.Numbering.{Numbering, AreAll}
+use Rattle.strategies.specs.Inside.Numbering.{Numbering, AreAll, IsNumbering}
 use Rattle.strategies.specs.Inside.ReachedOver.{number_over, IsAnswerStepOver, AnswerLeadsOver, IsRequestStepOver}
 use Rattle.strategies.specs.Inside.ReachedOver.{RequestLeadsOver, IsReachedOver, IsReachedByAnswersOver}
 use Rattle.strategies.specs.Inside.ReachedOver.{IsReachedByRequestsOver}
-use Rattle.strategies.proofs.AddedRanks.{IsWith, IsWithAll}
-use Rattle.strategies.proofs.AddedRanks.{Below, added_known, added_one, added_same, added_start, added_more, below_all}
-use Rattle.strategies.proofs.AddedRanks.{contains_or_not, few_apart}
+use Rattle.strategies.proofs.AddedRanks.{IsWith, IsWithAll, Below, added_known, added_one, added_same, added_start}
+use Rattle.strategies.proofs.AddedRanks.{added_more, below_all, contains_or_not, few_apart}
 use Rattle.strategies.proofs.BestAnswers.{best_answer, same_answer}
 use Rattle.strategies.proofs.BestRequests.{best_request, same_request, not_lowered}
 use Rattle.strategies.proofs.DocumentRows.{answers_one}
-use Rattle.strategies.specs.Inside.Numbering.{IsNumbering}
 use Rattle.strategies.specs.Inside.NumberedPositions.{ArePositions}
 use Rattle.strategies.proofs.SpreadMoves.{AreMoves, IsSpreadBy, IsStart, answer_moves, get_there, request_moves}
 use Rattle.strategies.proofs.SpreadMoves.{spread_begins, spread_ends, spread_more}

@@ -6,11 +6,10 @@ use Rattle.std.proofs.lemmas.List.Elements.{All-cons, All-nil, Contains-append_c
 use Rattle.std.proofs.lemmas.List.Elements.{Contains-append_right, Contains-get_or, Contains-push, Contains-push_cases}
 use Rattle.std.proofs.lemmas.List.Kept.{AllPairs-cons}
 use Rattle.board_text.specs.PlainBoard.{PlainBoard}
-use Rattle.strategies.specs.Inside.Numbering.{Numbering}
+use Rattle.strategies.specs.Inside.Numbering.{Numbering, IsNumbering}
 use Rattle.strategies.specs.Inside.Reached.{AreInOrder}
 use Rattle.strategies.specs.Inside.Side.{Side, AreOfReached, AreReached, IsRowAt, MayStandAt, AreRowsAt, AreSection}
 use Rattle.strategies.specs.Inside.Marks.{AreListed, IsMarked}
-use Rattle.strategies.specs.Inside.Numbering.{IsNumbering}
 use Rattle.strategies.proofs.OneList.{behind_first, tail_ascends}
 
 nothing_in : {X : Type 0} (x : X) → Contains [] x → ⊥

@@ -1,8 +1,7 @@
 -- Sets have room for all numbers of positions, and of gaps.
-use Rattle.std.proofs.Common.{◌≡◌, ℕ, ◌+◌, ◌^◌, ◌<◌, ◌≤◌, ◌∷◌, Some, arith}
+use Rattle.std.proofs.Common.{◌≡◌, ℕ, ◌+◌, ◌^◌, ◌<◌, ◌≤◌, ◌∷◌, Some, arith, false, length}
 use Rattle.std.specs.List.{remove}
 use Rattle.std.proofs.Math.ListN.{length-replicate, replicate}
-use Rattle.std.proofs.Common.{false, length}
 use Rattle.std.proofs.Math.Nat.{pow-le-pow_left, pow-le-pow_right}
 use Rattle.board_text.specs.PlainBoard.{PlainBoard, IsBoard}
 use Rattle.positions.specs.Gaps.{gaps}

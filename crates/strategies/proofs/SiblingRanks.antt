@@ -1,13 +1,11 @@
 -- The configurations that differ in the last pebble's place, and their gaps.
 use Rattle.std.proofs.Common.{◌≡◌, ℕ, zero, suc, ◌+◌, ◌-◌, ◌*◌, ◌^◌, ◌<◌, ◌≤◌, take, List, [], ◌∷◌, ◌++◌, length}
-use Rattle.std.proofs.Common.{get_or, set}
-use Rattle.std.proofs.Common.{inl, inr, refl, sym, ap, ◌∙◌, subst, arith}
+use Rattle.std.proofs.Common.{get_or, set, inl, inr, refl, sym, ap, ◌∙◌, subst, arith}
 use Rattle.std.specs.List.{All, remove}
 use Rattle.std.proofs.Math.Nat.{pow-zero}
 use Rattle.std.proofs.lemmas.Bool.{cases_eq}
 use Rattle.std.proofs.lemmas.List.{get_or-set_other, get_or-set_same, length-set, length-take-le, set-get_or, set-set}
-use Rattle.std.proofs.lemmas.List.{take-set, take-set-le}
-use Rattle.std.proofs.lemmas.List.{take_all, take_more}
+use Rattle.std.proofs.lemmas.List.{take-set-le, take_all, take_more}
 use Rattle.std.proofs.lemmas.List.Edits.{length-remove}
 use Rattle.std.proofs.lemmas.List.Elements.{All-set, All-take, All-weaker}
 use Rattle.board_text.specs.PlainBoard.{PlainBoard, IsConfiguration, places}
@@ -79,10 +77,6 @@ module _ (board : PlainBoard) (some : 0 < board.pebbles) where
       ap (λ n. n + place) first_is ∙ sym number in
       ap (configuration_at board) same
       ∙ configuration_at-rank_of board (moved held last place) (placed held is place low)
-
-  -- the same after a step to another of them
-  pub others-moved : (held : List ℕ) (place : ℕ) → others_held board (moved held last place) ≡ others_held board held
-  others-moved held place = take-set held last place
 
   pub rows-moved : (held rests : List ℕ) (place : ℕ) → AreNumberRows held board.pebbles rests
       → AreNumberRows (moved held last place) board.pebbles rests
@@ -181,14 +175,6 @@ module _ (board : PlainBoard) (held : List ℕ) (is : IsConfiguration board held
         → entry pebble ≡ number_by_greatest (class_of (remove (others_held board held) pebble))
     row pebble low = are.rows (board.pebbles - 1) (omega (arith, some)) pebble (omega (arith, low))
 
-    pub last-number : (pebble : ℕ) → pebble ≡ board.pebbles - 1
-        → entry pebble ≡ number_by_greatest (gap_at held pebble)
-    last-number pebble same =
-        row pebble (omega (arith, same))
-        ∙ ap (λ n. number_by_greatest (class_of (remove (others_held board held) n))) same
-        ∙ ap number_by_greatest last-gap
-        ∙ ap (λ n. number_by_greatest (gap_at held n)) (sym same)
-
     pub other-below : (pebble : ℕ) → pebble < board.pebbles - 1
         → entry pebble < ways (board.pebbles - 2) (places board)
     other-below pebble low =
@@ -232,13 +218,6 @@ module _ (held : List ℕ) where
         ap (λ l. class_of (remove l pebble)) more
         ∙ ap class_of (removed (take size held) (get_or held size 0) pebble (omega (arith, low, long)))
         ∙ class-push (remove (take size held) pebble) (get_or held size 0)
-
-    pub rest-same : rest (size + 1) size ≡ rest size size
-    rest-same =
-        ap (λ l. class_of (remove l size)) more
-        ∙ ap (λ n. class_of (remove (take size held ++ get_or held size 0 ∷ []) n)) (sym long)
-        ∙ ap class_of (remove-last (take size held) (get_or held size 0))
-        ∙ sym (ap class_of (remove-past (take size held) size (omega (arith, long))))
 
     pub rest-all : rest (size + 1) (size + 1) ≡ put (get_or held size 0) (rest size size)
     rest-all =
@@ -340,24 +319,6 @@ rests-kept held next rests same bound equal low are = record {
     shorter : (size : ℕ) → size ≤ same → take size held ≡ take size next
     shorter size most = sym (take_take-le size same held most) ∙ ap (take size) equal ∙ take_take-le size same next most
 
--- no pebble has the class of no places
-pub rests-begin : (held rests : List ℕ) → length rests ≡ 36 → get_or rests 0 0 ≡ 0 → AreNumberRows held 1 rests
-rests-begin held rests room none = record { room = room; rows = by }
-  where
-    by : (size : ℕ) → size < 1 → (pebble : ℕ) → pebble ≤ size
-        → get_or rests (6 * size + pebble) 0 ≡ number_by_greatest (class_of (remove (take size held) pebble))
-    by zero less zero inside = none
-    by zero less (suc pebble) inside = absurd (omega (arith, inside))
-    by (suc size) less pebble inside = absurd (omega (arith, less))
-
--- two lists agree in one place more
-pub same-more : (first second : List ℕ) (same : ℕ) → same < length first → same < length second
-    → take same first ≡ take same second → get_or first same 0 ≡ get_or second same 0
-    → take (same + 1) first ≡ take (same + 1) second
-same-more first second same one other equal here =
-    take_more first same 0 one ∙ ap (λ l. l ++ get_or first same 0 ∷ []) equal
-    ∙ ap (λ n. take same second ++ n ∷ []) here ∙ sym (take_more second same 0 other)
-
 -- ---- the numbers of all gaps, one after the other
 
 pub gaps-begin : (held numbers : List ℕ) → length numbers ≡ 6 → AreGapNumbers held 0 numbers
@@ -378,11 +339,3 @@ gaps-more held pebble number numbers few are is =
             get_or-set_other numbers pebble other number 0 differ ∙ are.each other (omega (arith, low, differ))
       ];
     }
-
-pub gaps-end : (held : List ℕ) (bound pebbles : ℕ) (numbers : List ℕ) → pebbles ≤ bound
-    → AreGapNumbers held bound numbers
-    → AreGapNumbers held pebbles numbers
-gaps-end held bound pebbles numbers most are = record {
-  room = are.room;
-  each = λ pebble low. are.each pebble (omega (arith, low, most));
-}

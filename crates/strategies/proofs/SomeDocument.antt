@@ -14,7 +14,7 @@ use Rattle.proof_text.specs.Positions.{Positions, class_positions, configuration
 use Rattle.proof_text.specs.Proof.{PlainProof}
 use Rattle.strategies.specs.ClassDocument.{IsClassDocumentOf}
 use Rattle.strategies.specs.Document.{IsDocumentOf}
-use Rattle.strategies.specs.Inside.Numbering.{Numbering, by_rank, by_order, AreAll}
+use Rattle.strategies.specs.Inside.Numbering.{Numbering, by_rank, by_order, AreAll, IsNumbering}
 use Rattle.strategies.specs.Inside.ReachedOver.{IsReachedByRequestsOver}
 use Rattle.strategies.specs.Inside.Side.{Side, labeller_side_over, adversary_side_over, AreOfReached}
 use Rattle.strategies.specs.PositionDocument.{AsksAdversary, IsLabellerRowOver, IsAdversaryRowOver, AreExactlyOver}
@@ -24,7 +24,6 @@ use Rattle.strategies.proofs.DocumentRows.{answer_row_for, request_row_for}
 use Rattle.strategies.proofs.GatheredRows.{adversarys, labellers, no_request, no_row_there, row_there}
 use Rattle.strategies.proofs.NormalForms.{arranged_form}
 use Rattle.strategies.proofs.Numberings.{are_orders, are_ranks}
-use Rattle.strategies.specs.Inside.Numbering.{IsNumbering}
 use Rattle.strategies.proofs.PositionLaws.{are_normal, are_plain}
 use Rattle.strategies.specs.Inside.NumberedPositions.{ArePositions}
 use Rattle.strategies.proofs.ReachedLists.{answers_reach, requests_reach}

@@ -1,22 +1,20 @@
 -- The positions that steps lead to, from one to another, until no step is left to take.
-use Rattle.std.proofs.Common.{◌≡◌, ℕ, inl, inr, List, [], ◌∷◌, ◌++◌, refl, sym, ap, ◌∙◌, subst}
-use Rattle.std.proofs.Common.{get_or}
+use Rattle.std.proofs.Common.{◌≡◌, ℕ, inl, inr, List, [], ◌∷◌, ◌++◌, refl, sym, ap, ◌∙◌, subst, get_or}
 use Rattle.std.proofs.lemmas.Bool.{cases_eq}
 use Rattle.board_text.specs.PlainBoard.{IsConfiguration}
 use Rattle.positions.specs.Game.{moved}
 use Rattle.positions.proofs.Cited.{moved_is_configuration}
 use Rattle.strategies.specs.DocumentMoves.{LeadsOver}
 use Rattle.strategies.specs.Inside.NumberedPositions.{AreMoves, AreNumberedPositions, IsReachedOn, NumberedPositions}
-use Rattle.strategies.specs.Inside.NumberedPositions.{SideMoves, answer_moves, position_number, request_moves}
+use Rattle.strategies.specs.Inside.NumberedPositions.{SideMoves, answer_moves, position_number, request_moves, IsSideOf}
 use Rattle.strategies.specs.Inside.Numbering.{AreAll}
-use Rattle.strategies.specs.Inside.NumberedPositions.{AreExpanded, IsSideOf}
 use Rattle.strategies.specs.Inside.Reached.{HasTooMany}
+use Rattle.strategies.specs.Inside.Reached.{AreReachedWith, IsTakenFrom, NoneIsLeft, NothingIsReached, ReachedBy}
 use Rattle.strategies.specs.Inside.Sections.{HasNoSection}
 use Rattle.strategies.specs.Inside.Side.{Side, AreReached}
 use Rattle.strategies.specs.declared.unmade.Unmade.{Unmade}
 use Rattle.strategies.specs.declared.unmade.Unmade.TheVariants.{Memory, TooLong}
 use Rattle.strategies.proofs.AddedNumbers.{reached_known, reached_one}
-use Rattle.strategies.specs.Inside.Reached.{AreReachedWith, IsTakenFrom, NoneIsLeft, NothingIsReached, ReachedBy}
 use Rattle.strategies.proofs.ReachedByMoves.{one_more, moves_stay}
 
 pub answers_move : (over : NumberedPositions) → AreMoves over (answer_moves over)
@@ -169,13 +167,6 @@ module _ (over : NumberedPositions) (moves : SideMoves) where
               (over.numbering.places number)
               (λ holds. (start_there, spread.start_is holds))
               reached.reached reached.holds
-
--- the same numbers are reached
-pub still_expanded : (over : NumberedPositions) (Step : List ℕ → ℕ → ℕ → Type 0) (Expanded : ℕ → Type 0)
-    (set taken : ReachedBy) (number : ℕ) → IsTakenFrom set number taken
-    → AreExpanded over Step Expanded set.Among → AreExpanded over Step Expanded taken.Among
-still_expanded over Step Expanded set taken number takes are from pebble is inside gap to leads =
-    (takes.same to).1 (are from pebble is inside gap to leads)
 
 module _ {R : Type 0} (over : NumberedPositions) (moves : SideMoves) (side : Side R) (is_side : IsSideOf over moves
     side)

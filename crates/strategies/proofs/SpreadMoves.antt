@@ -10,10 +10,9 @@ use Rattle.positions.specs.Game.{moved}
 use Rattle.positions.proofs.Cited.{moved_is_configuration}
 use Rattle.proof_text.specs.Positions.{Positions}
 use Rattle.strategies.specs.DocumentMoves.{IsAnswerable, IsAnswerMove, IsRequestMove, LeadsOver}
-use Rattle.strategies.specs.Inside.Numbering.{Numbering, AreAll}
+use Rattle.strategies.specs.Inside.Numbering.{Numbering, AreAll, IsNumbering}
 use Rattle.strategies.specs.Inside.ReachedOver.{number_over, AnswerLeadsOver, RequestLeadsOver, IsReachedOver}
 use Rattle.strategies.proofs.AddedRanks.{IsWithAll}
-use Rattle.strategies.specs.Inside.Numbering.{IsNumbering}
 use Rattle.strategies.specs.Inside.NumberedPositions.{ArePositions}
 use Rattle.strategies.proofs.ReachedByMoves.{one_more, moves_stay}
 
@@ -121,10 +120,6 @@ module _ (board : PlainBoard) (positions : Positions) (numbering : Numbering) (I
   pub record IsSpreadBy (place : ℕ) (numbers : List ℕ) : Type 0 where
     pub on : IsSpread IsFound Leads place numbers
     pub start : Holds (positions.normal board.start) → Contains numbers (number_over positions numbering board.start)
-
-  pub spread_found : (place number : ℕ) (numbers : List ℕ) → IsSpreadBy place numbers
-      → slice_get numbers place ≡ Some number → numbering.IsNumber number
-  spread_found place number numbers spread there = (spread.on.sound number (get_there numbers place number there)).0
 
 module _ (board : PlainBoard) (positions : Positions) (are_positions : ArePositions board positions)
     (numbering : Numbering) (are_numbers : IsNumbering board numbering) (IsMove : List ℕ → ℕ → ℕ → Type 0)

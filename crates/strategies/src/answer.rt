@@ -26,8 +26,7 @@ impl Model for Answer {
     ghost use Rattle.std.proofs.Common.{ap, ◌∙◌};
     ghost use Rattle.gap_values.specs.declared.value_table.Best.{Best};
     ghost use Rattle.strategies.specs.Inside.Answers.{IsAnswerInNumbers, best_with, label_of};
-    ghost use Rattle.strategies.specs.Inside.Answers.{requests_of};
-    ghost use Rattle.strategies.specs.Inside.Answers.{same_label, same_requests};
+    ghost use Rattle.strategies.specs.Inside.Answers.{requests_of, same_label, same_requests};
 
     ghost Value = { Option Best };
 

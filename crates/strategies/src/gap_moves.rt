@@ -1,12 +1,10 @@
 //! The values of a board and the best moves on it, by a table of its values.
 
-ghost use Rattle.std.specs.Prelude.{◌≡◌, ◌↔◌, ◌<◌, IsTrue};
+ghost use Rattle.std.specs.Prelude.{◌≡◌, ◌<◌};
 ghost use Rattle.board_text.specs.PlainBoard.{IsBoard, IsConfiguration};
 ghost use Rattle.classes.specs.ClassGaps.{gap_at};
 ghost use Rattle.positions.specs.Value.{HasValue};
-ghost use Rattle.positions.specs.declared.value.Value.TheVariants.{Finite};
 ghost use Rattle.strategies.specs.Best.{IsBestAnswerIfAny, IsBestFor, IsBestRequestIfAny};
-ghost use Rattle.strategies.specs.Best.{LowersValue};
 
 use board_text::Board;
 use classes::Places;

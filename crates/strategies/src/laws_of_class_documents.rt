@@ -10,9 +10,8 @@ ghost use Rattle.positions.specs.declared.value.Value.TheVariants.{Finite};
 ghost use Rattle.proof_text.specs.Proof.{PlainProof, IsClaim};
 ghost use Rattle.proof_text.specs.Documents.{IsClassProof};
 ghost use Rattle.proof_text.specs.ProofText.{class_text};
-ghost use Rattle.proof_text.specs.Positions.{class_positions, configuration_positions};
+ghost use Rattle.proof_text.specs.Positions.{class_positions};
 ghost use Rattle.proof_text.specs.Rules.{BreaksNoRule};
-ghost use Rattle.proof_text.specs.Arranged.{document_number};
 ghost use Rattle.strategies.specs.ClassDocument.{IsClassDocumentOf, FitsFormat};
 
 use proof_text::{MAX_CLASS_ROWS, MAX_TURNS};

@@ -1,6 +1,6 @@
 //! A set of the numbers of positions that were reached.
 
-ghost use Rattle.std.specs.Prelude.{◌≡◌, ◌↔◌, ◌<◌, ℕ, IfErr, IfOk, IsTrue, MatchOption};
+ghost use Rattle.std.specs.Prelude.{◌≡◌, ◌↔◌, ◌<◌, IfErr, IfOk, IsTrue, MatchOption};
 ghost use Rattle.strategies.specs.Inside.Reached.{AreInOrder, AreReachedWith, HasTooMany};
 ghost use Rattle.strategies.specs.Inside.Reached.{IsTakenFrom};
 ghost use Rattle.strategies.specs.Inside.Reached.{NoneIsLeft, ReachedBy, Room, HasLessRoom};

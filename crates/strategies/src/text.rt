@@ -11,7 +11,7 @@ ghost use Rattle.proof_text.specs.Proof.{asks_labeller as asks_labeller_by};
 ghost use Rattle.strategies.specs.DocumentTexts.{IsDocumentText};
 ghost use Rattle.strategies.specs.Inside.Lines.{AreLinesIf, adversary_line, labeller_line};
 ghost use Rattle.strategies.specs.Inside.Lines.{section_lines_text};
-ghost use Rattle.strategies.specs.Inside.Side.{Side, labeller_side, adversary_side};
+ghost use Rattle.strategies.specs.Inside.Side.{labeller_side, adversary_side};
 ghost use Rattle.strategies.specs.Sides.{HasStrategy, claim_for as claim_by};
 
 use crate::gap_moves::GapMoves;

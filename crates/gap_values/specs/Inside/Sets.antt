@@ -1,8 +1,6 @@
 -- Sets of labels with which lists of places are closed gaps.
-use Rattle.std.specs.Prelude.{◌≡◌, ◌≢◌, ◌⊎◌, ℕ, ◌+◌, ◌-◌, ◌*◌, ◌<◌, ◌≤◌, ◌↔◌}
-use Rattle.std.specs.Prelude.{nat_eq, if◌then◌else◌, true}
-use Rattle.std.specs.Prelude.{List, [], ◌∷◌}
-use Rattle.std.specs.Prelude.{length, slice_index, slice_index_or}
+use Rattle.std.specs.Prelude.{◌≡◌, ◌≢◌, ◌⊎◌, ℕ, ◌+◌, ◌-◌, ◌*◌, ◌<◌, ◌≤◌, ◌↔◌, nat_eq, if◌then◌else◌}
+use Rattle.std.specs.Prelude.{true, List, [], ◌∷◌, length, slice_index, slice_index_or}
 use Rattle.std.specs.List.{remove}
 use Rattle.board_text.specs.Domination.{has_bit}
 use Rattle.board_text.specs.PlainBoard.{PlainBoard, IsBoard, places}

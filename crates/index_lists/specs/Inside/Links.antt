@@ -1,7 +1,6 @@
 -- Definitions for this crate's own functions, beside `Links`.
 use Rattle.std.specs.Prelude.{◌≡◌, ℕ, ◌+◌, ◌-◌, ◌<◌, ◌≤◌, ◌==◌, cond, List, [], ◌∷◌, zero, suc}
-use Rattle.std.specs.Prelude.{length, slice_index, slice_set}
-use Rattle.std.specs.Prelude.{Option, None, Some}
+use Rattle.std.specs.Prelude.{length, slice_index, slice_set, Option, None, Some}
 use Rattle.index_lists.specs.Lists.{Lists, times, lists_of}
 use Rattle.index_lists.specs.Links.{Chains}
 

@@ -10,11 +10,9 @@ use Rattle.positions.specs.declared.turns.Turns.{Turns}
 use Rattle.proof_text.specs.Proof.{AreTurns}
 use Rattle.proof_text.specs.ProofText.{turns_text}
 use Rattle.proof_text.specs.RowWords.{AnswerWords, RequestWords, IsTurnsText, AreAnswerWords}
-use Rattle.proof_text.specs.RowWords.{AreRequestWords, answer_words_line}
-use Rattle.proof_text.specs.RowWords.{request_words_line}
+use Rattle.proof_text.specs.RowWords.{AreRequestWords, answer_words_line, request_words_line}
 use Rattle.proof_text.specs.RowWords.{ClassRequestWords, AreClassRequestWords}
-use Rattle.proof_text.specs.RowWords.{class_request_words_line}
-use Rattle.proof_text.specs.RowWords.{AreMapWords, map_words_line}
+use Rattle.proof_text.specs.RowWords.{class_request_words_line, AreMapWords, map_words_line}
 use Rattle.proof_text.specs.RowFaults.{SpellsTurns}
 use Rattle.proof_text.specs.declared.row_words.AnswerValues.{AnswerValues}
 use Rattle.proof_text.specs.declared.row_words.RequestValues.{RequestValues}

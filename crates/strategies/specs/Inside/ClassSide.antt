@@ -8,8 +8,7 @@ use Rattle.proof_text.specs.declared.class_proof.LabellerClassRow.{LabellerClass
 use Rattle.proof_text.specs.declared.class_proof.AdversaryClassRow.{AdversaryClassRow}
 use Rattle.strategies.specs.Inside.Numbering.{by_order}
 use Rattle.strategies.specs.Inside.NumberedPositions.{NumberedPositions, over_normal}
-use Rattle.strategies.specs.Inside.Side.{Side, labeller_side_over, adversary_side_over}
-use Rattle.strategies.specs.Inside.Side.{AreSection}
+use Rattle.strategies.specs.Inside.Side.{Side, labeller_side_over, adversary_side_over, AreSection}
 
 -- the labeller's rows of a document over the positions of a over
 abbrev pub labeller_side_on : NumberedPositions → Value → Side LabellerClassRow

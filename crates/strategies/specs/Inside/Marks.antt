@@ -1,7 +1,6 @@
 -- Marks, a bit each.
 use Rattle.std.specs.Prelude.{◌≡◌, ◌<◌, ◌≤◌, ◌↔◌, ℕ, List, Bool, true, false, map, AllPairs}
-use Rattle.std.specs.Prelude.{Contains}
-use Rattle.std.specs.Prelude.{slice_index_or}
+use Rattle.std.specs.Prelude.{Contains, slice_index_or}
 use Rattle.std.specs.List.{range_with_len}
 use Rattle.board_text.specs.Domination.{has_bit}
 

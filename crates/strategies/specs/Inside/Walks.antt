@@ -1,6 +1,5 @@
 -- Walks over configurations by ranks: those that differ in the last pebble's place alone.
-use Rattle.std.specs.Prelude.{◌≡◌, ℕ, ◌+◌, ◌-◌, ◌*◌, ◌^◌, ◌<◌, ◌≤◌, List, length}
-use Rattle.std.specs.Prelude.{slice_index, take}
+use Rattle.std.specs.Prelude.{◌≡◌, ℕ, ◌+◌, ◌-◌, ◌*◌, ◌^◌, ◌<◌, ◌≤◌, List, length, slice_index, take}
 use Rattle.std.specs.List.{remove}
 use Rattle.board_text.specs.PlainBoard.{PlainBoard, IsConfiguration, places}
 use Rattle.board_text.specs.declared.board.TheConstants.{MAX_PEBBLES}

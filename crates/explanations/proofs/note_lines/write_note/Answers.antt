@@ -1,4 +1,4 @@
-use Rattle.std.proofs.Common.{refl, ◌++◌, ◌∷◌, [], subst}
+use Rattle.std.proofs.Common.{◌++◌, ◌∷◌, [], subst}
 use Rattle.board_text.specs.LineForms.{with_line_feed}
 use Rattle.console.specs.Showing.{IsMore, shown}
 use Rattle.console.proofs.Cited.{then_more}

@@ -1,7 +1,6 @@
 use Rattle.std.proofs.Common.{◌+◌, arith, subst, sym}
 use Rattle.gap_values.proofs.BestAnswers.{IsAnswerTaken, answer-taken, answers-over}
-use Rattle.gap_values.proofs.ClassRounds.{IsRoundSoFar, round-kept, round-more, round-none, round-over}
-use Rattle.gap_values.proofs.ClassRounds.{word-small}
+use Rattle.gap_values.proofs.ClassRounds.{IsRoundSoFar, round-kept, round-more, round-none, round-over, word-small}
 use Rattle.gap_values.proofs.class_rounds.round_of_gap.Goals as goal
 use Rattle.gap_values.proofs.class_rounds.round_of_gap.Goals.{After-word_of_result-word}
 

@@ -5,11 +5,10 @@ use Rattle.std.proofs.lemmas.List.{length-set, get_or-set_other, get_or-set_same
 use Rattle.board_text.specs.PlainBoard.{places}
 use Rattle.classes.specs.Classes.{IsClass}
 use Rattle.classes.specs.Numbers.{number_by_greatest}
-use Rattle.classes.proofs.Cited.{is-below, with-is, with-number}
+use Rattle.classes.proofs.Cited.{is-below, with-is, with-number, walk-of}
 use Rattle.gap_values.specs.Inside.ClassRounds.{IsRoundOf}
 use Rattle.classes.specs.FamilyWalks.{IsAtFamily}
 use Rattle.gap_values.proofs.ClassRounds.{rounds-table}
-use Rattle.classes.proofs.Cited.{walk-of}
 use Rattle.gap_values.proofs.RoundSteps.{gap_count, gap_with}
 use Rattle.gap_values.proofs.class_rounds.rounds_of_classes.Goals as goal
 use Rattle.gap_values.proofs.class_rounds.rounds_of_classes.Goals.{In-loop-number}

@@ -9,7 +9,7 @@ use Rattle.gap_values.specs.Inside.Words.{gap_word}
 use Rattle.gap_values.proofs.ClosedGaps.{class-is, gap-is}
 use Rattle.gap_values.proofs.FirstGaps.{class-index, class-number, first-more, first-same}
 use Rattle.gap_values.proofs.closing.first_gap.Goals as goal
-use Rattle.gap_values.proofs.closing.first_gap.Goals.{After-number, After-as_slice-2, After-index_of}
+use Rattle.gap_values.proofs.closing.first_gap.Goals.{After-as_slice-2, After-index_of}
 use Rattle.gap_values.proofs.closing.first_gap.Goals.{then-word-first, else-word-first}
 
 -- the class has a place for each pebble

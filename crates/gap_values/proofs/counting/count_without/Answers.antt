@@ -1,8 +1,7 @@
 use Rattle.std.proofs.Common.{suc, ◌≡◌, ◌+◌, ◌-◌, ◌≤◌, get_or, refl, arith, rules}
 use Rattle.classes.specs.Numbers.{ways}
 use Rattle.board_text.specs.PlainBoard.{places}
-use Rattle.classes.proofs.Cited.{ways-fit}
-use Rattle.classes.proofs.Cited.{row-begins, row-first, row-more}
+use Rattle.classes.proofs.Cited.{ways-fit, row-begins, row-first, row-more}
 use Rattle.gap_values.proofs.counting.count_without.Goals as goal
 
 pub loop-pebble-init : goal.loop-pebble-init

@@ -1,5 +1,4 @@
-use Rattle.std.proofs.Common.{◌≡◌, ◌∙◌, ◌+◌, ◌-◌, ◌*◌, ◌<◌, ℕ, not, cond, ap}
-use Rattle.std.proofs.Common.{inl, inr, arith}
+use Rattle.std.proofs.Common.{◌≡◌, ◌∙◌, ◌+◌, ◌-◌, ◌*◌, ◌<◌, ℕ, not, cond, ap, inl, inr, arith}
 use mir.Val.{bool_byte}
 use Rattle.std.proofs.lemmas.Bool.{cases_Bool, cases_lt, both_ways}
 use Rattle.board_text.specs.Domination.{has_bit}

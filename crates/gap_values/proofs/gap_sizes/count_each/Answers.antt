@@ -1,12 +1,10 @@
-use Rattle.std.proofs.Common.{◌≡◌, ◌+◌, ◌-◌, ℕ, cond, nat_eq, length, subst, inl, inr}
-use Rattle.std.proofs.Common.{arith}
+use Rattle.std.proofs.Common.{◌≡◌, ◌+◌, ◌-◌, ℕ, cond, nat_eq, length, subst, inl, inr, arith}
 use Rattle.std.proofs.lemmas.Bool.{cases_eq}
 use Rattle.board_text.proofs.Cited.{few_places}
 use Rattle.classes.specs.Sums.{sum_below}
-use Rattle.classes.proofs.Cited.{sum-zero}
+use Rattle.classes.proofs.Cited.{sum-zero, place-low}
 use Rattle.gap_values.specs.Inside.Counts.{AreMore, class_word, once, weight_with}
 use Rattle.gap_values.proofs.ClassCounts.{member-word-low}
-use Rattle.classes.proofs.Cited.{place-low}
 use Rattle.gap_values.proofs.GapCounts.{more-joined, more-none, room-more, terms-few, terms-more, weight-few, weight-is}
 use Rattle.gap_values.proofs.gap_sizes.count_each.Goals as goal
 use Rattle.gap_values.proofs.gap_sizes.count_each.Goals.{At-loop-place, After-of}

@@ -5,14 +5,12 @@ use Rattle.std.proofs.lemmas.Result.{err_from_is_err_and}
 use Rattle.board_text.specs.PlainBoard.{places}
 use Rattle.classes.specs.Numbers.{ways}
 use Rattle.gap_values.specs.Inside.OpenWords.{AreClosedFrom, open_below}
-use Rattle.gap_values.specs.Inside.Sets.{ArePassed, AreGathered, AreFresh, AreTablesOf, HasRound, IsOfRound}
-use Rattle.gap_values.specs.Inside.Sets.{TellClosed}
+use Rattle.gap_values.specs.Inside.Sets.{ArePassed, AreGathered, AreFresh, AreTablesOf, HasRound, IsOfRound, TellClosed}
 use Rattle.console.proofs.Cited.{none_told, nothing_told, told_more}
 use Rattle.gap_values.proofs.ClosedBehind.{closed-kept}
 use Rattle.gap_values.proofs.OpenCounts.{all-rounds, lone-counts, none-so-far, one-more}
 use Rattle.gap_values.proofs.RoundSteps.{IsAtRound, gap_count, first-round, last-round, lone-rounds, next-round}
-use Rattle.gap_values.proofs.RoundSteps.{all-told, first-kept, fresh-words}
-use Rattle.gap_values.proofs.RoundSteps.{some-closed, round-told}
+use Rattle.gap_values.proofs.RoundSteps.{all-told, first-kept, fresh-words, some-closed, round-told}
 use Rattle.gap_values.proofs.rounds.rounds_of_gaps.Given.{Over}
 use Rattle.gap_values.proofs.rounds.rounds_of_gaps.Goals as goal
 use Rattle.gap_values.proofs.rounds.rounds_of_gaps.Goals.{In_ok-words, After-close_open-some}

@@ -5,19 +5,17 @@ use Rattle.board_text.specs.PlainBoard.{PlainBoard, places}
 use Rattle.board_text.specs.Domination.{has_bit}
 use Rattle.board_text.specs.declared.board.TheConstants.{MAX_LABELS}
 use Rattle.board_text.proofs.Cited.{few_places, labels_and_places}
-use Rattle.classes.proofs.Cited.{least-within}
+use Rattle.classes.proofs.Cited.{least-within, held-class, held-long, IsOwnFamily, own-family}
 use Rattle.classes.specs.declared.families.Family.{Family}
 use Rattle.gap_values.specs.Inside.Counts.{AreMore, AreSmallWeights, AreSizesBetween, IsAboveRounds, made_by}
 use Rattle.classes.specs.FamilyWalks.{IsFamilyOf, IsGapOf}
 use Rattle.gap_values.specs.Inside.FamilyWeights.{AreFamilyWeights}
 use Rattle.gap_values.specs.Inside.Sets.{AreLabelsUpTo}
-use Rattle.classes.proofs.Cited.{held-class, held-long, IsOwnFamily, own-family}
 use Rattle.gap_values.proofs.GapCounts.{gap-step, room-between}
 use Rattle.gap_values.proofs.Weighing.{gap-size}
 use Rattle.gap_values.proofs.sizes.count_gaps_of.Given.{Over}
 use Rattle.gap_values.proofs.sizes.count_gaps_of.Goals as goal
-use Rattle.gap_values.proofs.sizes.count_gaps_of.Goals.{Start, After-of-own, then-least-places}
-use Rattle.gap_values.proofs.sizes.count_gaps_of.Goals.{else-least-places}
+use Rattle.gap_values.proofs.sizes.count_gaps_of.Goals.{Start, After-of-own, then-least-places, else-least-places}
 
 module _ (g : Over) (c : Start g) where
   long : length c.args.family.now.held ≡ c.args.numbers.now.pebbles - 2

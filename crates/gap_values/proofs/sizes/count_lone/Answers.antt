@@ -1,11 +1,10 @@
 use Rattle.std.proofs.Common.{◌≡◌, ◌∙◌, ◌+◌, ◌-◌, ℕ, List, length, ap, sym, subst, arith}
 use Rattle.board_text.specs.PlainBoard.{PlainBoard, places}
 use Rattle.classes.specs.Numbers.{ways}
-use Rattle.classes.proofs.Cited.{ways-zero}
+use Rattle.classes.proofs.Cited.{ways-zero, held-long}
 use Rattle.gap_values.specs.Inside.Counts.{AreMore, AreSizesBetween, made_by}
 use Rattle.classes.specs.FamilyWalks.{IsFamilyOf}
 use Rattle.gap_values.specs.Inside.FamilyWeights.{AreFamilyWeights}
-use Rattle.classes.proofs.Cited.{held-long}
 use Rattle.gap_values.proofs.GapCounts.{gap-step, room-between, room-up}
 use Rattle.gap_values.proofs.sizes.count_lone.Goals as goal
 

@@ -4,12 +4,11 @@ use Rattle.std.proofs.lemmas.List.{length-replicate, get_or-replicate}
 use Rattle.board_text.specs.PlainBoard.{PlainBoard, places}
 use Rattle.classes.specs.Families.{least_places}
 use Rattle.classes.specs.Numbers.{ways, class_with}
-use Rattle.classes.proofs.Cited.{ways-fit}
+use Rattle.classes.proofs.Cited.{ways-fit, edge-only, family-size, next-start, walk-all, walk-start, walk-within}
+use Rattle.classes.proofs.Cited.{walk-zero}
 use Rattle.gap_values.specs.Inside.Counts.{AreCounted, AreSizesBetween, IsAboveRounds, IsCountBetween}
 use Rattle.classes.specs.FamilyWalks.{IsAtFamily, IsFamilyOf}
 use Rattle.gap_values.proofs.ClassCounts.{counting-begins, sizes-few}
-use Rattle.classes.proofs.Cited.{edge-only, family-size, next-start, walk-all, walk-start, walk-within}
-use Rattle.classes.proofs.Cited.{walk-zero}
 use Rattle.gap_values.proofs.sizes.sizes_between.Given.{Over}
 use Rattle.gap_values.proofs.sizes.sizes_between.Goals as goal
 use Rattle.gap_values.proofs.sizes.sizes_between.Goals.{After-pebbles-fewer, After-family_size-size, After-min-high}

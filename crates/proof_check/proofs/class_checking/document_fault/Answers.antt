@@ -1,6 +1,5 @@
 use Rattle.std.proofs.Common.{None, Some, inl, inr, refl}
-use Rattle.proof_text.specs.ClassProof.{class_answer_row, class_request_row}
-use Rattle.proof_text.specs.ClassProof.{plain_class_proof}
+use Rattle.proof_text.specs.ClassProof.{class_answer_row, class_request_row, plain_class_proof}
 use Rattle.proof_text.specs.Positions.{Positions, normal_positions}
 use Rattle.proof_text.specs.Rules.{MeetsRequests, MeetsAnswers}
 use Rattle.symmetries.specs.Elements.{least_by}

@@ -3,8 +3,7 @@ use Rattle.board_text.proofs.Cited.{labels_and_places}
 use Rattle.proof_text.proofs.RowLemmas.{AnswerTaken, answer_label, answer_number, answer_taken, padded_answer}
 use Rattle.proof_text.proofs.rows.read_answer.Given.{Over}
 use Rattle.proof_text.proofs.rows.read_answer.Goals as goal
-use Rattle.proof_text.proofs.rows.read_answer.Goals.{In-Some}
-use Rattle.proof_text.proofs.rows.read_answer.Goals.{then-not-values-via-then-not-values}
+use Rattle.proof_text.proofs.rows.read_answer.Goals.{In-Some, then-not-values-via-then-not-values}
 use Rattle.proof_text.proofs.rows.read_answer.Goals.{then-not-values-via-else-not-values+then-not-values-2}
 
 -- the words of the row

@@ -1,4 +1,4 @@
-use Rattle.std.proofs.Common.{◌∙◌, ◌≤◌, arith, subst, sym}
+use Rattle.std.proofs.Common.{◌∙◌, ◌≤◌, subst, sym}
 use Rattle.gap_values.specs.ClassValues.{AreClassValues}
 use Rattle.graphs.specs.Numbered.{graph_of}
 use Rattle.solver.specs.Words.{AreValueWords}

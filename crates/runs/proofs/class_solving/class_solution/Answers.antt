@@ -1,9 +1,26 @@
-use Rattle.std.proofs.Common.{◌<◌, length, rules, subst}
+use Rattle.std.proofs.Common.{◌≡◌, ◌<◌, Option, length, rules, sym, subst}
 use Rattle.std.proofs.lemmas.Result.{err_from_is_err_and}
+use Rattle.board_text.specs.PlainBoard.{PlainBoard}
+use Rattle.positions.specs.declared.side.Side.{Side}
+use Rattle.positions.specs.declared.value.Value.{Value}
+use Rattle.positions.specs.Value.{HasValue}
 use Rattle.proof_text.specs.ProofText.{class_text}
+use Rattle.strategies.specs.ClassDocument.{CannotBeMade}
+use Rattle.strategies.specs.Sides.{HasStrategy}
+use Rattle.strategies.specs.declared.unmade.Unmade.{Unmade}
+use Rattle.strategies.specs.declared.unmade.Unmade.TheVariants as unmade
+use Rattle.runs.specs.Inside.Faults.{fault_of_making}
+use Rattle.runs.specs.Inside.SolveRun.{IsUnshown}
 use Rattle.runs.specs.declared.checking.TheConstants.{MAX_PROOF_BYTES}
-use Rattle.runs.proofs.SolverFaults.{unshown_made}
+use Rattle.runs.specs.declared.fault.RunFault.{RunFault}
 use Rattle.runs.proofs.class_solving.class_solution.Goals as goal
+
+-- why a document by classes wasn't made
+unshown_made : (side : Option Side) (board : PlainBoard) (fault : Unmade) (told : RunFault)
+    → ((value : Value) → HasValue board board.start value → HasStrategy side value)
+    → told ≡ fault_of_making fault → CannotBeMade side board MAX_PROOF_BYTES fault → IsUnshown side board told
+unshown_made side board unmade.Memory told strategy is made = subst (IsUnshown side board) (sym is) tt
+unshown_made side board unmade.TooLong told strategy is made = subst (IsUnshown side board) (sym is) (strategy, made)
 
 pub returns-in_err-made-clause-fault : goal.returns-in_err-made-clause-fault
 returns-in_err-made-clause-fault g c =

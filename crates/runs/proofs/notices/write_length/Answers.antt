@@ -1,8 +1,7 @@
-use Rattle.std.proofs.Common.{◌++◌, codes}
+use Rattle.std.proofs.Common.{◌++◌, codes, subst, sym}
 use Rattle.std.specs.Fmt.{decimal}
 use Rattle.console.proofs.Cited.{then_more}
 use Rattle.std.proofs.lemmas.List.{append_assoc}
-use Rattle.std.proofs.Common.{subst, sym}
 use Rattle.console.specs.Showing.{IsMore}
 use Rattle.runs.proofs.notices.write_length.Goals as goal
 

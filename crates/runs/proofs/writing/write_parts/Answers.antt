@@ -1,5 +1,4 @@
-use Rattle.std.proofs.Common.{◌+◌, ◌++◌, ℕ, List, Vec, Global, take, drop, ap, sym}
-use Rattle.std.proofs.Common.{◌∙◌, subst}
+use Rattle.std.proofs.Common.{◌+◌, ◌++◌, ℕ, List, Vec, Global, take, drop, ap, sym, ◌∙◌, subst}
 use Rattle.std.specs.List.{flat_map}
 use Rattle.board_text.specs.Streams.{AppendsAll, bytes_of}
 use Rattle.board_text.proofs.Cited.{Appends-trans}

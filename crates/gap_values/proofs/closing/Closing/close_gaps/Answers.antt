@@ -4,15 +4,13 @@ use Rattle.std.proofs.lemmas.Bool.{cases_lt}
 use Rattle.board_text.specs.PlainBoard.{PlainBoard, places}
 use Rattle.classes.specs.Families.{least_places}
 use Rattle.classes.specs.Numbers.{ways, class_with}
-use Rattle.classes.proofs.Cited.{ways-fit}
+use Rattle.classes.proofs.Cited.{ways-fit, next-start, size-of, walk-all, walk-of, walk-within}
 use Rattle.classes.specs.FamilyWalks.{IsAtFamily}
 use Rattle.gap_values.specs.Inside.Closing.{IsPartClosed}
 use Rattle.gap_values.specs.Inside.Sets.{ArePassed, AreSets, AreSetsOf, HasRound, IsOfRound}
 use Rattle.gap_values.proofs.ClosingSteps.{passed-join, passed-none, passed-over}
 use Rattle.gap_values.proofs.TableSteps.{tables-one}
 use Rattle.gap_values.proofs.TellingSteps.{round-none, sets-none}
-use Rattle.classes.proofs.Cited.{next-start, size-of, walk-all, walk-of}
-use Rattle.classes.proofs.Cited.{walk-within}
 use Rattle.gap_values.proofs.closing.Closing.close_gaps.Given.{Over}
 use Rattle.gap_values.proofs.closing.Closing.close_gaps.Goals as goal
 use Rattle.gap_values.proofs.closing.Closing.close_gaps.Goals.{After-family_size-size, After-fill, After-index_among-to}

@@ -1,6 +1,5 @@
 use Rattle.std.proofs.Common.{◌≡◌, ◌++◌, ◌==◌, ℕ, List, Bool, true, false, take, drop, get_or, Contains, ap, ◌∙◌, sym}
-use Rattle.std.proofs.Common.{refl}
-use Rattle.std.proofs.Common.{inl, inr, subst, arith}
+use Rattle.std.proofs.Common.{refl, inl, inr, subst, arith}
 use Rattle.std.specs.List.{list_any}
 use Rattle.board_text.specs.PlainBoard.{IsConfiguration}
 use Rattle.board_text.proofs.Cited.{labels_and_places}

@@ -5,8 +5,7 @@ use Rattle.std.proofs.lemmas.Result.{err_from_is_err_and}
 use Rattle.graphs.specs.Numbered.{Numbered, graph_of}
 use Rattle.solver.specs.Words.{value_of_word}
 use Rattle.retro_core.specs.Round.{PlainSeat, round_of, seat_struck}
-use Rattle.retro_core.proofs.Machine.{some-of, due-read, IsStriking, striking, closing}
-use Rattle.retro_core.proofs.Machine.{count-then, count-else}
+use Rattle.retro_core.proofs.Machine.{some-of, due-read, IsStriking, striking, closing, count-then, count-else}
 use Rattle.retro_core.proofs.round_state.RoundState.strike.Given.{Over}
 use Rattle.retro_core.proofs.round_state.RoundState.strike.Goals.{After-strike, then-count-eq1, else-count-eq1}
 use Rattle.retro_core.proofs.round_state.RoundState.strike.Goals as goal

@@ -5,7 +5,6 @@ use Rattle.board_text.specs.PlainBoard.{PlainBoard}
 use Rattle.positions.specs.Laws.{Occurs}
 use Rattle.solver.proofs.RankValues.{none-occurs, some-occurs}
 use Rattle.solver.proofs.values.Values.greatest_finite.Goals as goal
-use Rattle.solver.proofs.values.Values.greatest_finite.Goals.{Else-index-gt0, Then-index-gt0}
 
 pub loop-value-init : goal.loop-value-init
 loop-value-init c = λ other high occurs.

@@ -1,6 +1,5 @@
-use Rattle.std.proofs.Common.{subst}
+use Rattle.std.proofs.Common.{subst, sym}
 use Rattle.board_text.specs.PlainBoard.{PlainBoard, IsConfiguration}
-use Rattle.std.proofs.Common.{sym}
 use Rattle.strategies.specs.Best.{IsBestRequestIfAny}
 use Rattle.strategies.proofs.LoweringRequests.{first_below_best}
 use Rattle.strategies.proofs.gap_moves.GapMoves.request.Goals as goal

@@ -7,8 +7,7 @@ use Rattle.strategies.proofs.LeastValues.{IsLeastBelow, least-value}
 use Rattle.strategies.proofs.MadeRows.{all_taken}
 use Rattle.strategies.proofs.SiblingRanks.{gap-below}
 use Rattle.strategies.proofs.walk.Walk.best_moves.Goals as goal
-use Rattle.strategies.proofs.walk.Walk.best_moves.Goals.{After-best_of_gap-answer, then-requests-least}
-use Rattle.strategies.proofs.walk.Walk.best_moves.Goals.{else-requests-least}
+use Rattle.strategies.proofs.walk.Walk.best_moves.Goals.{then-requests-least, else-requests-least}
 
 pub best_of_gap-answer-requires : goal.best_of_gap-answer-requires
 best_of_gap-answer-requires c =
