@@ -11,7 +11,6 @@ use board_text::{BoardFault, BoardKind, Memory, ReadFault};
 use chains::ChainFault;
 use orbits::OrbitFault;
 use player::PlayFault;
-use positions::TooLarge;
 use proof_check::MapFault;
 use proof_text::{ProofFault, ProofKind};
 use solver::SolveFault;
@@ -23,7 +22,8 @@ use strategies::Unmade;
 pub enum RunFault {
     /// The text of the board has a fault.
     Board(BoardFault),
-    /// The board has more than `MAX_CONFIGURATIONS` configurations.
+    /// The board is beyond the limit of the run: it has more than `MAX_CONFIGURATIONS`
+    /// configurations, or more than `MAX_GAPS` gaps in a run of large boards.
     TooLarge,
     /// The document by classes of the board has more than `MAX_PROOF_BYTES` bytes.
     DocumentTooLarge,
@@ -109,14 +109,6 @@ impl From<ProofFault> for RunFault {
         } else {
             RunFault::Proof(fault)
         }
-    }
-}
-
-impl From<TooLarge> for RunFault {
-    ghost from_gives = { λ _ told. told ≡ faults.TooLarge };
-
-    fn from(_fault: TooLarge) -> RunFault {
-        RunFault::TooLarge
     }
 }
 
